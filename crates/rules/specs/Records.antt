@@ -1,0 +1,94 @@
+-- 01, "Operations": how a record begins, is replaced, moves and is destroyed.
+-- Assumes nothing.
+use Prim.Native.Nat.{ℕ, _-_, _/_}
+use mathlib.Core.List.{List, _++_}
+use lib.ListN.{take, replicate}
+use lib.Dec.{eqb}
+use Rattle.octets.specs.If.{ifb}
+use Rattle.table.specs.declared.Record.{Record}
+use Rattle.table.specs.Layout.{materialSize}
+use Rattle.rules.specs.declared.Attributes.{Attributes}
+use Rattle.rules.specs.Numbers.{destroy, preActive}
+
+-- "the first length/8 of them": what is kept of a part of the fresh strip, zero past the length
+unfoldable pub materialFrom : ℕ → List ℕ → List ℕ
+materialFrom bits fresh = take (bits / 8) fresh ++ replicate (materialSize - bits / 8) 0
+
+-- "Starts Pre-Active, count = total, both link serials 0"
+unfoldable pub newRecord : ℕ → Attributes → List ℕ → Record
+newRecord serial wanted fresh = record {
+  serial = serial;
+  state = preActive;
+  unit = wanted .unit;
+  bits = wanted .bits;
+  replaced = 0;
+  replacement = 0;
+  total = wanted .total;
+  count = wanted .total;
+  mask = wanted .mask;
+  material = materialFrom (wanted .bits) fresh;
+}
+
+-- "with attributes copied, new material, count = total, state Pre-Active": the replacement of `old`, which it names
+unfoldable pub heirOf : ℕ → Record → List ℕ → Record
+heirOf serial old fresh = record {
+  serial = serial;
+  state = preActive;
+  unit = old .unit;
+  bits = old .bits;
+  replaced = old .serial;
+  replacement = 0;
+  total = old .total;
+  count = old .total;
+  mask = old .mask;
+  material = materialFrom (old .bits) fresh;
+}
+
+-- "linked both ways": the old record names its replacement
+unfoldable pub linkedTo : ℕ → Record → Record
+linkedTo serial r = record {
+  serial = r .serial;
+  state = r .state;
+  unit = r .unit;
+  bits = r .bits;
+  replaced = r .replaced;
+  replacement = serial;
+  total = r .total;
+  count = r .count;
+  mask = r .mask;
+  material = r .material;
+}
+
+-- the record with a state and material
+unfoldable pub inState : ℕ → List ℕ → Record → Record
+inState state material r = record {
+  serial = r .serial;
+  state = state;
+  unit = r .unit;
+  bits = r .bits;
+  replaced = r .replaced;
+  replacement = r .replacement;
+  total = r .total;
+  count = r .count;
+  mask = r .mask;
+  material = material;
+}
+
+-- "all 32 material bytes zeroed, total and count kept" for Destroy; the others keep the material
+unfoldable pub movedTo : ℕ → ℕ → Record → Record
+movedTo operation state r = inState state (ifb (eqb operation destroy) (replicate materialSize 0) (r .material)) r
+
+-- the record with a count
+unfoldable pub withCount : ℕ → Record → Record
+withCount count r = record {
+  serial = r .serial;
+  state = r .state;
+  unit = r .unit;
+  bits = r .bits;
+  replaced = r .replaced;
+  replacement = r .replacement;
+  total = r .total;
+  count = count;
+  mask = r .mask;
+  material = r .material;
+}

@@ -1,0 +1,21 @@
+-- Ordered tests: something fails with the reason of the first condition that holds, and succeeds if none does.
+-- Assumes nothing.
+use mathlib.Core.Bool.{Bool, true, false}
+use mathlib.Core.Option.{Option, none, some}
+use mathlib.Core.List.{List, [], _∷_}
+use Rattle.octets.specs.If.{ifb}
+use Rattle.rules.specs.declared.Reason.{Reason}
+
+-- a condition, and the reason that is due where it holds
+pub record Test : Type 0 where
+  pub holds : Bool
+  pub reason : Reason
+
+infix 80 _⇒_
+abbrev pub _⇒_ : Bool → Reason → Test
+b ⇒ r = record { holds = b; reason = r }
+
+-- the reason that is due, if any
+unfoldable pub due : List Test → Option Reason
+due [] = none
+due (test ∷ tests) = let later = due tests in ifb (test .holds) (some (test .reason)) later

@@ -1,0 +1,82 @@
+-- 01, "The stored table": what a place holds, a record stored, the lead, the blank table. Numbers are big-endian.
+-- Assumes nothing.
+use Prim.Native.Nat.{ℕ, _+_, _-_, _*_}
+use mathlib.Core.Bool.{Bool}
+use mathlib.Core.List.{List, [], _∷_, _++_}
+use lib.ListN.{replicate}
+use lib.Seq.{sets}
+use lib.Dec.{eqb}
+use Rattle.octets.specs.Octets.{be, fromBe, part}
+use Rattle.table.specs.declared.Record.{Record}
+use Rattle.table.specs.Layout.{lineSize, bodySize, lineOf, bodyOf, sizeOf, materialSize}
+
+-- "serial (4, zero means free), state (1), unit (1), length in bits (2), replaced serial (4), replacement serial (4)"
+unfoldable pub line : ℕ → ℕ → ℕ → ℕ → ℕ → ℕ → List ℕ
+line serial state unit bits replaced replacement = be 4 serial ++ (be 1 state ++ (be 1 unit ++ (be 2 bits ++ (be 4 replaced ++ be 4 replacement))))
+
+-- "total (8), count (8), usage mask (4), zeros (4), material (32)"
+unfoldable pub body : ℕ → ℕ → ℕ → List ℕ → List ℕ
+body total count mask material = be 8 total ++ (be 8 count ++ (be 4 mask ++ (be 4 0 ++ material)))
+
+abbrev pub lineBytes : Record → List ℕ
+lineBytes r = line (r .serial) (r .state) (r .unit) (r .bits) (r .replaced) (r .replacement)
+
+abbrev pub bodyBytes : Record → List ℕ
+bodyBytes r = body (r .total) (r .count) (r .mask) (r .material)
+
+-- what a line and a body say
+unfoldable pub recordOf : List ℕ → List ℕ → Record
+recordOf l b = record {
+  serial = fromBe (part l 0 4);
+  state = fromBe (part l 4 1);
+  unit = fromBe (part l 5 1);
+  bits = fromBe (part l 6 2);
+  replaced = fromBe (part l 8 4);
+  replacement = fromBe (part l 12 4);
+  total = fromBe (part b 0 8);
+  count = fromBe (part b 8 8);
+  mask = fromBe (part b 16 4);
+  material = part b 24 materialSize;
+}
+
+-- where the four zeros stand in a body
+abbrev pub zerosIn : ℕ
+zerosIn = 20
+
+-- the record at place i of a table of n places
+unfoldable pub placeAt : ℕ → List ℕ → ℕ → Record
+placeAt n t i = recordOf (part t (lineOf i) lineSize) (part t (bodyOf n i) bodySize)
+
+-- the table with r stored at place i
+unfoldable pub withPlace : ℕ → List ℕ → ℕ → Record → List ℕ
+withPlace n t i r = sets (sets t (lineOf i) (lineBytes r)) (bodyOf n i) (bodyBytes r)
+
+-- the serial of place i, read by itself
+unfoldable pub serialAt : List ℕ → ℕ → ℕ
+serialAt t i = fromBe (part t (lineOf i) 4)
+
+-- the state of place i, read by itself
+unfoldable pub stateAt : List ℕ → ℕ → ℕ
+stateAt t i = fromBe (part t (lineOf i + 4) 1)
+
+-- "serial .. zero means free"
+abbrev pub isFree : List ℕ → ℕ → Bool
+isFree t i = eqb (serialAt t i) 0
+
+-- ---- the lead: "last serial issued (4), place count 64 (4), zeros (8)"
+
+unfoldable pub lastSerial : List ℕ → ℕ
+lastSerial t = fromBe (part t 0 4)
+
+unfoldable pub withLast : List ℕ → ℕ → List ℕ
+withLast t serial = sets t 0 (be 4 serial)
+
+unfoldable pub placesSaid : List ℕ → ℕ
+placesSaid t = fromBe (part t 4 4)
+
+abbrev pub leadZeros : List ℕ → List ℕ
+leadZeros t = part t 8 8
+
+-- "A blank table is .. all zero but the place count"
+unfoldable pub blank : ℕ → List ℕ
+blank n = be 4 0 ++ (be 4 n ++ replicate (sizeOf n - 8) 0)

@@ -1,0 +1,187 @@
+-- 01, "Sound": an ordered, numbered list of rules, each of the whole table or at a place. A table is sound if none breaks.
+-- Assumes nothing. Place rules are looked at where the whole-table rules hold; a free place answers to the free-place rule alone.
+use Prim.Native.Nat.{ℕ, zero, suc, _+_, _/_}
+use mathlib.Core.Bool.{Bool, true, false, not, _&&_, _||_}
+use mathlib.Core.Option.{Option, none, some}
+use mathlib.Core.List.{List, [], _∷_}
+use lib.ListN.{length, drop}
+use lib.Dec.{leb, ltb, eqb}
+use Rattle.octets.specs.If.{ifb}
+use Rattle.octets.specs.Maybe.{isSome}
+use Rattle.octets.specs.Octets.{part, allZero}
+use Rattle.table.specs.declared.Record.{Record}
+use Rattle.table.specs.declared.Found.{Found}
+use Rattle.table.specs.declared.Found.the-variants.{At, Nothing}
+use Rattle.table.specs.Layout.{lineSize, bodySize, lineOf, bodyOf, sizeOf}
+use Rattle.table.specs.Records.{placeAt, serialAt, isFree, zerosIn, lastSerial, placesSaid, leadZeros}
+use Rattle.table.specs.Search.{first, isNothing, find, isDestroyed}
+
+-- ---- the values that a sound table allows; Create allows the same
+
+-- "length 128, 192 or 256"
+abbrev pub bitsOk : ℕ → Bool
+bitsOk bits = eqb bits 128 || eqb bits 192 || eqb bits 256
+
+-- "mask at most 00FFFFFF hex"
+abbrev pub maskOk : ℕ → Bool
+maskOk mask = leb mask 0x00FFFFFF
+
+-- "unit 1 or 2"
+abbrev pub unitOk : ℕ → Bool
+unitOk unit = eqb unit 1 || eqb unit 2
+
+-- "total 1 to 1,000,000,000,000"
+abbrev pub totalOk : ℕ → Bool
+totalOk total = leb 1 total && leb total 1_000_000_000_000
+
+-- ---- rules of the whole table
+
+-- "size .. right"
+unfoldable pub sizeRight : ℕ → List ℕ → Bool
+sizeRight n t = eqb (length t) (sizeOf n)
+
+-- "place count"
+unfoldable pub countRight : ℕ → List ℕ → Bool
+countRight n t = eqb (placesSaid t) n
+
+-- "zeros (8)"
+unfoldable pub leadRight : ℕ → List ℕ → Bool
+leadRight n t = allZero (leadZeros t)
+
+-- ---- rules at a place
+
+-- "a free place zero in line and body"
+unfoldable pub freeRight : ℕ → List ℕ → ℕ → Bool
+freeRight n t i = allZero (part t (lineOf i) lineSize) && allZero (part t (bodyOf n i) bodySize)
+
+-- "in every other body the zeros field zero"
+unfoldable pub zerosRight : ℕ → List ℕ → ℕ → Bool
+zerosRight n t i = allZero (part t (bodyOf n i + zerosIn) 4)
+
+-- another place has the serial of place i
+abbrev pub isTwin : List ℕ → ℕ → ℕ → Bool
+isTwin t i j = not (eqb j i) && eqb (serialAt t j) (serialAt t i)
+
+-- "serials distinct"
+unfoldable pub distinctRight : ℕ → List ℕ → ℕ → Bool
+distinctRight n t i = isNothing (first n (isTwin t i))
+
+-- "and at most the last issued"
+unfoldable pub issuedRight : ℕ → List ℕ → ℕ → Bool
+issuedRight n t i = leb (serialAt t i) (lastSerial t)
+
+-- "state 1 to 6"
+unfoldable pub stateRight : Record → Bool
+stateRight r = leb 1 (r .state) && leb (r .state) 6
+
+unfoldable pub bitsRight : Record → Bool
+bitsRight r = bitsOk (r .bits)
+
+unfoldable pub maskRight : Record → Bool
+maskRight r = maskOk (r .mask)
+
+-- "unit 0 with total and count zero, or unit 1 or 2 with total 1 to 1,000,000,000,000 and count at most total"
+unfoldable pub limitRight : Record → Bool
+limitRight r =
+    ifb (eqb (r .unit) 0) (eqb (r .total) 0 && eqb (r .count) 0)
+    (unitOk (r .unit) && totalOk (r .total) && leb (r .count) (r .total))
+
+-- "material zero past its length"
+unfoldable pub tailRight : Record → Bool
+tailRight r = allZero (drop (r .bits / 8) (r .material))
+
+-- "and wholly zero in states 5 and 6"
+unfoldable pub wipedRight : Record → Bool
+wipedRight r = ifb (isDestroyed (r .state)) (allZero (r .material)) true
+
+-- "A replaced serial is 0 or below its own"
+unfoldable pub replacedRight : Record → Bool
+replacedRight r = eqb (r .replaced) 0 || ltb (r .replaced) (r .serial)
+
+-- "a replacement serial is 0 or above its own and at most the last issued"
+unfoldable pub replacementRight : ℕ → Record → Bool
+replacementRight last r = eqb (r .replacement) 0 || (ltb (r .serial) (r .replacement) && leb (r .replacement) last)
+
+-- what a record that stands has to pass; where none stands there is nothing to pass
+unfoldable pub ifStands : (ℕ → Bool) → Found → Bool
+ifStands test (At j) = test j
+ifStands test Nothing = true
+
+-- the record at place j names this serial as its replacement
+abbrev pub namesReplacement : ℕ → List ℕ → ℕ → ℕ → Bool
+namesReplacement n t serial j = eqb (placeAt n t j .replacement) serial
+
+-- the record at place j names this serial as the one it replaced
+abbrev pub namesReplaced : ℕ → List ℕ → ℕ → ℕ → Bool
+namesReplaced n t serial j = eqb (placeAt n t j .replaced) serial
+
+-- "Where both ends of a link stand, each names the other"
+unfoldable pub linksRight : ℕ → List ℕ → Record → Bool
+linksRight n t r =
+    ifStands (namesReplacement n t (r .serial)) (find n t (r .replaced))
+    && ifStands (namesReplaced n t (r .serial)) (find n t (r .replacement))
+
+-- ---- the list
+
+-- rules 1 to 3
+abbrev pub wholeRules : List (ℕ → List ℕ → Bool)
+wholeRules = sizeRight ∷ countRight ∷ leadRight ∷ []
+
+-- rule 4 is of the free places, 5 to 16 are of the others
+abbrev pub standingRules : List (ℕ → List ℕ → ℕ → Bool)
+standingRules =
+    zerosRight
+    ∷ distinctRight
+    ∷ issuedRight
+    ∷ (λ n t i. stateRight (placeAt n t i))
+    ∷ (λ n t i. bitsRight (placeAt n t i))
+    ∷ (λ n t i. maskRight (placeAt n t i))
+    ∷ (λ n t i. limitRight (placeAt n t i))
+    ∷ (λ n t i. tailRight (placeAt n t i))
+    ∷ (λ n t i. wipedRight (placeAt n t i))
+    ∷ (λ n t i. replacedRight (placeAt n t i))
+    ∷ (λ n t i. replacementRight (lastSerial t) (placeAt n t i))
+    ∷ (λ n t i. linksRight n t (placeAt n t i))
+    ∷ []
+
+-- a place that is free and breaks the free-place rule
+unfoldable pub breaksFree : ℕ → List ℕ → ℕ → Bool
+breaksFree n t i = let right = freeRight n t i in isFree t i && not right
+
+-- a place that is not free and breaks a rule
+unfoldable pub breaksStanding : (ℕ → List ℕ → ℕ → Bool) → ℕ → List ℕ → ℕ → Bool
+breaksStanding rule n t i = let right = rule n t i in not (isFree t i) && not right
+
+-- ---- the first broken rule
+
+-- a rule of the whole table that is broken, by its number; or a rule and the lowest place that breaks it
+pub data Fault : Type 0 where
+  whole : ℕ → Fault
+  atPlace : ℕ → ℕ → Fault
+
+-- rule k, if some place breaks it; else what the later rules say
+unfoldable pub orLater : ℕ → Option Fault → Found → Option Fault
+orLater k later (At i) = some (atPlace k i)
+orLater k later Nothing = later
+
+-- the first of these rules, numbered from k on, that a standing place breaks
+unfoldable pub standingFault : ℕ → List (ℕ → List ℕ → ℕ → Bool) → ℕ → List ℕ → Option Fault
+standingFault k [] n t = none
+standingFault k (rule ∷ rules) n t = orLater k (standingFault (suc k) rules n t) (first n (breaksStanding rule n t))
+
+-- the same, with the free-place rule in front
+unfoldable pub placeFault : ℕ → ℕ → List ℕ → Option Fault
+placeFault k n t = orLater k (standingFault (suc k) standingRules n t) (first n (breaksFree n t))
+
+-- the first of these whole-table rules, numbered from k on, that is broken; then the place rules
+unfoldable pub wholeFault : ℕ → List (ℕ → List ℕ → Bool) → ℕ → List ℕ → Option Fault
+wholeFault k [] n t = placeFault k n t
+wholeFault k (rule ∷ rules) n t = let later = wholeFault (suc k) rules n t in ifb (rule n t) later (some (whole k))
+
+-- the first broken rule of a table of n places, and the lowest place that breaks it
+unfoldable pub firstFault : ℕ → List ℕ → Option Fault
+firstFault n t = wholeFault 1 wholeRules n t
+
+-- a table of n places with no broken rule
+unfoldable pub sound : ℕ → List ℕ → Bool
+sound n t = not (isSome (firstFault n t))
