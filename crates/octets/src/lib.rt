@@ -1,2 +1,77 @@
-// Numbers in bytes, the highest byte first: the layer under everything else.
-// Assumes nothing.
+// Numbers and runs of bytes in lent bytes, the highest byte first: the layer under everything else.
+// It knows nothing of TTLV, tables or keys. Where a function asks for room, every caller shows it.
+ghost use mathlib.Core.Path.{_≡_};
+ghost use Prim.Native.Nat.{ℕ, _+_, _^_, _≤_, _<_, min};
+ghost use lib.ListN.{length, take};
+ghost use lib.Seq.{sets};
+ghost use Rattle.octets.specs.Octets.{be, fromBe, all, isZero};
+
+fn wide(x: u8) -> u64
+    ensures { λ r. ⌜ (r ≡ x) × (r < 256) ⌝ }
+{
+    x as u64
+}
+
+// The lower of two numbers.
+pub fn fewer(a: usize, b: usize) -> usize
+    ensures { λ r. ⌜ r ≡ min a b ⌝ }
+{
+    if a <= b {
+        return a;
+    }
+    b
+}
+
+// The number that the first eight bytes of s spell, or all of them where there are fewer: one function for every width.
+pub fn number(s: &[u8]) -> u64
+    ensures { λ r. ⌜ (r ≡ fromBe (take 8 (now (s .entry)))) × (r < 256 ^ length (take 8 (now (s .entry)))) ⌝ }
+{
+    let end = fewer(8, s.len());
+    let mut n: u64 = 0;
+    let mut i: usize = 0;
+    while i < end {
+        n = n * 256 + wide(s[i]);
+        i += 1;
+    }
+    n
+}
+
+// Writes v as `width` bytes from `at` on: one function for every width.
+pub fn put(t: &mut [u8], at: usize, width: usize, v: u64)
+    requires { ⌜ at + width ≤ length (now t) ⌝ }
+    ensures { λ _. ⌜ now (t .exit) ≡ sets (now (t .entry)) at (be width v) ⌝ }
+{
+    let mut rest = v;
+    let mut k: usize = width;
+    while 0 < k {
+        k -= 1;
+        t[at + k] = (rest % 256) as u8;
+        rest = rest / 256;
+    }
+}
+
+// Writes the bytes of s from `at` on.
+pub fn put_all(t: &mut [u8], at: usize, s: &[u8])
+    requires { ⌜ at + length (now s) ≤ length (now t) ⌝ }
+    ensures { λ _. ⌜ now (t .exit) ≡ sets (now (t .entry)) at (now (s .entry)) ⌝ }
+{
+    let mut k: usize = 0;
+    while k < s.len() {
+        t[at + k] = s[k];
+        k += 1;
+    }
+}
+
+// Whether s holds nothing but zeros.
+pub fn all_zero(s: &[u8]) -> bool
+    ensures { λ r. ⌜ r ≡ all isZero (now (s .entry)) ⌝ }
+{
+    let mut k: usize = 0;
+    while k < s.len() {
+        if s[k] != 0 {
+            return false;
+        }
+        k += 1;
+    }
+    true
+}

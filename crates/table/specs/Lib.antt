@@ -1,6 +1,5 @@
--- The stored table: layout, records, searches, soundness.
+-- The stored table: layout, records, searches.
 -- Assumes nothing.
 pub mod Layout
 pub mod Records
 pub mod Search
-pub mod Sound

@@ -1,0 +1,7 @@
+-- The laws that every layer shares.
+-- Assumes nothing.
+pub mod If
+pub mod Numbers
+pub mod Stores
+pub mod Over
+pub mod All

@@ -1,0 +1,79 @@
+-- `octets::number`. The bytes read so far spell the number so far.
+-- Assumes nothing.
+use Prim.Native.Nat.{ℕ, _≤_, _<_, _-_, _^_}
+use mathlib.Core.Path.{_≡_, refl, sym, ap, _∙_}
+use native.Mathlib.Omega.{arith}
+use borrow.Author.Needs.{needs}
+use lib.ListN.{length, take, length-take}
+use Rattle.octets.proofs.Stores.{take-there}
+use Rattle.octets.specs.Octets.{fromBe, fromBeAfter}
+use Rattle.octets.proofs.Numbers.{fromBe-more, more-lt, more-fits}
+use Rattle.octets.proofs.number.Statement.{statement}
+use Rattle.octets.proofs.number.Tie as tie
+use Rattle.octets.proofs.number.Reads as reads
+use Rattle.octets.proofs.number.Lts as lts
+use Rattle.octets.proofs.fewer.Reads as fewer-reads
+use Rattle.octets.proofs.wide.Reads as wide-reads
+
+abbrev Inv-loop : tie.InvT-loop
+Inv-loop s end n₀ i₀ n i = (i ≤ end) × ((n < 256 ^ i) × (n ≡ fromBe (take i s)))
+
+abbrev μ-loop : tie.MeasureT-loop
+μ-loop s end n₀ i₀ n i = end - i
+
+fewer-requires : tie.Need-fewer-requires Inv-loop μ-loop
+fewer-requires c κs = search needs
+
+loop-holds : tie.Need-loop-holds Inv-loop μ-loop
+unfolding fromBe fromBeAfter
+loop-holds c = (omega arith, (omega arith, refl))
+
+mul-n : tie.Need-mul-n Inv-loop μ-loop
+mul-n c = omega (arith, more-fits (c .before .loop .n) (c .before .loop .i) (c .before .loop .inv .1 .0) (omega arith))
+
+shared-slice-read-wide : tie.Need-shared-slice-read-wide Inv-loop μ-loop
+shared-slice-read-wide c = search needs
+
+wide-requires : tie.Need-wide-requires Inv-loop μ-loop
+wide-requires c κs = search needs
+
+add-n : tie.Need-add-n Inv-loop μ-loop
+add-n c = omega (arith, more-fits (c .before .before .before .loop .n) (c .before .before .before .loop .i) (c .before .before .before .loop .inv .1 .0) (omega arith))
+
+add-i : tie.Need-add-i Inv-loop μ-loop
+add-i c = search needs
+
+loop-less : tie.Need-loop-less Inv-loop μ-loop
+loop-less c = search needs
+
+loop-again : tie.Need-loop-again Inv-loop μ-loop
+loop-again c =
+    let l = c .before .before .before .loop in
+    let s = c .before .before .before .before .before .before .args .s .now in
+    let b : c .wide .result < 256 = c .wide .ensures .1 in
+    let h : l .i < length s = omega arith in
+    (omega arith, (more-lt (l .n) (l .i) (c .wide .result) (l .inv .1 .0) b, cc (fromBe-more s (l .i) h)))
+
+returns : tie.Need-returns Inv-loop μ-loop
+returns c =
+    let l = c .before .loop in
+    let s = c .before .before .before .before .args .s .now in
+    let e : l .i ≡ length (take 8 s) = rw length-take (omega arith) in
+    (l .inv .1 .1 ∙ ap fromBe (ap (λ (k : ℕ). take k s) e ∙ take-there 8 s), rw e at (l .inv .1 .0))
+
+pub number-spec : {M : Type 1} → statement M
+number-spec =
+    tie.close
+    (tie.spec
+    Inv-loop
+    μ-loop
+    fewer-requires
+    loop-holds
+    mul-n
+    shared-slice-read-wide
+    wide-requires
+    add-n
+    add-i
+    loop-less
+    loop-again
+    returns)

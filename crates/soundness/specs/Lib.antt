@@ -1,0 +1,3 @@
+-- What makes a stored table sound.
+-- Assumes nothing.
+pub mod Sound
