@@ -3,3 +3,4 @@
 pub mod If
 pub mod Maybe
 pub mod Octets
+pub mod Hex

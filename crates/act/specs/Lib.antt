@@ -1,0 +1,3 @@
+-- One batch item carried out.
+-- Assumes nothing.
+pub mod Act

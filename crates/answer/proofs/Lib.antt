@@ -1,0 +1,3 @@
+-- Worked cases of responses.
+-- Assumes nothing.
+pub mod Worked

@@ -1,0 +1,65 @@
+-- Worked responses, computed: written to the papers' bytes, and read back.
+-- Assumes nothing. The bytes were worked out from the papers.
+use mathlib.Core.Path.{_≡_, refl}
+use Prim.Native.Nat.{ℕ}
+use mathlib.Core.Option.{Option, none, some}
+use mathlib.Core.List.{List, [], _∷_}
+use lib.ListN.{length}
+use Rattle.octets.specs.Hex.{hex}
+use Rattle.rules.specs.declared.Reason.the-variants.{OperationNotSupported}
+use Rattle.act.specs.declared.Outcome.the-variants.{Failed, Done, Showed}
+use Rattle.answer.specs.Respond.{Answer, Response}
+use Rattle.octets.specs.If.{ifb}
+use Rattle.octets.specs.Maybe.{_>>=_, _>>_, isSome}
+use Rattle.octets.specs.Octets.{be, fromBeAfter, fromBe, all, same}
+use Rattle.ttlv.specs.Types.{lengthOk, text, valueOk}
+use Rattle.ttlv.specs.Items.{encode, itemOk, wellFormed}
+use Rattle.ttlv.specs.Parse.{headed, firstOf, putValue, putGroup, more, walk, parse, isOne, message}
+use Rattle.ttlv.specs.Fields.{startsWith, ended, bytesOf, bodyOf, numberOf, optional}
+use Rattle.identifier.specs.Identifier.{digits, identifier, fromDigitsAfter, serialOf}
+use Rattle.rules.specs.Numbers.{reasonNumber}
+use Rattle.frame.specs.Frame.{versionIn, headerIn, idOk, idBytes, itemIn, itemsIn, frameIn, optionOf, framing, framed}
+use Rattle.answer.specs.Respond.{limitItems, linkItems, attributeItems, outcomeItems, idItems, answerItems, batchItems, versionItems, headerItems, respond}
+use Rattle.answer.specs.Read.{spelled, fixed, serialIn, limitsFirst, orNoLimits, linkFirst, orNoLink, linkIn, shownIn, createdIn, doneIn, showedIn, payloadIn, reasonAmong, failureIn, successIn, outcomeIn, answerIn, answersOf, headIn, shownOk, outcomeOk, answerOk, allowed, ifAllowed, answersIn}
+
+-- 01's card: "Activate of the Pre-Active "00000001", alone, no Unique Batch Item ID, clock 0, whole response of 152 bytes"
+abbrev activated : Response
+activated = record { clock = 0; answers = record { operation = 0x12; id = []; outcome = Done 1 } ∷ [] }
+
+-- the definitions that the cases compute with: who opens this opens them all
+opened : Unit {0}
+unfolding ifb _>>=_ _>>_ isSome be fromBeAfter fromBe all same lengthOk text valueOk encode itemOk wellFormed headed firstOf putValue putGroup more walk parse isOne message startsWith ended bytesOf bodyOf numberOf optional digits identifier fromDigitsAfter serialOf reasonNumber versionIn headerIn idOk idBytes itemIn itemsIn frameIn optionOf framing framed limitItems linkItems attributeItems outcomeItems idItems answerItems batchItems versionItems headerItems respond spelled fixed serialIn limitsFirst orNoLimits linkFirst orNoLink linkIn shownIn createdIn doneIn showedIn payloadIn reasonAmong failureIn successIn outcomeIn answerIn answersOf headIn shownOk outcomeOk answerOk allowed ifAllowed answersIn
+opened = tt
+
+activated-written : encode (respond activated) ≡ hex "42007B01 00000090 42007A01 00000048 42006901 00000020 42006A02 00000004 00000002 00000000 42006B02 00000004 00000001 00000000 42009209 00000008 00000000 00000000 42000D02 00000004 00000001 00000000 42000F01 00000038 42005C05 00000004 00000012 00000000 42007F05 00000004 00000000 00000000 42007C01 00000010 42009407 00000008 30303030 30303031"
+unfolding opened
+activated-written = refl
+
+activated-read : answersIn (respond activated) ≡ some activated
+unfolding opened
+activated-read = refl
+
+-- the longest answer: a usage limit, both links, an ID of 16 bytes
+abbrev longest : Answer
+longest = record {
+  operation = 0x0B;
+  id = hex "000102030405060708090A0B0C0D0E0F";
+  outcome = Showed (record { serial = 2; bits = 256; mask = 4; state = 2; unit = 1; total = 100; count = 40; replaced = 1; replacement = 3 });
+}
+
+-- with clock -1, and a failure of an operation that there is not
+abbrev mixed : Response
+mixed = record { clock = 0xFFFFFFFFFFFFFFFF; answers = longest ∷ record { operation = 0x99; id = 1 ∷ []; outcome = Failed OperationNotSupported } ∷ [] }
+
+mixed-written : encode (respond mixed) ≡ hex "42007B01 000001C0 42007A01 00000048 42006901 00000020 42006A02 00000004 00000002 00000000 42006B02 00000004 00000001 00000000 42009209 00000008 FFFFFFFF FFFFFFFF 42000D02 00000004 00000002 00000000 42000F01 00000120 42005C05 00000004 0000000B 00000000 42009308 00000010 00010203 04050607 08090A0B 0C0D0E0F 42007F05 00000004 00000000 00000000 42007C01 000000E0 42009407 00000008 30303030 30303032 42012501 000000C8 42002805 00000004 00000003 00000000 42002A02 00000004 00000100 00000000 42002C02 00000004 00000004 00000000 42008D05 00000004 00000002 00000000 42009501 00000030 42009703 00000008 00000000 00000064 42009603 00000008 00000000 00000028 42009805 00000004 00000001 00000000 42004A01 00000020 42004B05 00000004 00000107 00000000 42004C07 00000008 30303030 30303031 42004A01 00000020 42004B05 00000004 00000106 00000000 42004C07 00000008 30303030 30303033 42000F01 00000040 42005C05 00000004 00000099 00000000 42009308 00000001 01000000 00000000 42007F05 00000004 00000001 00000000 42007E05 00000004 00000005 00000000"
+unfolding opened
+mixed-written = refl
+
+mixed-read : answersIn (respond mixed) ≡ some mixed
+unfolding opened
+mixed-read = refl
+
+-- no answer to a Create is an identifier alone
+not-created : answersIn (respond (record { clock = 0; answers = record { operation = 0x01; id = []; outcome = Done 1 } ∷ [] })) ≡ none
+unfolding opened
+not-created = refl

@@ -1,0 +1,121 @@
+-- 01, "Response Message": the answers to a request as items. With `encode` it is the one spelling of a response.
+-- Assumes nothing.
+use Prim.Native.Nat.{ℕ}
+use mathlib.Core.Bool.{Bool, true, false}
+use mathlib.Core.List.{List, [], _∷_}
+use lib.ListN.{length}
+use lib.Dec.{eqb}
+use Rattle.octets.specs.If.{ifb}
+use Rattle.octets.specs.Octets.{be}
+use Rattle.ttlv.specs.Types.{integer, longInteger, enumeration, textString, byteString, dateTime}
+use Rattle.ttlv.specs.Items.{Items, nil, value, group}
+use Rattle.frame.specs.Tags.{batchCount, batchItem, operationTag, protocolVersion, protocolVersionMajor, protocolVersionMinor, uniqueBatchItemId}
+use Rattle.payload.specs.Tags.{attributes, cryptographicAlgorithm, cryptographicLength, cryptographicUsageMask, objectType, uniqueIdentifier, usageLimits, usageLimitsCount, usageLimitsTotal, usageLimitsUnit, symmetricKey, aes}
+use Rattle.answer.specs.Tags.{link, linkType, linkedObjectIdentifier, responseHeader, responseMessage, responsePayload, resultReason, resultStatus, stateTag, timeStamp, replacedObjectLink, replacementObjectLink}
+use Rattle.identifier.specs.Identifier.{identifier}
+use Rattle.rules.specs.declared.Reason.{Reason}
+use Rattle.rules.specs.Numbers.{reasonNumber}
+use Rattle.act.specs.declared.Shown.{Shown}
+use Rattle.act.specs.declared.Outcome.{Outcome}
+use Rattle.act.specs.declared.Outcome.the-variants.{Failed, Created, Done, Showed}
+
+-- ---- what a response says
+
+-- the answer to one item: its operation and its ID as given, and what became of it
+pub record Answer : Type 0 where
+  pub operation : ℕ
+  pub id : List ℕ
+  pub outcome : Outcome
+
+-- the clock's 64 bits and the answers
+pub record Response : Type 0 where
+  pub clock : ℕ
+  pub answers : List Answer
+
+-- ---- fields
+
+-- a field of four bytes, and the rest
+abbrev pub word : ℕ → ℕ → ℕ → Items → Items
+word tag kind n rest = value tag kind (be 4 n) rest
+
+-- a field of eight bytes, and the rest
+abbrev pub long : ℕ → ℕ → ℕ → Items → Items
+long tag kind n rest = value tag kind (be 8 n) rest
+
+-- the identifier of a serial as a Text String, and the rest
+abbrev pub named : ℕ → ℕ → Items → Items
+named tag serial rest = value tag textString (identifier serial) rest
+
+-- ---- payloads
+
+-- "Usage Limits (total, count, unit) if any"
+unfoldable pub limitItems : Shown → Items → Items
+limitItems s rest =
+    ifb (eqb (s .unit) 0) rest
+    (group usageLimits
+    (long usageLimitsTotal longInteger (s .total)
+    (long usageLimitsCount longInteger (s .count)
+    (word usageLimitsUnit enumeration (s .unit) nil)))
+    rest)
+
+-- "Links { Link Type, Linked Object Identifier, Text String }", if there is one
+unfoldable pub linkItems : ℕ → ℕ → Items → Items
+linkItems kind serial rest =
+    ifb (eqb serial 0) rest
+    (group link (word linkType enumeration kind (named linkedObjectIdentifier serial nil)) rest)
+
+-- "Attributes with algorithm, length, mask, State, Usage Limits if any, Links: 107 hex replaced, then 106 hex replacement"
+unfoldable pub attributeItems : Shown → Items
+attributeItems s =
+    word cryptographicAlgorithm enumeration aes
+    (word cryptographicLength integer (s .bits)
+    (word cryptographicUsageMask integer (s .mask)
+    (word stateTag enumeration (s .state)
+    (limitItems s
+    (linkItems replacedObjectLink (s .replaced)
+    (linkItems replacementObjectLink (s .replacement) nil))))))
+
+-- "Result Status is 0 for success, 1 for failed"
+abbrev pub success : ℕ
+success = 0
+
+abbrev pub operationFailed : ℕ
+operationFailed = 1
+
+-- a success: its status and its payload
+abbrev pub succeeded : Items → Items
+succeeded payload = word resultStatus enumeration success (group responsePayload payload nil)
+
+-- "Result Status, Result Reason on failure, Response Payload on success"
+unfoldable pub outcomeItems : Outcome → Items
+outcomeItems (Failed reason) = word resultStatus enumeration operationFailed (word resultReason enumeration (reasonNumber reason) nil)
+outcomeItems (Created serial) = succeeded (word objectType enumeration symmetricKey (named uniqueIdentifier serial nil))
+outcomeItems (Done serial) = succeeded (named uniqueIdentifier serial nil)
+outcomeItems (Showed shown) = succeeded (named uniqueIdentifier (shown .serial) (group attributes (attributeItems shown) nil))
+
+-- ---- the message
+
+-- "the ID if given"
+unfoldable pub idItems : List ℕ → Items → Items
+idItems [] rest = rest
+idItems (x ∷ id) rest = value uniqueBatchItemId byteString (x ∷ id) rest
+
+-- "items { Operation as given, the ID if given, Result Status, .. }"
+unfoldable pub answerItems : Answer → Items
+answerItems a = word operationTag enumeration (a .operation) (idItems (a .id) (outcomeItems (a .outcome)))
+
+unfoldable pub batchItems : List Answer → Items
+batchItems [] = nil
+batchItems (a ∷ answers) = group batchItem (answerItems a) (batchItems answers)
+
+-- "Protocol Version 2.1"
+unfoldable pub versionItems : Items → Items
+versionItems rest = group protocolVersion (word protocolVersionMajor integer 2 (word protocolVersionMinor integer 1 nil)) rest
+
+-- "Response Header { Protocol Version 2.1, Time Stamp = the clock, Batch Count }"; "The count in the response counts items answered"
+unfoldable pub headerItems : ℕ → ℕ → Items
+headerItems clock count = versionItems (long timeStamp dateTime clock (word batchCount integer count nil))
+
+-- the response as items
+unfoldable pub respond : Response → Items
+respond r = group responseMessage (group responseHeader (headerItems (r .clock) (length (r .answers))) (batchItems (r .answers))) nil

@@ -1,0 +1,2 @@
+// Answers as bytes. It touches no table.
+// Assumes nothing.

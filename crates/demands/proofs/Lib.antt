@@ -1,0 +1,3 @@
+-- Theorems over the definitions.
+-- Assumes nothing.
+pub mod Cases

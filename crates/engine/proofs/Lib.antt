@@ -1,0 +1,3 @@
+-- Sizes of a call.
+-- Assumes nothing.
+pub mod Sizes

@@ -1,0 +1,48 @@
+-- 01, "Message frame": a batch carried out item by item, under Continue or Stop.
+-- Assumes nothing. There is no byte of output in it.
+use Prim.Native.Nat.{ℕ, _+_}
+use mathlib.Core.Bool.{Bool, true, false, not, _&&_}
+use mathlib.Core.List.{List, [], _∷_}
+use lib.Dec.{eqb}
+use Rattle.octets.specs.If.{ifb}
+use Rattle.frame.specs.Frame.{Asked, Request, continue}
+use Rattle.act.specs.Act.{Env, Did, step, isFailed}
+use Rattle.answer.specs.Respond.{Answer}
+
+-- the answers in order, and the table behind them
+pub record Ran : Type 0 where
+  pub answers : List Answer
+  pub table : List ℕ
+
+-- "Operation as given, the ID if given", and what became of the item
+abbrev pub answerTo : Asked → Did → Answer
+answerTo asked did = record { operation = asked .operation; id = asked .id; outcome = did .outcome }
+
+-- the same for the next item
+abbrev pub onward : Env → Env
+onward env = record { places = env .places; clock = env .clock; strip = env .strip; index = env .index + 1 }
+
+-- nothing after this item
+abbrev pub lastly : Answer → List ℕ → Ran
+lastly answer t = record { answers = answer ∷ []; table = t }
+
+-- this answer in front of the others
+abbrev pub firstly : Answer → Ran → Ran
+firstly answer ran = record { answers = answer ∷ ran .answers; table = ran .table }
+
+-- "Under Stop nothing after the first failed item is carried out or answered"
+unfoldable pub endsBatch : ℕ → Did → Bool
+endsBatch option did = isFailed (did .outcome) && not (eqb option continue)
+
+-- the items from here on, with the placeholder and the table that they meet
+unfoldable pub batch : Env → ℕ → ℕ → List ℕ → List Asked → Ran
+batch env option holder t [] = record { answers = []; table = t }
+batch env option holder t (asked ∷ later) =
+    let did = step env holder t asked in
+    let rest = batch (onward env) option (did .holder) (did .table) later in
+    ifb (endsBatch option did) (lastly (answerTo asked did) (did .table)) (firstly (answerTo asked did) rest)
+
+-- "It is empty when a request begins": the whole batch
+unfoldable pub running : ℕ → ℕ → List ℕ → List ℕ → Request → Ran
+running places clock strip t request =
+    batch (record { places = places; clock = clock; strip = strip; index = 0 }) (request .option) 0 t (request .items)

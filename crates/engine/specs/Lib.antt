@@ -1,0 +1,4 @@
+-- The whole outcome of a call.
+-- Assumes nothing.
+pub mod Batch
+pub mod Serving

@@ -1,0 +1,84 @@
+-- 01, "Turning a request away", and the whole outcome of a call: number, length, table and output.
+-- Assumes nothing: any request, table, strip, clock and room has an outcome.
+use Prim.Native.Nat.{ℕ, _+_, _*_}
+use mathlib.Core.Bool.{Bool, true, false, not, _||_}
+use mathlib.Core.Option.{Option, none, some}
+use mathlib.Core.List.{List, [], _∷_}
+use lib.ListN.{length}
+use lib.Dec.{ltb, eqb}
+use Rattle.octets.specs.If.{ifb}
+use Rattle.octets.specs.Octets.{over}
+use Rattle.ttlv.specs.Items.{Items, encode}
+use Rattle.ttlv.specs.Parse.{message}
+use Rattle.table.specs.Layout.{placeCount, materialSize}
+use Rattle.soundness.specs.Sound.{sound}
+use Rattle.frame.specs.Frame.{Request, Framed, refused, asked, framed, batchMost}
+use Rattle.answer.specs.Respond.{Response, respond}
+use Rattle.engine.specs.Batch.{Ran, running}
+
+-- ---- sizes
+
+-- the frame around the answers: message, header, version, Time Stamp, Batch Count
+abbrev pub frameSize : ℕ
+frameSize = 88
+
+-- the longest answer: Get Attributes with a usage limit, both links and a 16-byte ID
+abbrev pub longestItem : ℕ
+longestItem = 296
+
+-- "output room below 4,824 bytes"
+abbrev pub roomLeast : ℕ
+roomLeast = frameSize + batchMost * longestItem
+
+-- "fresh strip not 512 bytes": 32 bytes for each of 16 items
+abbrev pub stripSize : ℕ
+stripSize = materialSize * batchMost
+
+-- "request empty or above 4,096 bytes"
+abbrev pub requestMost : ℕ
+requestMost = 4096
+
+-- ---- what a call leaves
+
+pub record Effect : Type 0 where
+  pub number : ℕ
+  pub length : ℕ
+  pub table : List ℕ
+  pub output : List ℕ
+
+-- "Length 0; table and output stay byte for byte"
+abbrev pub turnedAway : List ℕ → List ℕ → ℕ → Effect
+turnedAway t out number = record { number = number; length = 0; table = t; output = out }
+
+-- "TTLV malformed", or what the one item says as a frame
+unfoldable pub requested : Option Items → Framed
+requested none = refused 5
+requested (some t) = framed t
+
+-- the response to a batch
+abbrev pub responseTo : ℕ → Ran → Response
+responseTo clock ran = record { clock = clock; answers = ran .answers }
+
+-- "Number 0 means answered; output past the response stays"
+unfoldable pub answered : ℕ → List ℕ → Ran → Effect
+answered clock out ran = record {
+  number = 0;
+  length = length (encode (respond (responseTo clock ran)));
+  table = ran .table;
+  output = over (encode (respond (responseTo clock ran))) out;
+}
+
+-- refusals 5 to 9, or the batch
+unfoldable pub carryOut : ℕ → List ℕ → List ℕ → List ℕ → Framed → Effect
+carryOut clock t strip out (refused number) = turnedAway t out number
+carryOut clock t strip out (asked request) = answered clock out (running placeCount clock strip t request)
+
+-- "The lowest number that applies is given, and none otherwise"; the clock comes as its 64 bits, and any is taken
+unfoldable pub serving : List ℕ → List ℕ → List ℕ → ℕ → List ℕ → Effect
+serving request t strip clock out =
+    let accepted = carryOut clock t strip out (requested (message request)) in
+    ifb (ltb (length out) roomLeast) (turnedAway t out 1)
+    (ifb (not (eqb (length strip) stripSize)) (turnedAway t out 2)
+    (ifb (not (sound placeCount t)) (turnedAway t out 3)
+    (ifb (eqb (length request) 0 || ltb requestMost (length request)) (turnedAway t out 4)
+    accepted)))

@@ -1,0 +1,3 @@
+-- Worked cases of the frame.
+-- Assumes nothing.
+pub mod Worked

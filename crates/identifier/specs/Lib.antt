@@ -1,0 +1,3 @@
+-- Identifier text.
+-- Assumes nothing.
+pub mod Identifier

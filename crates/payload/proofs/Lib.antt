@@ -1,0 +1,3 @@
+-- Worked cases of payloads.
+-- Assumes nothing.
+pub mod Worked

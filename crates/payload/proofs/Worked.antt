@@ -1,0 +1,72 @@
+-- Worked payloads, computed: each operation's payload reads to its command.
+-- Assumes nothing. The bytes were worked out from the papers.
+use mathlib.Core.Path.{_≡_, refl}
+use Prim.Native.Nat.{ℕ}
+use mathlib.Core.Option.{Option, none, some}
+use mathlib.Core.List.{List, [], _∷_}
+use Rattle.octets.specs.Hex.{hex}
+use Rattle.ttlv.specs.Items.{Items}
+use Rattle.payload.specs.declared.Target.the-variants.{Placeholder, Serial}
+use Rattle.payload.specs.declared.Command.{Command}
+use Rattle.payload.specs.declared.Command.the-variants.{Unsupported, Invalid, Create, Rekey, GetUsageAllocation, Activate, Revoke, Destroy, GetAttributes}
+use Rattle.octets.specs.If.{ifb}
+use Rattle.octets.specs.Maybe.{_>>=_, _>>_, isSome}
+use Rattle.octets.specs.Octets.{be, fromBeAfter, fromBe, all, same}
+use Rattle.ttlv.specs.Types.{lengthOk, text, valueOk}
+use Rattle.ttlv.specs.Items.{encode, itemOk, wellFormed}
+use Rattle.ttlv.specs.Parse.{headed, firstOf, putValue, putGroup, more, walk, parse, isOne, message}
+use Rattle.ttlv.specs.Fields.{startsWith, ended, bytesOf, bodyOf, numberOf, optional}
+use Rattle.identifier.specs.Identifier.{digits, identifier, fromDigitsAfter, serialOf}
+use Rattle.payload.specs.Payload.{limitIn, limitFirst, wantedOf, attributesIn, createIn, targetOf, targetIn, aloneIn, allocationIn, revokeIn, orInvalid, command}
+
+-- the command that a payload's bytes spell; none where they are no items
+commandOf : ℕ → Option Items → Option Command
+commandOf operation none = none
+commandOf operation (some t) = some (command operation t)
+
+-- the definitions that the cases compute with: who opens this opens them all
+opened : Unit {0}
+unfolding commandOf ifb _>>=_ _>>_ isSome be fromBeAfter fromBe all same lengthOk text valueOk encode itemOk wellFormed headed firstOf putValue putGroup more walk parse isOne message startsWith ended bytesOf bodyOf numberOf optional digits identifier fromDigitsAfter serialOf limitIn limitFirst wantedOf attributesIn createIn targetOf targetIn aloneIn allocationIn revokeIn orInvalid command
+opened = tt
+
+create-limited : commandOf 0x01 (parse 6 (hex "42005705 00000004 00000002 00000000 42012501 00000058 42002805 00000004 00000003 00000000 42002A02 00000004 00000080 00000000 42002C02 00000004 00000004 00000000 42009501 00000020 42009703 00000008 00000000 00000064 42009805 00000004 00000002 00000000")) ≡ some (Create (record { bits = 128; mask = 4; unit = 2; total = 100 }))
+unfolding opened
+create-limited = refl
+
+create-free : commandOf 0x01 (parse 6 (hex "42005705 00000004 00000002 00000000 42012501 00000030 42002805 00000004 00000003 00000000 42002A02 00000004 00000100 00000000 42002C02 00000004 0000000C 00000000")) ≡ some (Create (record { bits = 256; mask = 12; unit = 0; total = 0 }))
+unfolding opened
+create-free = refl
+
+-- a payload for another operation, and an identifier that is no Text String
+create-elsewhere : commandOf 0x04 (parse 6 (hex "42005705 00000004 00000002 00000000 42012501 00000058 42002805 00000004 00000003 00000000 42002A02 00000004 00000080 00000000 42002C02 00000004 00000004 00000000 42009501 00000020 42009703 00000008 00000000 00000064 42009805 00000004 00000002 00000000")) ≡ some Invalid
+unfolding opened
+create-elsewhere = refl
+
+identifier-integer : commandOf 0x12 (parse 6 (hex "42009402 00000004 00000001 00000000")) ≡ some Invalid
+unfolding opened
+identifier-integer = refl
+
+revoke-named : commandOf 0x13 (parse 6 (hex "42009407 00000008 30303030 30303041 42008101 00000010 42008205 00000004 00000005 00000000")) ≡ some (Revoke (Serial 10) 5)
+unfolding opened
+revoke-named = refl
+
+allocation-held : commandOf 0x11 (parse 6 (hex "42009603 00000008 00000000 0000003C")) ≡ some (GetUsageAllocation Placeholder 60)
+unfolding opened
+allocation-held = refl
+
+-- lower case names no record
+lower-case : commandOf 0x14 (parse 6 (hex "42009407 00000008 30303030 30303061")) ≡ some (Destroy (Serial 0))
+unfolding opened
+lower-case = refl
+
+alone : commandOf 0x04 (parse 6 []) ≡ some (Rekey Placeholder)
+unfolding opened
+alone = refl
+
+shown-alone : commandOf 0x0B (parse 6 []) ≡ some (GetAttributes Placeholder)
+unfolding opened
+shown-alone = refl
+
+unknown : commandOf 0x0A (parse 6 []) ≡ some Unsupported
+unfolding opened
+unknown = refl
