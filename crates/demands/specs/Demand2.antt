@@ -1,0 +1,129 @@
+-- Demand 2: "it answers as KMIP 2.1 TTLV says, in the cut of document 01, and with one spelling".
+-- Assumes nothing. It speaks of the parse, the frame, the conditions in order, the record changes and the response reader.
+use Prim.Native.Nat.{ℕ, zero, suc, _+_, _≤_}
+use mathlib.Core.Path.{_≡_}
+use mathlib.Core.Bool.{Bool, true, false, not, _&&_, _||_}
+use mathlib.Core.Option.{Option, none, some}
+use mathlib.Core.List.{List, [], _∷_, map}
+use lib.ListN.{length, take}
+use lib.Dec.{ltb, eqb}
+use Rattle.octets.specs.If.{ifb}
+use Rattle.octets.specs.Maybe.{_>>=_, isSome}
+use Rattle.ttlv.specs.Items.{Items, encode}
+use Rattle.ttlv.specs.Parse.{message}
+use Rattle.table.specs.Layout.{placeCount}
+use Rattle.soundness.specs.Sound.{sound}
+use Rattle.rules.specs.declared.Reason.{Reason}
+use Rattle.rules.specs.Tests.{due}
+use Rattle.frame.specs.Frame.{Asked, Frame, frameIn, versionOk, countOk, optionOf, optionOk, continue}
+use Rattle.payload.specs.Payload.{command}
+use Rattle.act.specs.declared.Outcome.{Outcome}
+use Rattle.act.specs.declared.Outcome.the-variants.{Failed}
+use Rattle.act.specs.Act.{Env, Did, Plan, plan, isFailed}
+use Rattle.answer.specs.Respond.{Answer, Response, respond}
+use Rattle.answer.specs.Read.{answersIn, allowed}
+use Rattle.engine.specs.Serving.{Effect, roomLeast, stripSize, requestMost}
+use Rattle.demands.specs.Box.{Call, Box, Lent}
+
+-- ---- (a) the refusals
+
+-- the frame that the request's bytes spell, if they spell one
+unfoldable pub frameOf : Call → Option Frame
+frameOf c = message (c .request) >>= frameIn
+
+-- a test of the frame, where there is one
+unfoldable pub ofFrame : (Frame → Bool) → Option Frame → Bool
+ofFrame test none = false
+ofFrame test (some f) = test f
+
+-- 01's table, a line each: the conditions of refusals 1 to 9
+unfoldable pub refusalConditions : Call → List Bool
+refusalConditions c =
+    ltb (length (c .output)) roomLeast
+    ∷ not (eqb (length (c .strip)) stripSize)
+    ∷ not (sound placeCount (c .table))
+    ∷ (eqb (length (c .request)) 0 || ltb requestMost (length (c .request)))
+    ∷ not (isSome (message (c .request)))
+    ∷ not (isSome (frameOf c))
+    ∷ ofFrame (λ f. not (versionOk (f .header))) (frameOf c)
+    ∷ ofFrame (λ f. not (countOk f)) (frameOf c)
+    ∷ ofFrame (λ f. not (optionOk (optionOf (f .header .option)))) (frameOf c)
+    ∷ []
+
+-- "The lowest number that applies", numbered from k on; 0 where none does
+unfoldable pub lowest : ℕ → List Bool → ℕ
+lowest k [] = 0
+lowest k (b ∷ bs) = ifb b k (lowest (suc k) bs)
+
+-- ---- (c) to (f) the items, one after the other
+
+-- one item carried out: what it met and what it left
+pub record Link : Type 0 where
+  pub env : Env
+  pub holder : ℕ
+  pub table : List ℕ
+  pub asked : Asked
+  pub did : Did
+
+-- the conditions of the item in order, and what success does, in the table that it meets
+abbrev pub planOf : Link → Plan
+planOf l = plan (l .env) (l .holder) (l .table) (command (l .asked .operation) (l .asked .payload))
+
+-- (d), (e): it succeeds exactly when none of its conditions holds, and leaves what its line of 01 says;
+-- otherwise it carries the reason of the first that holds, leaves the table and empties the placeholder
+pub record Due (l : Link) : Type 0 where
+  pub succeeds : due (planOf l .tests) ≡ none → l .did ≡ planOf l .did
+  pub fails : (reason : Reason) → due (planOf l .tests) ≡ some reason → l .did ≡ record { outcome = Failed reason; table = l .table; holder = 0 }
+
+-- the answer that an item gets: operation and ID as given
+unfoldable pub answerOf : Link → Answer
+answerOf l = record { operation = l .asked .operation; id = l .asked .id; outcome = l .did .outcome }
+
+-- an env at the next item
+abbrev pub following : Env → Env
+following env = record { places = env .places; clock = env .clock; strip = env .strip; index = env .index + 1 }
+
+-- (c), (f): the links of a batch under an option, from a placeholder and a table on: one link for each answered item and none more.
+-- The first item is answered; each later one if the option is Continue or the one before it succeeded
+pub data Chain (option : ℕ) : Env → ℕ → List ℕ → List Asked → List Link → List ℕ → Type 0 where
+  none-left : {env : Env} {holder : ℕ} {t : List ℕ} → Chain option env holder t [] [] t
+  stops : {env : Env} {holder : ℕ} {t : List ℕ} {later : List Asked} (asked : Asked) (did : Did)
+      → Due (record { env = env; holder = holder; table = t; asked = asked; did = did })
+      → isFailed (did .outcome) ≡ true
+      → (option ≡ continue → ⊥)
+      → Chain option env holder t (asked ∷ later) (record { env = env; holder = holder; table = t; asked = asked; did = did } ∷ []) (did .table)
+  goes-on : {env : Env} {holder : ℕ} {t u : List ℕ} {later : List Asked} {links : List Link} (asked : Asked) (did : Did)
+      → Due (record { env = env; holder = holder; table = t; asked = asked; did = did })
+      → (isFailed (did .outcome) ≡ true → option ≡ continue)
+      → Chain option (following env) (did .holder) (did .table) later links u
+      → Chain option env holder t (asked ∷ later) (record { env = env; holder = holder; table = t; asked = asked; did = did } ∷ links) u
+
+-- the first item of a request: index 0
+abbrev pub firstEnv : Call → Env
+firstEnv c = record { places = placeCount; clock = c .clock; strip = c .strip; index = 0 }
+
+-- ---- the whole
+
+-- what an accepted request is given
+pub record Answered (c : Call) (e : Effect) : Type 0 where
+  -- (b) the one reading of the request's bytes
+  pub items : Items
+  pub frame : Frame
+  pub reads : message (c .request) ≡ some items
+  pub spelled : encode items ≡ c .request
+  pub framed : frameIn items ≡ some frame
+  -- (c) to (f) the chain, from the table before, with an empty placeholder, to the table after
+  pub links : List Link
+  pub chain : Chain (optionOf (frame .header .option)) (firstEnv c) 0 (c .table) (frame .items) links (e .table)
+  -- (g) the response bytes read back to the clock and these answers
+  pub response : Items
+  pub readable : message (take (e .length) (e .output)) ≡ some response
+  pub read-back : answersIn response ≡ some (record { clock = c .clock; answers = map answerOf links })
+  -- and no other response has these bytes
+  pub one-response : (r : Response) → allowed r ≡ true → encode (respond r) ≡ take (e .length) (e .output) → r ≡ record { clock = c .clock; answers = map answerOf links }
+
+pub record Demand2 (B : Box) : Type 0 where
+  -- (a) the number is k > 0 exactly when k is the lowest whose condition holds, and 0 exactly when none does
+  pub number : (c : Call) (e : Effect) → Lent c → B c e → e .number ≡ lowest 1 (refusalConditions c)
+  -- (b) to (g)
+  pub answered : (c : Call) (e : Effect) → Lent c → B c e → e .number ≡ 0 → Answered c e

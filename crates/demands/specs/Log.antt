@@ -1,0 +1,134 @@
+-- What was asked and answered, read from the bytes of requests and responses alone. No definition here reads a table.
+-- Assumes nothing.
+use Prim.Native.Nat.{ℕ, zero, suc, _+_}
+use mathlib.Core.Bool.{Bool, true, false, _&&_}
+use mathlib.Core.Option.{Option, none, some}
+use mathlib.Core.List.{List, [], _∷_, _++_}
+use lib.ListN.{take}
+use lib.Dec.{eqb}
+use Rattle.octets.specs.If.{ifb}
+use Rattle.octets.specs.Maybe.{_>>=_}
+use Rattle.ttlv.specs.Parse.{message}
+use Rattle.rules.specs.Numbers.{rekey}
+use Rattle.frame.specs.Frame.{Asked, Frame, frameIn}
+use Rattle.payload.specs.declared.Target.{Target}
+use Rattle.payload.specs.declared.Command.{Command}
+use Rattle.payload.specs.declared.Command.the-variants.{Unsupported, Invalid, Create, Rekey, GetUsageAllocation, Activate, Revoke, Destroy, GetAttributes}
+use Rattle.payload.specs.Payload.{command}
+use Rattle.act.specs.declared.Outcome.{Outcome}
+use Rattle.act.specs.declared.Outcome.the-variants.{Failed, Created, Done, Showed}
+use Rattle.act.specs.Act.{sought}
+use Rattle.answer.specs.Respond.{Answer, Response}
+use Rattle.answer.specs.Read.{answersIn}
+use Rattle.engine.specs.Serving.{Effect}
+use Rattle.demands.specs.Box.{Call}
+
+-- an item with its answer, and the placeholder as the earlier answers of the same response set it (0 where it is empty)
+pub record Event : Type 0 where
+  pub held : ℕ
+  pub asked : Asked
+  pub answer : Answer
+
+-- what the item asked for
+abbrev pub commandOf : Event → Command
+commandOf e = command (e .asked .operation) (e .asked .payload)
+
+-- ---- events from bytes
+
+-- "Create and Re-key set the placeholder, a failed item empties it, others keep it"
+unfoldable pub heldAfter : ℕ → Answer → Outcome → ℕ
+heldAfter held a (Failed reason) = 0
+heldAfter held a (Created serial) = serial
+heldAfter held a (Done serial) = ifb (eqb (a .operation) rekey) serial held
+heldAfter held a (Showed shown) = held
+
+-- item i with answer i, the latest first, in front of what came before
+unfoldable pub paired : ℕ → List Asked → List Answer → List Event → List Event
+paired held [] answers log = log
+paired held (asked ∷ items) [] log = log
+paired held (asked ∷ items) (a ∷ answers) log = paired (heldAfter held a (a .outcome)) items answers (record { held = held; asked = asked; answer = a } ∷ log)
+
+unfoldable pub itemsOf : Option Frame → List Asked
+itemsOf none = []
+itemsOf (some f) = f .items
+
+unfoldable pub answersOf : Option Response → List Answer
+answersOf none = []
+answersOf (some r) = r .answers
+
+-- the items of a request's bytes, and the answers read back from the first bytes of the output, `length` many
+abbrev pub itemsAsked : Call → List Asked
+itemsAsked c = itemsOf (message (c .request) >>= frameIn)
+
+abbrev pub answersGiven : Effect → List Answer
+answersGiven e = answersOf (message (take (e .length) (e .output)) >>= answersIn)
+
+-- the log after a call; a refused one has length 0, so it adds nothing
+unfoldable pub logged : Call → Effect → List Event → List Event
+logged c e log = paired 0 (itemsAsked c) (answersGiven e) log
+
+-- ---- what a log says of an identifier, given as its serial
+
+-- the serial that a successful answer to Create or Re-key carries; 0 for every other event
+unfoldable pub issuedBy : Command → Outcome → ℕ
+issuedBy (Create wanted) (Created serial) = serial
+issuedBy (Create wanted) (Failed reason) = 0
+issuedBy (Create wanted) (Done serial) = 0
+issuedBy (Create wanted) (Showed shown) = 0
+issuedBy (Rekey target) (Done serial) = serial
+issuedBy (Rekey target) (Failed reason) = 0
+issuedBy (Rekey target) (Created serial) = 0
+issuedBy (Rekey target) (Showed shown) = 0
+issuedBy Unsupported outcome = 0
+issuedBy Invalid outcome = 0
+issuedBy (GetUsageAllocation target amount) outcome = 0
+issuedBy (Activate target) outcome = 0
+issuedBy (Revoke target code) outcome = 0
+issuedBy (Destroy target) outcome = 0
+issuedBy (GetAttributes target) outcome = 0
+
+-- whether an event issued identifier x
+abbrev pub issues : ℕ → Event → Bool
+issues x e = eqb (issuedBy (commandOf e) (e .answer .outcome)) x
+
+-- how often x was issued
+unfoldable pub issued : ℕ → List Event → ℕ
+issued x [] = 0
+issued x (e ∷ log) = let before = issued x log in ifb (issues x e) (suc before) before
+
+-- the units that an event granted to x: those asked for, if the answer is a success that carries x
+unfoldable pub grantBy : ℕ → Command → Outcome → ℕ
+grantBy x (GetUsageAllocation target amount) (Done serial) = ifb (eqb serial x) amount 0
+grantBy x (GetUsageAllocation target amount) (Failed reason) = 0
+grantBy x (GetUsageAllocation target amount) (Created serial) = 0
+grantBy x (GetUsageAllocation target amount) (Showed shown) = 0
+grantBy x Unsupported outcome = 0
+grantBy x Invalid outcome = 0
+grantBy x (Create wanted) outcome = 0
+grantBy x (Rekey target) outcome = 0
+grantBy x (Activate target) outcome = 0
+grantBy x (Revoke target code) outcome = 0
+grantBy x (Destroy target) outcome = 0
+grantBy x (GetAttributes target) outcome = 0
+
+-- the units granted to x
+unfoldable pub granted : ℕ → List Event → ℕ
+granted x [] = 0
+granted x (e ∷ log) = grantBy x (commandOf e) (e .answer .outcome) + granted x log
+
+-- the total with which an identifier begins: that of its Create; for a Re-key, that of the identifier which it named
+unfoldable pub limitBy : Event → Command → (ℕ → ℕ) → ℕ
+limitBy e (Create wanted) before = wanted .total
+limitBy e (Rekey target) before = before (sought (e .held) target)
+limitBy e Unsupported before = 0
+limitBy e Invalid before = 0
+limitBy e (GetUsageAllocation target amount) before = 0
+limitBy e (Activate target) before = 0
+limitBy e (Revoke target code) before = 0
+limitBy e (Destroy target) before = 0
+limitBy e (GetAttributes target) before = 0
+
+-- the total that x began with
+unfoldable pub limit : ℕ → List Event → ℕ
+limit x [] = 0
+limit x (e ∷ log) = let begun = limitBy e (commandOf e) (λ y. limit y log) in let before = limit x log in ifb (issues x e) begun before
