@@ -1,3 +1,5 @@
 -- Theorems over the definitions.
 -- Assumes nothing.
 pub mod Cases
+pub mod Chains
+pub mod Ladder
