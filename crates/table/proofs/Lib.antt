@@ -3,3 +3,7 @@
 pub mod Zeros
 pub mod Lines
 pub mod Places
+pub mod Lead
+pub mod First
+pub mod Finds
+pub mod Blank
