@@ -17,14 +17,11 @@ use Rattle.table.specs.declared.Found.{Found}
 use Rattle.table.specs.declared.Found.the-variants.{At, Nothing}
 use Rattle.table.specs.Layout.{materialSize, sizeOf}
 use Rattle.table.specs.Records.{withPlace, withLast, serialAt, stateAt, isFree}
-use Rattle.table.specs.Search.{first, find, orElse, isDestroyed, freePlace, destroyedPlace, newPlace}
+use Rattle.table.specs.Search.{first, hasSerial, find, orElse, isDestroyed, freePlace, destroyedPlace, newPlace}
 use Rattle.table.proofs.Lines.{InRange}
 use Rattle.table.proofs.Places.{serial-same, serial-other, serial-with}
 use Rattle.table.proofs.Lead.{serial-last, state-last}
 use Rattle.table.proofs.First.{At-same, At-not, on-found, found-below, found-test, found-lowest, found-is, found-only, none-fails, fails-none, first-cong}
-
-abbrev pub hasSerial : List ℕ → ℕ → ℕ → Bool
-hasSerial t s i = eqb (serialAt t i) s
 
 -- ---- a record by its serial
 

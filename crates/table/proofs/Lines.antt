@@ -153,3 +153,32 @@ module _ (l b : List ℕ) (el : length l ≡ lineSize) (eb : length b ≡ bodySi
       (field-back b 16 4 36 _ (omega arith) hb
       (ap (λ (x : List ℕ). x ++ part b 24 materialSize) (sym z) ∙ ap (λ (x : List ℕ). part b zerosIn 4 ++ take materialSize x) (sym (drop-drop 4 zerosIn b)) ∙ sym (take-add 4 materialSize (drop zerosIn b)))))
       ∙ take-all bodySize b (le-of-eq eb)
+
+-- ---- fields that are written one by one
+
+pub line-sets : (t : List ℕ) (at a b c d e f : ℕ)
+    → sets (sets (sets (sets (sets (sets t at (be 4 a)) (at + 4) (be 1 b)) (at + 5) (be 1 c)) (at + 6) (be 2 d)) (at + 8) (be 4 e)) (at + 12) (be 4 f) ≡ sets t at (line a b c d e f)
+unfolding line
+line-sets t at a b c d e f = sym (simp (sets-append, length-be, add-assoc))
+
+pub body-sets : (t : List ℕ) (at a b c : ℕ) (m : List ℕ)
+    → sets (sets (sets (sets (sets t at (be 8 a)) (at + 8) (be 8 b)) (at + 16) (be 4 c)) (at + zerosIn) (be 4 0)) (at + 24) m ≡ sets t at (body a b c m)
+unfolding body
+body-sets t at a b c m = sym (simp (sets-append, length-be, add-assoc))
+
+-- the same, of the tables between, as the calls leave them
+module _ (t : List ℕ) {t₁ t₂ t₃ t₄ t₅ : List ℕ} (at : ℕ) where
+  pub line-chain : {t₆ : List ℕ} (a b c d e f : ℕ) → t₁ ≡ sets t at (be 4 a) → t₂ ≡ sets t₁ (at + 4) (be 1 b) → t₃ ≡ sets t₂ (at + 5) (be 1 c) → t₄ ≡ sets t₃ (at + 6) (be 2 d)
+      → t₅ ≡ sets t₄ (at + 8) (be 4 e) → t₆ ≡ sets t₅ (at + 12) (be 4 f) → t₆ ≡ sets t at (line a b c d e f)
+  line-chain a b c d e f e₁ e₂ e₃ e₄ e₅ e₆ = cc (line-sets t at a b c d e f)
+
+  pub body-chain : (a b c : ℕ) (m : List ℕ) → t₁ ≡ sets t at (be 8 a) → t₂ ≡ sets t₁ (at + 8) (be 8 b) → t₃ ≡ sets t₂ (at + 16) (be 4 c) → t₄ ≡ sets t₃ (at + zerosIn) (be 4 0)
+      → t₅ ≡ sets t₄ (at + 24) m → t₅ ≡ sets t at (body a b c m)
+  body-chain a b c m e₁ e₂ e₃ e₄ e₅ = cc (body-sets t at a b c m)
+
+-- a part as it is lent to the number reader
+pub lent-field : (t : List ℕ) (at w : ℕ) → at + w ≤ length t → w ≤ 8 → take 8 (take (at + w - at) (drop at t)) ≡ part t at w
+lent-field t at w l h =
+    let e : at + w - at ≡ w = omega arith in
+    let k : length (part t at w) ≡ w = length-part t at w l in
+    rw e (take-all 8 (part t at w) (omega arith))

@@ -166,3 +166,37 @@ with-comm n t i j r q mr mq h k =
 pub with-swap : (n : ℕ) (t : List ℕ) (i j : ℕ) (r q : Record) → length (r .material) ≡ materialSize → length (q .material) ≡ materialSize → i < n → j < n → (i ≡ j → ⊥)
     → withPlace n (withPlace n t i r) j q ≡ withPlace n (withPlace n t j q) i r
 with-swap n t i j r q mr mq h k ne = ⊎-elim (λ l. with-comm n t i j r q mr mq l k) (λ l. sym (with-comm n t j i q r mq mr l h)) (apart i j ne)
+
+-- ---- fields that are read one by one
+
+pub place-fields : (n : ℕ) (t : List ℕ) (i : ℕ) → let l = lineOf i in let b = bodyOf n i in
+    _≡_ {A = Record}
+    (record {
+      serial = fromBe (part t l 4);
+      state = fromBe (part t (l + 4) 1);
+      unit = fromBe (part t (l + 5) 1);
+      bits = fromBe (part t (l + 6) 2);
+      replaced = fromBe (part t (l + 8) 4);
+      replacement = fromBe (part t (l + 12) 4);
+      total = fromBe (part t b 8);
+      count = fromBe (part t (b + 8) 8);
+      mask = fromBe (part t (b + 16) 4);
+      material = part t (b + 24) materialSize;
+    })
+    (placeAt n t i)
+unfolding placeAt recordOf
+place-fields n t i =
+    let l = lineOf i in
+    let b = bodyOf n i in
+    cc (
+      take-take 4 lineSize (drop l t) (lit≤ tt),
+      part-part t l lineSize 4 1 (lit≤ tt),
+      part-part t l lineSize 5 1 (lit≤ tt),
+      part-part t l lineSize 6 2 (lit≤ tt),
+      part-part t l lineSize 8 4 (lit≤ tt),
+      part-part t l lineSize 12 4 (lit≤ tt),
+      take-take 8 bodySize (drop b t) (lit≤ tt),
+      part-part t b bodySize 8 8 (lit≤ tt),
+      part-part t b bodySize 16 4 (lit≤ tt),
+      part-part t b bodySize 24 materialSize (lit≤ tt),
+    )
