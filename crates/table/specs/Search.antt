@@ -27,9 +27,13 @@ unfoldable pub orElse : Found → Found → Found
 orElse (At i) other = At i
 orElse Nothing other = other
 
+-- place i has this serial
+abbrev pub hasSerial : List ℕ → ℕ → ℕ → Bool
+hasSerial t serial i = eqb (serialAt t i) serial
+
 -- the place of the record with a serial; zero is no record's serial, though a free place has it
 unfoldable pub find : ℕ → List ℕ → ℕ → Found
-find n t serial = ifb (eqb serial 0) Nothing (first n (λ i. eqb (serialAt t i) serial))
+find n t serial = ifb (eqb serial 0) Nothing (first n (hasSerial t serial))
 
 -- state 5 or 6
 abbrev pub isDestroyed : ℕ → Bool

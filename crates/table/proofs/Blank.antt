@@ -1,0 +1,143 @@
+-- Laws of the blank table: its size, its lead, and that every place is free and zero.
+-- Assumes nothing; over the number n of places.
+use mathlib.Core.Path.{_≡_, refl, sym, ap, ap₂, _∙_}
+use Prim.Native.Nat.{ℕ, zero, suc, _+_, _-_, _*_, _^_, _≤_, _<_}
+use native.Mathlib.Nat.{add-assoc}
+use native.Mathlib.Omega.{arith}
+use native.Mathlib.Decide.{ℕ-discrete}
+use mathlib.Core.Bool.{Bool, true}
+use mathlib.Core.List.{List, _++_}
+use lib.ListN.{length, take, drop, replicate, length-append, length-replicate}
+use lib.Seq.{take-at, drop-at, drop-drop}
+use Rattle.octets.specs.Octets.{be, fromBe, part, allZero, Bytes}
+use Rattle.octets.proofs.Numbers.{length-be, be-zero, fromBe-be, be-bytes, bytes-append}
+use Rattle.octets.proofs.Stores.{part-part}
+use Rattle.table.specs.declared.Record.{Record}
+use Rattle.table.specs.declared.Found.the-variants.{Nothing}
+use Rattle.table.specs.Layout.{lineSize, bodySize, materialSize, lineOf, bodyOf, sizeOf}
+use Rattle.table.specs.Records.{line, body, lineBytes, bodyBytes, recordOf, placeAt, serialAt, zerosIn, lastSerial, placesSaid, leadZeros, blank}
+use Rattle.table.specs.Search.{find}
+use Rattle.table.proofs.Zeros.{zeros-pass, pass-zeros, fromBe-zeros, part-zeros, bytes-zeros}
+use Rattle.table.proofs.Lines.{InRange, recordOf-bytes}
+use Rattle.table.proofs.Places.{length-line-at, length-body-at, line-is, body-is, serial-is}
+use Rattle.table.proofs.Finds.{find-zero, none-find}
+
+-- ---- the record of zeros
+
+abbrev pub zeroRecord : Record
+zeroRecord = record {
+  serial = 0;
+  state = 0;
+  unit = 0;
+  bits = 0;
+  replaced = 0;
+  replacement = 0;
+  total = 0;
+  count = 0;
+  mask = 0;
+  material = replicate materialSize 0;
+}
+
+pub zero-line : lineBytes zeroRecord ≡ replicate lineSize 0
+unfolding line be
+zero-line = refl
+
+pub zero-body : bodyBytes zeroRecord ≡ replicate bodySize 0
+unfolding body be
+zero-body = refl
+
+pub zero-range : InRange zeroRecord
+zero-range = record {
+  serial = omega arith;
+  state = omega arith;
+  unit = omega arith;
+  bits = omega arith;
+  replaced = omega arith;
+  replacement = omega arith;
+  total = omega arith;
+  count = omega arith;
+  mask = omega arith;
+  long = refl;
+  bytes = bytes-zeros materialSize;
+}
+
+module _ (n : ℕ) (t : List ℕ) (i : ℕ) (big : length t ≡ sizeOf n) (lo : i < n) where
+  -- zero bytes are the record of zeros
+  pub zero-place : allZero (part t (lineOf i) lineSize) ≡ true → allZero (part t (bodyOf n i) bodySize) ≡ true → placeAt n t i ≡ zeroRecord
+  unfolding placeAt
+  zero-place l b =
+      ap₂ recordOf
+      (pass-zeros _ l ∙ ap (λ (k : ℕ). replicate k 0) (length-line-at n t i big lo) ∙ sym zero-line)
+      (pass-zeros _ b ∙ ap (λ (k : ℕ). replicate k 0) (length-body-at n t i big lo) ∙ sym zero-body)
+      ∙ recordOf-bytes zeroRecord zero-range
+
+  -- and the record of zeros, in a table of bytes, is zero bytes
+  pub place-zero-line : Bytes t → placeAt n t i ≡ zeroRecord → allZero (part t (lineOf i) lineSize) ≡ true
+  place-zero-line h e = ap allZero (line-is n t i big lo h ∙ ap lineBytes e ∙ zero-line) ∙ zeros-pass lineSize
+
+  pub place-zero-body : Bytes t → part t (bodyOf n i + zerosIn) 4 ≡ be 4 0 → placeAt n t i ≡ zeroRecord → allZero (part t (bodyOf n i) bodySize) ≡ true
+  place-zero-body h z e = ap allZero (body-is n t i big lo h z ∙ ap bodyBytes e ∙ zero-body) ∙ zeros-pass bodySize
+
+-- the zeros of a body, as the test sees them
+pub zeros-test : (s : List ℕ) → s ≡ be 4 0 → allZero s ≡ true
+zeros-test s e = ap allZero (e ∙ be-zero 4) ∙ zeros-pass 4
+
+pub test-zeros : (s : List ℕ) → length s ≡ 4 → allZero s ≡ true → s ≡ be 4 0
+test-zeros s l e = pass-zeros s e ∙ ap (λ (k : ℕ). replicate k 0) l ∙ sym (be-zero 4)
+
+-- ---- the blank table
+
+pub length-blank : (n : ℕ) → length (blank n) ≡ sizeOf n
+unfolding blank
+length-blank n = rw (length-append, length-append, length-be, length-be, length-replicate) (omega arith)
+
+pub bytes-blank : (n : ℕ) → Bytes (blank n)
+unfolding blank
+bytes-blank n = bytes-append (be 4 0) _ (be-bytes 4 0) (bytes-append (be 4 n) _ (be-bytes 4 n) (bytes-zeros (sizeOf n - 8)))
+
+pub last-blank : (n : ℕ) → lastSerial (blank n) ≡ 0
+unfolding lastSerial blank be
+last-blank n = fromBe-be 4 0 (omega arith)
+
+pub said-blank : (n : ℕ) → n < 256 ^ 4 → placesSaid (blank n) ≡ n
+unfolding placesSaid blank be
+said-blank n h = fromBe-be 4 n h
+
+behind-blank : (n : ℕ) → drop 8 (blank n) ≡ replicate (sizeOf n - 8) 0
+unfolding blank be
+behind-blank n = refl
+
+-- all zero behind the place count
+pub part-blank : (n at w : ℕ) → 8 ≤ at → at + w ≤ sizeOf n → part (blank n) at w ≡ replicate w 0
+part-blank n at w a h =
+    let e : at ≡ 8 + (at - 8) = omega arith in
+    ap (λ (k : ℕ). part (blank n) k w) e
+    ∙ ap (λ (s : List ℕ). take w s) (sym (drop-drop (at - 8) 8 (blank n)))
+    ∙ ap (λ (s : List ℕ). part s (at - 8) w) (behind-blank n)
+    ∙ part-zeros (sizeOf n - 8) (at - 8) w (omega arith)
+
+pub lead-blank : (n : ℕ) → leadZeros (blank n) ≡ replicate 8 0
+lead-blank n = part-blank n 8 8 (omega arith) (omega arith)
+
+module _ (n i : ℕ) (lo : i < n) where
+  pub line-blank : part (blank n) (lineOf i) lineSize ≡ replicate lineSize 0
+  line-blank = part-blank n (lineOf i) lineSize (omega arith) (omega arith)
+
+  pub body-blank : part (blank n) (bodyOf n i) bodySize ≡ replicate bodySize 0
+  body-blank = part-blank n (bodyOf n i) bodySize (omega arith) (omega arith)
+
+  pub place-blank : placeAt n (blank n) i ≡ zeroRecord
+  place-blank =
+      zero-place n (blank n) i (length-blank n) lo
+      (ap allZero line-blank ∙ zeros-pass lineSize)
+      (ap allZero body-blank ∙ zeros-pass bodySize)
+
+  pub serial-blank : serialAt (blank n) i ≡ 0
+  serial-blank = serial-is n (blank n) i ∙ ap (λ (r : Record). r .serial) place-blank
+
+-- no record is found in it
+pub find-blank : (n s : ℕ) → find n (blank n) s ≡ Nothing
+find-blank n s = elim (ℕ-discrete s 0) [
+  | yes z ↦ ap (find n (blank n)) z ∙ find-zero n (blank n)
+  | no z ↦ none-find n (blank n) s (λ j h e. z (sym e ∙ serial-blank n j h))
+]

@@ -1,0 +1,202 @@
+-- Laws of places: a record that was stored is the one read there, and every other place stays.
+-- Assumes nothing; over the number n of places, of tables of the right size.
+use mathlib.Core.Path.{_≡_, refl, sym, ap, ap₂, _∙_}
+use mathlib.Core.Logic.{_⊎_, inl, inr, ⊎-elim}
+use Prim.Native.Nat.{ℕ, zero, suc, _+_, _-_, _*_, _^_, _≤_, _<_}
+use native.Mathlib.Omega.{arith}
+use native.Mathlib.Decide.{decLe, ℕ-discrete}
+use mathlib.Core.Bool.{Bool, true}
+use mathlib.Core.List.{List, [], _∷_, _++_}
+use lib.ListN.{length, take, drop, replicate}
+use lib.Seq.{sets, length-sets, take-take}
+use lib.Dec.{lit≤}
+use Rattle.octets.specs.Octets.{be, fromBe, part, allZero, Bytes}
+use Rattle.octets.proofs.Stores.{sets-comm, part-sets-same, part-sets-below, part-sets-above, part-part, length-part}
+use Rattle.table.specs.declared.Record.{Record}
+use Rattle.table.specs.Layout.{lineSize, bodySize, materialSize, lineOf, bodyOf, sizeOf}
+use Rattle.table.specs.Records.{lineBytes, bodyBytes, recordOf, zerosIn, placeAt, withPlace, serialAt, stateAt}
+use Rattle.table.proofs.Zeros.{bytes-sets}
+use Rattle.table.proofs.Lines.{InRange, recordOf-bytes, recordOf-range, line-back, body-back, zeros-body, length-line, length-body, bytes-line, bytes-body, bytes-part}
+
+-- two places that are not one: one is lower
+pub apart : (j i : ℕ) → (j ≡ i → ⊥) → (j < i) ⊎ (i < j)
+apart j i ne = elim (decLe j i) [ yes h ↦ inl (omega arith) | no h ↦ inr (omega arith) ]
+
+-- ---- what stands at a place, in any table
+
+-- the serial and the state, read by themselves
+pub serial-is : (n : ℕ) (t : List ℕ) (i : ℕ) → serialAt t i ≡ placeAt n t i .serial
+unfolding serialAt placeAt recordOf
+serial-is n t i = ap fromBe (sym (take-take 4 lineSize (drop (lineOf i) t) (lit≤ tt)))
+
+pub state-is : (n : ℕ) (t : List ℕ) (i : ℕ) → stateAt t i ≡ placeAt n t i .state
+unfolding stateAt placeAt recordOf
+state-is n t i = ap fromBe (sym (part-part t (lineOf i) lineSize 4 1 (lit≤ tt)))
+
+module _ (n : ℕ) (t : List ℕ) (i : ℕ) (big : length t ≡ sizeOf n) (lo : i < n) where
+  pub length-line-at : length (part t (lineOf i) lineSize) ≡ lineSize
+  length-line-at = length-part t (lineOf i) lineSize (omega arith)
+
+  pub length-body-at : length (part t (bodyOf n i) bodySize) ≡ bodySize
+  length-body-at = length-part t (bodyOf n i) bodySize (omega arith)
+
+  -- every record of a table of bytes is in range
+  pub place-range : Bytes t → InRange (placeAt n t i)
+  unfolding placeAt
+  place-range h = recordOf-range _ _ length-line-at length-body-at (bytes-part t (lineOf i) lineSize h) (bytes-part t (bodyOf n i) bodySize h)
+
+  -- its line and its body are the bytes that spell it
+  pub line-is : Bytes t → part t (lineOf i) lineSize ≡ lineBytes (placeAt n t i)
+  unfolding placeAt
+  line-is h = sym (line-back _ _ length-line-at length-body-at (bytes-part t (lineOf i) lineSize h) (bytes-part t (bodyOf n i) bodySize h))
+
+  pub body-is : Bytes t → part t (bodyOf n i + zerosIn) 4 ≡ be 4 0 → part t (bodyOf n i) bodySize ≡ bodyBytes (placeAt n t i)
+  unfolding placeAt
+  body-is h z =
+      sym (body-back _ _ length-line-at length-body-at (bytes-part t (lineOf i) lineSize h) (bytes-part t (bodyOf n i) bodySize h)
+      (part-part t (bodyOf n i) bodySize zerosIn 4 (lit≤ tt) ∙ z))
+
+-- ---- a store
+
+pub length-with : (n : ℕ) (t : List ℕ) (i : ℕ) (r : Record) → length (withPlace n t i r) ≡ length t
+unfolding withPlace
+length-with n t i r = simp length-sets
+
+pub bytes-with : (n : ℕ) (t : List ℕ) (i : ℕ) (r : Record) → Bytes t → Bytes (r .material) → Bytes (withPlace n t i r)
+unfolding withPlace
+bytes-with n t i r h g = bytes-sets _ (bodyOf n i) (bodyBytes r) (bytes-sets t (lineOf i) (lineBytes r) h (bytes-line r)) (bytes-body r g)
+
+module _ (n : ℕ) (t : List ℕ) (i : ℕ) (r : Record) (big : length t ≡ sizeOf n) (lo : i < n) (m : length (r .material) ≡ materialSize) where
+  -- the bytes of the place itself
+  pub line-with : part (withPlace n t i r) (lineOf i) lineSize ≡ lineBytes r
+  unfolding withPlace
+  line-with =
+      part-sets-below (sets t (lineOf i) (lineBytes r)) (bodyOf n i) (bodyBytes r) (lineOf i) lineSize (omega arith)
+      ∙ part-sets-same t (lineOf i) (lineBytes r) lineSize (length-line r) (omega arith)
+
+  pub body-with : part (withPlace n t i r) (bodyOf n i) bodySize ≡ bodyBytes r
+  unfolding withPlace
+  body-with = part-sets-same (sets t (lineOf i) (lineBytes r)) (bodyOf n i) (bodyBytes r) bodySize (length-body r m) (rw length-sets (omega arith))
+
+  pub zeros-with : part (withPlace n t i r) (bodyOf n i + zerosIn) 4 ≡ be 4 0
+  zeros-with =
+      sym (part-part (withPlace n t i r) (bodyOf n i) bodySize zerosIn 4 (lit≤ tt))
+      ∙ ap (λ (b : List ℕ). part b zerosIn 4) body-with ∙ zeros-body r
+
+  -- a part that lies clear of both stays
+  pub part-with : (a k : ℕ) → (a + k ≤ lineOf i) ⊎ (lineOf i + lineSize ≤ a) → (a + k ≤ bodyOf n i) ⊎ (bodyOf n i + bodySize ≤ a)
+      → part (withPlace n t i r) a k ≡ part t a k
+  unfolding withPlace
+  part-with a k h u =
+      ⊎-elim
+      (λ x. part-sets-below (sets t (lineOf i) (lineBytes r)) (bodyOf n i) (bodyBytes r) a k x)
+      (λ x. part-sets-above (sets t (lineOf i) (lineBytes r)) (bodyOf n i) (bodyBytes r) a k (rw (length-body r m) x))
+      u
+      ∙ ⊎-elim (λ x. part-sets-below t (lineOf i) (lineBytes r) a k x) (λ x. part-sets-above t (lineOf i) (lineBytes r) a k (rw (length-line r) x)) h
+
+  -- the bytes of another place
+  module _ (j : ℕ) (below : j < n) (ne : j ≡ i → ⊥) where
+    pub line-other : part (withPlace n t i r) (lineOf j) lineSize ≡ part t (lineOf j) lineSize
+    line-other = ⊎-elim (λ x. part-with (lineOf j) lineSize (inl (omega arith)) (inl (omega arith))) (λ x. part-with (lineOf j) lineSize (inr (omega arith)) (inl (omega arith))) (apart j i ne)
+
+    pub body-other : part (withPlace n t i r) (bodyOf n j) bodySize ≡ part t (bodyOf n j) bodySize
+    body-other =
+        ⊎-elim
+        (λ x. part-with (bodyOf n j) bodySize (inr (omega arith)) (inl (omega arith)))
+        (λ x. part-with (bodyOf n j) bodySize (inr (omega arith)) (inr (omega arith)))
+        (apart j i ne)
+
+    pub zeros-other : part (withPlace n t i r) (bodyOf n j + zerosIn) 4 ≡ part t (bodyOf n j + zerosIn) 4
+    zeros-other =
+        sym (part-part (withPlace n t i r) (bodyOf n j) bodySize zerosIn 4 (lit≤ tt))
+        ∙ ap (λ (b : List ℕ). part b zerosIn 4) body-other
+        ∙ part-part t (bodyOf n j) bodySize zerosIn 4 (lit≤ tt)
+
+    pub place-other : placeAt n (withPlace n t i r) j ≡ placeAt n t j
+    unfolding placeAt
+    place-other = ap₂ recordOf line-other body-other
+
+    pub serial-other : serialAt (withPlace n t i r) j ≡ serialAt t j
+    serial-other = serial-is n (withPlace n t i r) j ∙ ap (λ (x : Record). x .serial) place-other ∙ sym (serial-is n t j)
+
+    pub state-other : stateAt (withPlace n t i r) j ≡ stateAt t j
+    state-other = state-is n (withPlace n t i r) j ∙ ap (λ (x : Record). x .state) place-other ∙ sym (state-is n t j)
+
+module _ (n : ℕ) (t : List ℕ) (i : ℕ) (r : Record) (big : length t ≡ sizeOf n) (lo : i < n) (h : InRange r) where
+  pub place-same : placeAt n (withPlace n t i r) i ≡ r
+  unfolding placeAt
+  place-same = ap₂ recordOf (line-with n t i r big lo (h .long)) (body-with n t i r big lo (h .long)) ∙ recordOf-bytes r h
+
+  pub serial-same : serialAt (withPlace n t i r) i ≡ r .serial
+  serial-same = serial-is n (withPlace n t i r) i ∙ ap (λ (x : Record). x .serial) place-same
+
+  pub state-same : stateAt (withPlace n t i r) i ≡ r .state
+  state-same = state-is n (withPlace n t i r) i ∙ ap (λ (x : Record). x .state) place-same
+
+  -- a store that keeps the serial keeps every serial
+  pub serial-with : r .serial ≡ serialAt t i → (j : ℕ) → j < n → serialAt (withPlace n t i r) j ≡ serialAt t j
+  serial-with e j l = elim (ℕ-discrete j i) [
+    | yes q ↦ ap (serialAt (withPlace n t i r)) q ∙ serial-same ∙ e ∙ ap (serialAt t) (sym q)
+    | no q ↦ serial-other n t i r big lo (h .long) j l q
+  ]
+
+-- ---- two stores
+
+pub sets-swap : (t : List ℕ) (a : ℕ) (xs : List ℕ) (b : ℕ) (ys : List ℕ) → (a + length xs ≤ b) ⊎ (b + length ys ≤ a) → sets (sets t a xs) b ys ≡ sets (sets t b ys) a xs
+sets-swap t a xs b ys o = ⊎-elim (λ h. sets-comm t a xs b ys h) (λ h. sym (sets-comm t b ys a xs h)) o
+
+with-comm : (n : ℕ) (t : List ℕ) (i j : ℕ) (r q : Record) → length (r .material) ≡ materialSize → length (q .material) ≡ materialSize → i < j → j < n
+    → withPlace n (withPlace n t i r) j q ≡ withPlace n (withPlace n t j q) i r
+unfolding withPlace
+with-comm n t i j r q mr mq h k =
+    let lr = lineBytes r in
+    let br = bodyBytes r in
+    let lq = lineBytes q in
+    let bq = bodyBytes q in
+    let er : length (lineBytes r) ≡ lineSize = length-line r in
+    let eq : length (lineBytes q) ≡ lineSize = length-line q in
+    let fr : length (bodyBytes r) ≡ bodySize = length-body r mr in
+    let fq : length (bodyBytes q) ≡ bodySize = length-body q mq in
+    ap (λ (l : List ℕ). sets l (bodyOf n j) bq) (sets-swap (sets t (lineOf i) lr) (bodyOf n i) br (lineOf j) lq (inr (omega arith)))
+    ∙ ap (λ (l : List ℕ). sets (sets l (bodyOf n i) br) (bodyOf n j) bq) (sets-swap t (lineOf i) lr (lineOf j) lq (inl (omega arith)))
+    ∙ sets-swap (sets (sets t (lineOf j) lq) (lineOf i) lr) (bodyOf n i) br (bodyOf n j) bq (inl (omega arith))
+    ∙ ap (λ (l : List ℕ). sets l (bodyOf n i) br) (sets-swap (sets t (lineOf j) lq) (lineOf i) lr (bodyOf n j) bq (inl (omega arith)))
+
+-- two stores at different places may change places
+pub with-swap : (n : ℕ) (t : List ℕ) (i j : ℕ) (r q : Record) → length (r .material) ≡ materialSize → length (q .material) ≡ materialSize → i < n → j < n → (i ≡ j → ⊥)
+    → withPlace n (withPlace n t i r) j q ≡ withPlace n (withPlace n t j q) i r
+with-swap n t i j r q mr mq h k ne = ⊎-elim (λ l. with-comm n t i j r q mr mq l k) (λ l. sym (with-comm n t j i q r mq mr l h)) (apart i j ne)
+
+-- ---- fields that are read one by one
+
+pub place-fields : (n : ℕ) (t : List ℕ) (i : ℕ) → let l = lineOf i in let b = bodyOf n i in
+    _≡_ {A = Record}
+    (record {
+      serial = fromBe (part t l 4);
+      state = fromBe (part t (l + 4) 1);
+      unit = fromBe (part t (l + 5) 1);
+      bits = fromBe (part t (l + 6) 2);
+      replaced = fromBe (part t (l + 8) 4);
+      replacement = fromBe (part t (l + 12) 4);
+      total = fromBe (part t b 8);
+      count = fromBe (part t (b + 8) 8);
+      mask = fromBe (part t (b + 16) 4);
+      material = part t (b + 24) materialSize;
+    })
+    (placeAt n t i)
+unfolding placeAt recordOf
+place-fields n t i =
+    let l = lineOf i in
+    let b = bodyOf n i in
+    cc (
+      take-take 4 lineSize (drop l t) (lit≤ tt),
+      part-part t l lineSize 4 1 (lit≤ tt),
+      part-part t l lineSize 5 1 (lit≤ tt),
+      part-part t l lineSize 6 2 (lit≤ tt),
+      part-part t l lineSize 8 4 (lit≤ tt),
+      part-part t l lineSize 12 4 (lit≤ tt),
+      take-take 8 bodySize (drop b t) (lit≤ tt),
+      part-part t b bodySize 8 8 (lit≤ tt),
+      part-part t b bodySize 16 4 (lit≤ tt),
+      part-part t b bodySize 24 materialSize (lit≤ tt),
+    )

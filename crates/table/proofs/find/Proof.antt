@@ -1,0 +1,28 @@
+-- `table::find`. Zero is not looked for.
+-- Assumes nothing.
+use mathlib.Core.Path.{_≡_, refl, sym, ap, _∙_}
+use borrow.Author.Tests.{eq-eqb, ne-eqb}
+use Rattle.octets.proofs.If.{ifb-true}
+use Rattle.table.proofs.Finds.{find-first}
+use Rattle.table.specs.Search.{find}
+use borrow.Author.Needs.{needs}
+use Rattle.table.proofs.find.Statement.{statement}
+use Rattle.table.proofs.find.Tie as tie
+use Rattle.table.proofs.find.Reads as reads
+use Rattle.table.proofs.find.Lts as lts
+use Rattle.table.proofs.place_with.Reads as place-with-reads
+
+returns : tie.Need-returns
+unfolding find
+returns c = sym (ifb-true _ _ _ (eq-eqb (c .before .before .args .serial) 0 (c .if1 .taken)))
+
+place-with-requires : tie.Need-place-with-requires
+place-with-requires c κs = search needs
+
+returns-2 : tie.Need-returns-2
+returns-2 c =
+    let a = c .before .before .before .args in
+    c .place-with .ensures ∙ sym (find-first (a .n) (a .t .now) (a .serial) (c .before .if1 .left))
+
+pub find-spec : {M : Type 1} → statement M
+find-spec = tie.close (tie.spec returns place-with-requires returns-2)

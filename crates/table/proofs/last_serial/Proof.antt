@@ -1,0 +1,22 @@
+-- `table::last_serial`. The last serial is the field at the front.
+-- Assumes nothing.
+use Rattle.table.specs.Records.{lastSerial}
+use borrow.Author.Needs.{needs}
+use Rattle.table.proofs.last_serial.Statement.{statement}
+use Rattle.table.proofs.last_serial.Tie as tie
+use Rattle.table.proofs.last_serial.Reads as reads
+use Rattle.table.proofs.last_serial.Lts as lts
+use Rattle.table.proofs.field.Reads as field-reads
+
+field-requires : tie.Need-field-requires
+field-requires c κs = search needs
+
+cast-result : tie.Need-cast-result
+cast-result c = search needs
+
+returns : tie.Need-returns
+unfolding lastSerial
+returns c = cc
+
+pub last-serial-spec : {M : Type 1} → statement M
+last-serial-spec = tie.close (tie.spec field-requires cast-result returns)

@@ -1,0 +1,22 @@
+-- `table::places_said`. The place count is the second field.
+-- Assumes nothing.
+use Rattle.table.specs.Records.{placesSaid}
+use borrow.Author.Needs.{needs}
+use Rattle.table.proofs.places_said.Statement.{statement}
+use Rattle.table.proofs.places_said.Tie as tie
+use Rattle.table.proofs.places_said.Reads as reads
+use Rattle.table.proofs.places_said.Lts as lts
+use Rattle.table.proofs.field.Reads as field-reads
+
+field-requires : tie.Need-field-requires
+field-requires c κs = search needs
+
+cast-result : tie.Need-cast-result
+cast-result c = search needs
+
+returns : tie.Need-returns
+unfolding placesSaid
+returns c = cc
+
+pub places-said-spec : {M : Type 1} → statement M
+places-said-spec = tie.close (tie.spec field-requires cast-result returns)

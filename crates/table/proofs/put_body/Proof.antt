@@ -1,0 +1,70 @@
+-- `table::put_body`. The five fields, written one after another, are the body.
+-- Assumes nothing.
+use Rattle.table.proofs.Lines.{body-chain}
+use borrow.Author.Needs.{needs}
+use Rattle.table.proofs.put_body.Statement.{statement}
+use Rattle.table.proofs.put_body.Tie as tie
+use Rattle.table.proofs.put_body.Reads as reads
+use Rattle.table.proofs.put_body.Lts as lts
+use Rattle.octets.proofs.put.Reads as put-reads
+use Rattle.octets.proofs.put_all.Reads as put-all-reads
+
+put-requires : tie.Need-put-requires
+put-requires c κs = search needs
+
+add-put : tie.Need-add-put
+add-put c = search needs
+
+put-requires-2 : tie.Need-put-requires-2
+put-requires-2 c κs = search needs
+
+add-put-2 : tie.Need-add-put-2
+add-put-2 c = search needs
+
+put-requires-3 : tie.Need-put-requires-3
+put-requires-3 c κs = search needs
+
+add-put-3 : tie.Need-add-put-3
+add-put-3 c = search needs
+
+put-requires-4 : tie.Need-put-requires-4
+put-requires-4 c κs = search needs
+
+add-put-all : tie.Need-add-put-all
+add-put-all c = search needs
+
+slice-aggregate-put-all : tie.Need-slice-aggregate-put-all
+slice-aggregate-put-all c = search needs
+
+put-all-requires : tie.Need-put-all-requires
+put-all-requires c κs = search needs
+
+same-length : tie.Need-same-length
+same-length c = search needs
+
+returns : tie.Need-returns
+returns c =
+    let a = c .before .before .before .before .before .before .before .before .before .before .before .before .before .before .before .before .before .before .before .before .before .before .args in
+    body-chain (a .t .now) (a .at) (a .total) (a .count) (a .mask) _
+    (c .before .before .before .before .before .before .before .before .before .before .before .before .before .before .before .before .before .before .before .put .ensures)
+    (c .before .before .before .before .before .before .before .before .before .before .before .before .before .before .before .put2 .ensures)
+    (c .before .before .before .before .before .before .before .before .before .before .before .put3 .ensures)
+    (c .before .before .before .before .before .before .before .put4 .ensures)
+    (c .before .before .put-all .ensures)
+
+pub put-body-spec : {M : Type 1} → statement M
+put-body-spec =
+    tie.close
+    (tie.spec
+    put-requires
+    add-put
+    put-requires-2
+    add-put-2
+    put-requires-3
+    add-put-3
+    put-requires-4
+    add-put-all
+    slice-aggregate-put-all
+    put-all-requires
+    same-length
+    returns)

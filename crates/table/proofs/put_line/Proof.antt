@@ -1,0 +1,74 @@
+-- `table::put_line`. The six fields, written one after another, are the line.
+-- Assumes nothing.
+use Rattle.table.proofs.Lines.{line-chain}
+use borrow.Author.Needs.{needs}
+use Rattle.table.proofs.put_line.Statement.{statement}
+use Rattle.table.proofs.put_line.Tie as tie
+use Rattle.table.proofs.put_line.Reads as reads
+use Rattle.table.proofs.put_line.Lts as lts
+use Rattle.octets.proofs.put.Reads as put-reads
+
+put-requires : tie.Need-put-requires
+put-requires c κs = search needs
+
+add-put : tie.Need-add-put
+add-put c = search needs
+
+put-requires-2 : tie.Need-put-requires-2
+put-requires-2 c κs = search needs
+
+add-put-2 : tie.Need-add-put-2
+add-put-2 c = search needs
+
+put-requires-3 : tie.Need-put-requires-3
+put-requires-3 c κs = search needs
+
+add-put-3 : tie.Need-add-put-3
+add-put-3 c = search needs
+
+put-requires-4 : tie.Need-put-requires-4
+put-requires-4 c κs = search needs
+
+add-put-4 : tie.Need-add-put-4
+add-put-4 c = search needs
+
+put-requires-5 : tie.Need-put-requires-5
+put-requires-5 c κs = search needs
+
+add-put-5 : tie.Need-add-put-5
+add-put-5 c = search needs
+
+put-requires-6 : tie.Need-put-requires-6
+put-requires-6 c κs = search needs
+
+same-length : tie.Need-same-length
+same-length c = search needs
+
+returns : tie.Need-returns
+returns c =
+    let a = c .before .before .before .before .before .before .before .before .before .before .before .before .before .before .before .before .before .before .before .before .before .before .before .before .before .args in
+    line-chain (a .t .now) (a .at) (a .serial) (a .state) (a .unit) (a .bits) (a .replaced) (a .replacement)
+    (c .before .before .before .before .before .before .before .before .before .before .before .before .before .before .before .before .before .before .before .before .before .before .put .ensures)
+    (c .before .before .before .before .before .before .before .before .before .before .before .before .before .before .before .before .before .before .put2 .ensures)
+    (c .before .before .before .before .before .before .before .before .before .before .before .before .before .before .put3 .ensures)
+    (c .before .before .before .before .before .before .before .before .before .before .put4 .ensures)
+    (c .before .before .before .before .before .before .put5 .ensures)
+    (c .before .before .put6 .ensures)
+
+pub put-line-spec : {M : Type 1} → statement M
+put-line-spec =
+    tie.close
+    (tie.spec
+    put-requires
+    add-put
+    put-requires-2
+    add-put-2
+    put-requires-3
+    add-put-3
+    put-requires-4
+    add-put-4
+    put-requires-5
+    add-put-5
+    put-requires-6
+    same-length
+    returns)

@@ -1,0 +1,26 @@
+-- `table::serial_at`. The serial is the first field of the line.
+-- Assumes nothing.
+use Rattle.table.specs.Records.{serialAt}
+use borrow.Author.Needs.{needs}
+use Rattle.table.proofs.serial_at.Statement.{statement}
+use Rattle.table.proofs.serial_at.Tie as tie
+use Rattle.table.proofs.serial_at.Reads as reads
+use Rattle.table.proofs.serial_at.Lts as lts
+use Rattle.table.proofs.Layout.line.Reads as line-reads
+use Rattle.table.proofs.field.Reads as field-reads
+
+line-requires : tie.Need-line-requires
+line-requires c κs = search needs
+
+field-requires : tie.Need-field-requires
+field-requires c κs = search needs
+
+cast-result : tie.Need-cast-result
+cast-result c = search needs
+
+returns : tie.Need-returns
+unfolding serialAt
+returns c = cc
+
+pub serial-at-spec : {M : Type 1} → statement M
+serial-at-spec = tie.close (tie.spec line-requires field-requires cast-result returns)

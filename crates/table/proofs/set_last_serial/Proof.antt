@@ -1,0 +1,22 @@
+-- `table::set_last_serial`. The field at the front is written.
+-- Assumes nothing.
+use Rattle.table.specs.Records.{withLast}
+use borrow.Author.Needs.{needs}
+use Rattle.table.proofs.set_last_serial.Statement.{statement}
+use Rattle.table.proofs.set_last_serial.Tie as tie
+use Rattle.table.proofs.set_last_serial.Reads as reads
+use Rattle.table.proofs.set_last_serial.Lts as lts
+use Rattle.octets.proofs.put.Reads as put-reads
+
+put-requires : tie.Need-put-requires
+put-requires c κs = search needs
+
+same-length : tie.Need-same-length
+same-length c = search needs
+
+returns : tie.Need-returns
+unfolding withLast
+returns c = cc
+
+pub set-last-serial-spec : {M : Type 1} → statement M
+set-last-serial-spec = tie.close (tie.spec put-requires same-length returns)

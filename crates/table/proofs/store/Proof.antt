@@ -1,0 +1,36 @@
+-- `table::store`. The line and the body, each written at its offset.
+-- Assumes nothing.
+use Rattle.table.specs.Records.{withPlace}
+use borrow.Author.Needs.{needs}
+use Rattle.table.proofs.store.Statement.{statement}
+use Rattle.table.proofs.store.Tie as tie
+use Rattle.table.proofs.store.Reads as reads
+use Rattle.table.proofs.store.Lts as lts
+use Rattle.table.proofs.Layout.body.Reads as body-reads
+use Rattle.table.proofs.Layout.line.Reads as line-reads
+use Rattle.table.proofs.put_body.Reads as put-body-reads
+use Rattle.table.proofs.put_line.Reads as put-line-reads
+
+line-requires : tie.Need-line-requires
+line-requires c κs = search needs
+
+body-requires : tie.Need-body-requires
+body-requires c κs = search needs
+
+put-line-requires : tie.Need-put-line-requires
+put-line-requires c κs = search needs
+
+put-body-requires : tie.Need-put-body-requires
+put-body-requires c κs = search needs
+
+same-length : tie.Need-same-length
+same-length c = search needs
+
+returns : tie.Need-returns
+unfolding withPlace
+returns c = cc
+
+pub store-spec : {M : Type 1} → statement M
+store-spec =
+    tie.close
+    (tie.spec line-requires body-requires put-line-requires put-body-requires same-length returns)
