@@ -1,7 +1,7 @@
 -- Laws of `&&`, `||` and `not`: a test that holds gives the facts of its parts, and back.
 -- Assumes nothing.
 use mathlib.Core.Path.{_≡_, refl, sym, _∙_}
-use mathlib.Core.Bool.{Bool, true, false, not, _&&_, _||_, true≢false, false≢true}
+use mathlib.Core.Bool.{Bool, true, false, _&&_, _||_, true≢false, false≢true}
 use borrow.Author.Tests.{leb-true, ltb-true, eqb-true, le-leb, lt-ltb, eq-eqb}
 use mathlib.Core.Logic.{_⊎_, inl, inr}
 

@@ -4,18 +4,16 @@ use mathlib.Core.Path.{_≡_, refl, sym, ap, _∙_, subst}
 use Prim.Native.Nat.{ℕ, zero, suc, _+_, _-_, _≤_, _<_}
 use native.Mathlib.Nat.{not-suc-le-zero, add-zero}
 use native.Mathlib.Omega.{arith}
-use mathlib.Core.Bool.{Bool, true, false, not, false≢true, true≢false}
+use mathlib.Core.Bool.{Bool, true, false}
 use mathlib.Core.Option.{Option, none, some}
 use mathlib.Core.List.{List, [], _∷_, map}
 use lib.ListN.{length, getD}
-use Rattle.octets.specs.If.{ifb}
-use Rattle.octets.specs.Maybe.{isSome}
 use Rattle.octets.proofs.If.{ifb-true, on-if}
 use Rattle.table.specs.declared.Found.{Found}
 use Rattle.table.specs.declared.Found.the-variants.{At, Nothing}
 use Rattle.table.specs.Search.{first}
-use Rattle.soundness.specs.Sound.{Fault, whole, atPlace, wholeRules, standingRules, breaksFree, breaksStanding, orLater, standingFault, placeFault, wholeFault, firstFault, sound}
-use Rattle.soundness.proofs.Firsts.{Lowest, from-at, from-none, none-from}
+use Rattle.soundness.specs.Sound.{Fault, whole, atPlace, wholeRules, standingRules, breaksFree, breaksStanding, orLater, standingFault, placeFault, wholeFault, firstFault}
+use Rattle.table.proofs.First.{found-below, found-test, found-lowest, none-fails, fails-none}
 
 -- ---- the place rules as one list of tests, each of which passes where its rule is broken
 
@@ -60,9 +58,6 @@ pub record FirstAt (tests : List Test) (n : ℕ) (t : List ℕ) (d i : ℕ) : Ty
 abbrev pub Unbroken : List Test → ℕ → List ℕ → Type 0
 Unbroken tests n t = (m j : ℕ) → j < n → getD tests m never n t j ≡ false
 
-no-place : (test : ℕ → Bool) (n : ℕ) → first n test ≡ Nothing → (j : ℕ) → j < n → test j ≡ false
-no-place test n e j h = from-none test 0 n e j (omega arith) (omega arith)
-
 module _ (n : ℕ) (t : List ℕ) where
   pub from-unbroken : (k : ℕ) (tests : List Test) → faultFrom k tests n t ≡ none → Unbroken tests n t
   unfolding faultFrom orLater
@@ -72,13 +67,13 @@ module _ (n : ℕ) (t : List ℕ) where
       go : (f : Found) → first n (test n t) ≡ f → orLater k (faultFrom (suc k) tests n t) f ≡ none → (faultFrom (suc k) tests n t ≡ none → Unbroken tests n t)
           → Unbroken (test ∷ tests) n t
       go (At i) p q later = let z : _≡_ {A = ℕ} 0 1 = cc in absurd (omega arith)
-      go Nothing p q later = λ m. elim m [ zero ↦ no-place (test n t) n p | suc m ↦ later q m ]
+      go Nothing p q later = λ m. elim m [ zero ↦ none-fails n (test n t) p | suc m ↦ later q m ]
 
   pub unbroken-from : (k : ℕ) (tests : List Test) → Unbroken tests n t → faultFrom k tests n t ≡ none
   unfolding faultFrom orLater
   unbroken-from k [] h = refl
   unbroken-from k (test ∷ tests) h =
-      let e : first n (test n t) ≡ Nothing = none-from (test n t) 0 n (λ j a b. h 0 j (omega arith)) in
+      let e : first n (test n t) ≡ Nothing = fails-none n (test n t) (h 0) in
       rw e (unbroken-from (suc k) tests (λ m. h (suc m)))
 
   pub from-fault : (k : ℕ) (tests : List Test) (m i : ℕ) → faultFrom k tests n t ≡ some (atPlace m i) → (d : ℕ) × ((m ≡ k + d) × FirstAt tests n t d i)
@@ -92,34 +87,26 @@ module _ (n : ℕ) (t : List ℕ) where
       go (At j) p q later =
           let a : k ≡ m = cc in
           let b : j ≡ i = cc in
-          let l : Lowest (test n t) 0 n i = from-at (test n t) 0 n i (p ∙ ap At b) in (
-            0,
-            (
-              omega arith,
-              record {
-                listed = omega arith;
-                before = λ d z. absurd (not-suc-le-zero z);
-                place = omega arith;
-                broken = l .passes;
-                lowest = λ j h. l .lowest j (omega arith) h;
-              },
-            ),
-          )
+          let f : first n (test n t) ≡ At i = p ∙ ap At b in
+          let here : FirstAt (test ∷ tests) n t 0 i = record {
+            listed = omega arith;
+            before = λ d z. absurd (not-suc-le-zero z);
+            place = found-below n (test n t) i f;
+            broken = found-test n (test n t) i f;
+            lowest = found-lowest n (test n t) i f;
+          } in
+          (0, (omega arith, here))
       go Nothing p q later =
           let r : (d : ℕ) × ((m ≡ suc k + d) × FirstAt tests n t d i) = later q in
-          let s : FirstAt tests n t (r .0) i = r .1 .1 in (
-            suc (r .0),
-            (
-              omega arith,
-              record {
-                listed = omega arith;
-                before = λ d. elim d [ zero ↦ (λ z j h. no-place (test n t) n p j h) | suc d ↦ (λ z j h. s .before d (omega arith) j h) ];
-                place = s .place;
-                broken = s .broken;
-                lowest = s .lowest;
-              },
-            ),
-          )
+          let s : FirstAt tests n t (r .0) i = r .1 .1 in
+          let there : FirstAt (test ∷ tests) n t (suc (r .0)) i = record {
+            listed = omega (arith, s .listed);
+            before = λ d. elim d [ zero ↦ (λ z j h. none-fails n (test n t) p j h) | suc d ↦ (λ z j h. s .before d (omega arith) j h) ];
+            place = s .place;
+            broken = s .broken;
+            lowest = s .lowest;
+          } in
+          (suc (r .0), (omega arith, there))
 
   -- a test of places names no rule of the whole table
   from-not-whole : (k : ℕ) (tests : List Test) (m : ℕ) → faultFrom k tests n t ≡ some (whole m) → ⊥

@@ -1,6 +1,6 @@
 -- Laws of the soundness rules: the rule list, the facts of a sound table, the blank table.
 -- Assumes nothing.
 pub mod Bools
-pub mod Firsts
 pub mod Faults
 pub mod SoundIs
+pub mod Blank

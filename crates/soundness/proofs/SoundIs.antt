@@ -3,30 +3,29 @@
 use mathlib.Core.Path.{_≡_, refl, sym, ap, _∙_}
 use mathlib.Core.Logic.{_⊎_, inl, inr, ⊎-elim}
 use Prim.Native.Nat.{ℕ, zero, suc, _+_, _-_, _/_, _≤_, _<_}
-use native.Mathlib.Nat.{add-zero}
 use native.Mathlib.Omega.{arith}
 use native.Mathlib.Decide.{ℕ-discrete}
-use mathlib.Core.Bool.{Bool, true, false, not, _&&_, _||_, false≢true, true≢false}
+use mathlib.Core.Bool.{Bool, true, false, not, _&&_, false≢true}
 use mathlib.Core.Option.{Option, none, some}
 use mathlib.Core.List.{List, [], _∷_, map}
-use lib.ListN.{length, getD, drop}
+use lib.ListN.{length, drop}
 use lib.Dec.{leb, ltb, eqb}
-use borrow.Author.Tests.{eq-eqb, ne-eqb, le-leb, lt-ltb, eqb-true, eqb-false, leb-true, ltb-true, not-true, not-false}
-use Rattle.octets.specs.If.{ifb}
+use borrow.Author.Tests.{eq-eqb, ne-eqb, le-leb, lt-ltb, eqb-true, eqb-false, leb-true, ltb-true, not-true}
 use Rattle.octets.specs.Maybe.{isSome}
-use Rattle.octets.specs.Octets.{part, allZero, fromBe}
+use Rattle.octets.specs.Octets.{part, allZero}
 use Rattle.octets.proofs.If.{ifb-true, ifb-false, on-bool}
-use Rattle.octets.proofs.Stores.{part-part}
 use Rattle.table.specs.declared.Record.{Record}
 use Rattle.table.specs.declared.Found.{Found}
 use Rattle.table.specs.declared.Found.the-variants.{At, Nothing}
 use Rattle.table.specs.Layout.{lineSize, bodySize, lineOf, bodyOf, sizeOf}
-use Rattle.table.specs.Records.{placeAt, recordOf, serialAt, isFree, zerosIn, lastSerial, placesSaid, leadZeros}
-use Rattle.table.specs.Search.{first, isNothing, find, isDestroyed}
-use Rattle.soundness.specs.Sound.{Fault, standingRules, bitsOk, maskOk, unitOk, totalOk, sizeRight, countRight, leadRight, freeRight, zerosRight, isTwin, distinctRight, issuedRight, stateRight, bitsRight, maskRight, limitRight, tailRight, wipedRight, replacedRight, replacementRight, ifStands, namesReplaced, namesReplacement, linksRight, breaksFree, breaksStanding, firstFault, sound}
+use Rattle.table.specs.Records.{placeAt, serialAt, isFree, zerosIn, lastSerial, placesSaid, leadZeros}
+use Rattle.table.specs.Search.{isNothing, find, isDestroyed}
+use Rattle.table.proofs.First.{isNothing-is, none-fails, fails-none}
+use Rattle.table.proofs.Places.{serial-is}
+use Rattle.table.proofs.Finds.{find-nonzero, find-below, find-serial, find-only}
+use Rattle.soundness.specs.Sound.{Fault, standingRules, bitsOk, unitOk, totalOk, sizeRight, countRight, leadRight, freeRight, zerosRight, isTwin, distinctRight, issuedRight, stateRight, bitsRight, maskRight, limitRight, tailRight, wipedRight, replacedRight, replacementRight, ifStands, namesReplaced, namesReplacement, linksRight, breaksFree, breaksStanding, firstFault, sound}
 use Rattle.soundness.proofs.Bools.{and-l, and-r, and-i, or-cases, or-l, or-r, yes-unless, no-unless, not-both, facts, tests}
-use Rattle.soundness.proofs.Firsts.{Lowest, from-at, from-none, none-from, at-from}
-use Rattle.soundness.proofs.Faults.{Faultless, fault-none, none-fault, breakTests, never, Unbroken, Test}
+use Rattle.soundness.proofs.Faults.{Faultless, fault-none, none-fault, Unbroken, Test}
 
 -- ---- the facts
 
@@ -77,42 +76,16 @@ pub record Sound (n : ℕ) (t : List ℕ) : Type 0 where
   pub replaced : (i j : ℕ) → i < n → j < n → Stands t i → Stands t j → placeAt n t i .replaced ≡ serialAt t j → placeAt n t j .replacement ≡ serialAt t i
   pub replacement : (i j : ℕ) → i < n → j < n → Stands t i → Stands t j → placeAt n t i .replacement ≡ serialAt t j → placeAt n t j .replaced ≡ serialAt t i
 
--- ---- the serial of a record, and searches by serial
-
-pub serial-place : (n : ℕ) (t : List ℕ) (i : ℕ) → placeAt n t i .serial ≡ serialAt t i
-unfolding placeAt recordOf serialAt
-serial-place n t i = ap fromBe (part-part t (lineOf i) lineSize 0 4 (omega arith) ∙ rw add-zero)
-
--- what a search by serial found
-pub record Finds (n : ℕ) (t : List ℕ) (serial j : ℕ) : Type 0 where
-  pub below : j < n
-  pub has : serialAt t j ≡ serial
-  pub some : serial ≡ 0 → ⊥
+-- ---- searches by serial
 
 module _ (n : ℕ) (t : List ℕ) where
-  pub find-finds : (serial j : ℕ) → find n t serial ≡ At j → Finds n t serial j
-  unfolding find
-  find-finds serial j e =
-      on-bool (eqb serial 0)
-      (λ z. let w : Nothing ≡ At j = sym (ifb-true _ _ _ z) ∙ e in let c : _≡_ {A = ℕ} 0 1 = cc in absurd (omega arith))
-      (λ z. let l : Lowest (λ i. eqb (serialAt t i) serial) 0 n j = from-at _ 0 n j (sym (ifb-false _ _ _ z) ∙ e) in
-      record { below = omega arith; has = eqb-true (serialAt t j) serial (l .passes); some = eqb-false serial 0 z })
-
   -- the serials of records that stand are distinct
   abbrev pub Distinct : Type 0
   Distinct = (i j : ℕ) → i < n → j < n → Stands t i → serialAt t i ≡ serialAt t j → i ≡ j
 
   -- so each record is found by its serial
   pub find-own : Distinct → (i : ℕ) → i < n → Stands t i → find n t (serialAt t i) ≡ At i
-  unfolding find
-  find-own d i h s =
-      ifb-false _ _ _ (ne-eqb (serialAt t i) 0 s)
-      ∙ at-from _ 0 n i (record {
-        from = omega arith;
-        below = omega arith;
-        passes = eq-eqb (serialAt t i) (serialAt t i) refl;
-        lowest = λ k a b. ne-eqb (serialAt t k) (serialAt t i) (λ e. let z : i ≡ k = d i k h (omega arith) s (sym e) in omega arith);
-      })
+  find-own d i h s = find-only n t (serialAt t i) i s h refl (λ j g e. sym (d i j h g s (sym e)))
 
   -- and where each record is found by its serial the serials are distinct
   pub own-distinct : ((i : ℕ) → i < n → Stands t i → find n t (serialAt t i) ≡ At i) → Distinct
@@ -195,11 +168,6 @@ fit-of last r h = record {
 
 -- ---- the rules on two places
 
-is-nothing : (f : Found) → isNothing f ≡ true → f ≡ Nothing
-unfolding isNothing
-is-nothing (At i) e = absurd (false≢true e)
-is-nothing Nothing e = refl
-
 stands-is : (test : ℕ → Bool) (f : Found) (j : ℕ) → ifStands test f ≡ true → f ≡ At j → test j ≡ true
 unfolding ifStands
 stands-is test (At i) j e q = let z : i ≡ j = cc in ap test (sym z) ∙ e
@@ -214,7 +182,7 @@ module _ (n : ℕ) (t : List ℕ) where
   distinct-is : ((i : ℕ) → i < n → Stands t i → distinctRight n t i ≡ true) → Distinct n t
   unfolding distinctRight
   distinct-is right i j h g s e =
-      let none : isTwin t i j ≡ false = from-none (isTwin t i) 0 n (is-nothing _ (right i h s)) j (omega arith) (omega arith) in
+      let none : isTwin t i j ≡ false = none-fails n (isTwin t i) (isNothing-is _ (right i h s)) j g in
       elim (ℕ-discrete j i) [
         | yes q ↦ sym q
         | no q ↦ absurd (not-both _ (and-i (not (eqb j i)) (eqb (serialAt t j) (serialAt t i)) (ap not (ne-eqb j i q)) (eq-eqb (serialAt t j) (serialAt t i) (sym e))) none)
@@ -223,11 +191,11 @@ module _ (n : ℕ) (t : List ℕ) where
   distinct-of : Distinct n t → (i : ℕ) → i < n → Stands t i → distinctRight n t i ≡ true
   unfolding distinctRight isNothing
   distinct-of d i h s =
-      let none : (j : ℕ) → 0 ≤ j → j < 0 + n → isTwin t i j ≡ false = λ j a b. no-unless (isTwin t i j) (λ e.
+      let none : (j : ℕ) → j < n → isTwin t i j ≡ false = λ j g. no-unless (isTwin t i j) (λ e.
       let q : j ≡ i → ⊥ = eqb-false j i (not-true (eqb j i) (and-l (not (eqb j i)) (eqb (serialAt t j) (serialAt t i)) e)) in
       let p : serialAt t j ≡ serialAt t i = eqb-true _ _ (and-r (not (eqb j i)) (eqb (serialAt t j) (serialAt t i)) e) in
-      q (sym (d i j h (omega arith) s (sym p)))) in
-      ap isNothing (none-from (isTwin t i) 0 n none)
+      q (sym (d i j h g s (sym p)))) in
+      ap isNothing (fails-none n (isTwin t i) none)
 
   -- the links of one record
   pub record Linked (r : Record) : Type 0 where
@@ -244,14 +212,16 @@ module _ (n : ℕ) (t : List ℕ) where
         replacement = λ j h s q. eqb-true _ _ (stands-is (namesReplaced n t (r .serial)) _ j (and-r back forth e) (ap (find n t) q ∙ find-own n t d j h s));
       }
 
+  -- a place found by a serial that a link names
+  linked-at : {P : Type 0} (serial j : ℕ) → find n t serial ≡ At j → (j < n → Stands t j → serial ≡ serialAt t j → P) → P
+  linked-at serial j e f = f (find-below n t serial j e) (λ z. find-nonzero n t serial j e (sym (find-serial n t serial j e) ∙ z)) (sym (find-serial n t serial j e))
+
   links-of : (r : Record) → Linked r → linksRight n t r ≡ true
   unfolding linksRight
   links-of r l =
       and-i _ _
-      (stands-of _ _ (λ j e. let f : Finds n t (r .replaced) j = find-finds n t (r .replaced) j e in
-      eq-eqb _ _ (l .replaced j (f .below) (λ z. f .some (sym (f .has) ∙ z)) (sym (f .has)))))
-      (stands-of _ _ (λ j e. let f : Finds n t (r .replacement) j = find-finds n t (r .replacement) j e in
-      eq-eqb _ _ (l .replacement j (f .below) (λ z. f .some (sym (f .has) ∙ z)) (sym (f .has)))))
+      (stands-of _ _ (λ j e. eq-eqb _ _ (linked-at (r .replaced) j e (l .replaced j))))
+      (stands-of _ _ (λ j e. eq-eqb _ _ (linked-at (r .replacement) j e (l .replacement j))))
 
 -- ---- the whole
 
@@ -312,8 +282,8 @@ module _ (n : ℕ) (t : List ℕ) where
           replaced = standing-kept n t i (λ n t i. replacedRight (placeAt n t i)) (f .places 10 i h) s;
           replacement = standing-kept n t i (λ n t i. replacementRight (lastSerial t) (placeAt n t i)) (f .places 11 i h) s;
         });
-        replaced = λ i j h g s u q. linked i h s .replaced j g u q ∙ serial-place n t i;
-        replacement = λ i j h g s u q. linked i h s .replacement j g u q ∙ serial-place n t i;
+        replaced = λ i j h g s u q. linked i h s .replaced j g u q ∙ sym (serial-is n t i);
+        replacement = λ i j h g s u q. linked i h s .replacement j g u q ∙ sym (serial-is n t i);
       }
 
 -- each rule of a list holds at every standing place
@@ -333,8 +303,8 @@ module _ (n : ℕ) (t : List ℕ) where
   sound-of h =
       let right : (i : ℕ) → i < n → Stands t i → Right (lastSerial t) (placeAt n t i) = λ i l s. fit-of (lastSerial t) (placeAt n t i) (h .fit i l s) in
       let linked : (i : ℕ) → i < n → Stands t i → Linked n t (placeAt n t i) = λ i l s. record {
-        replaced = λ j g u q. h .replaced i j l g s u q ∙ sym (serial-place n t i);
-        replacement = λ j g u q. h .replacement i j l g s u q ∙ sym (serial-place n t i);
+        replaced = λ j g u q. h .replaced i j l g s u q ∙ serial-is n t i;
+        replacement = λ j g u q. h .replacement i j l g s u q ∙ serial-is n t i;
       } in
       let standing : Kept n t standingRules =
       also (h .zeros)
