@@ -4,3 +4,4 @@ pub mod Bools
 pub mod Faults
 pub mod SoundIs
 pub mod Blank
+pub mod Checked

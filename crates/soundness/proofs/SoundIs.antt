@@ -179,7 +179,7 @@ stands-of test (At i) h = h i refl
 stands-of test Nothing h = refl
 
 module _ (n : ℕ) (t : List ℕ) where
-  distinct-is : ((i : ℕ) → i < n → Stands t i → distinctRight n t i ≡ true) → Distinct n t
+  pub distinct-is : ((i : ℕ) → i < n → Stands t i → distinctRight n t i ≡ true) → Distinct n t
   unfolding distinctRight
   distinct-is right i j h g s e =
       let none : isTwin t i j ≡ false = none-fails n (isTwin t i) (isNothing-is _ (right i h s)) j g in
@@ -188,7 +188,7 @@ module _ (n : ℕ) (t : List ℕ) where
         | no q ↦ absurd (not-both _ (and-i (not (eqb j i)) (eqb (serialAt t j) (serialAt t i)) (ap not (ne-eqb j i q)) (eq-eqb (serialAt t j) (serialAt t i) (sym e))) none)
       ]
 
-  distinct-of : Distinct n t → (i : ℕ) → i < n → Stands t i → distinctRight n t i ≡ true
+  pub distinct-of : Distinct n t → (i : ℕ) → i < n → Stands t i → distinctRight n t i ≡ true
   unfolding distinctRight isNothing
   distinct-of d i h s =
       let none : (j : ℕ) → j < n → isTwin t i j ≡ false = λ j g. no-unless (isTwin t i j) (λ e.
@@ -202,7 +202,7 @@ module _ (n : ℕ) (t : List ℕ) where
     pub replaced : (j : ℕ) → j < n → Stands t j → r .replaced ≡ serialAt t j → placeAt n t j .replacement ≡ r .serial
     pub replacement : (j : ℕ) → j < n → Stands t j → r .replacement ≡ serialAt t j → placeAt n t j .replaced ≡ r .serial
 
-  links-is : Distinct n t → (r : Record) → linksRight n t r ≡ true → Linked r
+  pub links-is : Distinct n t → (r : Record) → linksRight n t r ≡ true → Linked r
   unfolding linksRight
   links-is d r e =
       let back : Bool = ifStands (namesReplacement n t (r .serial)) (find n t (r .replaced)) in
@@ -216,7 +216,7 @@ module _ (n : ℕ) (t : List ℕ) where
   linked-at : {P : Type 0} (serial j : ℕ) → find n t serial ≡ At j → (j < n → Stands t j → serial ≡ serialAt t j → P) → P
   linked-at serial j e f = f (find-below n t serial j e) (λ z. find-nonzero n t serial j e (sym (find-serial n t serial j e) ∙ z)) (sym (find-serial n t serial j e))
 
-  links-of : (r : Record) → Linked r → linksRight n t r ≡ true
+  pub links-of : (r : Record) → Linked r → linksRight n t r ≡ true
   unfolding linksRight
   links-of r l =
       and-i _ _
