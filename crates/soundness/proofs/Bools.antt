@@ -16,6 +16,9 @@ and-r false b e = absurd (false≢true e)
 pub and-i : (a b : Bool) → a ≡ true → b ≡ true → (a && b) ≡ true
 and-i a b p q = rw (p, q)
 
+pub and-cong : {a b c d : Bool} → a ≡ b → c ≡ d → (a && c) ≡ (b && d)
+and-cong p q = rw (p, q)
+
 pub or-cases : (a b : Bool) → (a || b) ≡ true → (a ≡ true) ⊎ (b ≡ true)
 or-cases true b e = inl refl
 or-cases false b e = inr e
