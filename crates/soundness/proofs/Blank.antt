@@ -1,0 +1,35 @@
+-- The blank table is sound, whatever its number of places.
+-- Assumes that the number of places fits the lead's four bytes, as the place count there does.
+use mathlib.Core.Path.{_≡_, ap, _∙_}
+use Prim.Native.Nat.{ℕ, _^_, _<_}
+use native.Mathlib.Omega.{arith}
+use mathlib.Core.Bool.{true}
+use Rattle.octets.specs.Octets.{allZero}
+use Rattle.table.specs.Layout.{lineSize, bodySize}
+use Rattle.table.specs.Records.{blank}
+use Rattle.table.proofs.Zeros.{zeros-pass}
+use Rattle.table.proofs.Blank.{length-blank, said-blank, lead-blank, line-blank, body-blank, serial-blank}
+use Rattle.soundness.specs.Sound.{sound}
+use Rattle.soundness.proofs.SoundIs.{Sound, Stands, sound-of}
+
+module _ (n : ℕ) (few : n < 256 ^ 4) where
+  -- nothing stands in it
+  none-stands {ℓ} : {P : Type ℓ} (i : ℕ) → i < n → Stands (blank n) i → P
+  none-stands i h s = absurd (s (serial-blank n i h))
+
+  pub blank-facts : Sound n (blank n)
+  blank-facts = record {
+    size = length-blank n;
+    count = said-blank n few;
+    lead = ap allZero (lead-blank n) ∙ zeros-pass 8;
+    free = λ i h z. record { line = ap allZero (line-blank n i h) ∙ zeros-pass lineSize; body = ap allZero (body-blank n i h) ∙ zeros-pass bodySize };
+    zeros = λ i h s. none-stands i h s;
+    distinct = λ i j h g s e. none-stands i h s;
+    issued = λ i h. omega (arith, serial-blank n i h);
+    fit = λ i h s. none-stands i h s;
+    replaced = λ i j h g s u e. none-stands i h s;
+    replacement = λ i j h g s u e. none-stands i h s;
+  }
+
+  pub blank-sound : sound n (blank n) ≡ true
+  blank-sound = sound-of n (blank n) blank-facts

@@ -1,0 +1,122 @@
+-- The check that goes place by place agrees with the rules one after the other.
+-- Assumes nothing.
+use mathlib.Core.Path.{_≡_, refl, sym, ap, _∙_}
+use Prim.Native.Nat.{ℕ, _≤_, _<_}
+use native.Mathlib.Omega.{arith}
+use native.Mathlib.Decide.{ℕ-discrete}
+use mathlib.Core.Bool.{Bool, true, false, _&&_, false≢true}
+use mathlib.Core.List.{List}
+use lib.ListN.{length}
+use lib.Dec.{leb, eqb}
+use borrow.Author.Tests.{eq-eqb, ne-eqb, le-leb, eqb-true, eqb-false, leb-true}
+use Rattle.octets.specs.If.{ifb}
+use Rattle.octets.specs.Octets.{part, allZero}
+use Rattle.octets.proofs.If.{ifb-true, ifb-false, on-bool}
+use Rattle.table.specs.declared.Record.{Record}
+use Rattle.table.specs.declared.Found.{Found}
+use Rattle.table.specs.declared.Found.the-variants.{At, Nothing}
+use Rattle.table.specs.Layout.{lineOf, bodyOf, lineSize, bodySize, sizeOf}
+use Rattle.table.specs.Records.{placeAt, serialAt, isFree, lastSerial, placesSaid}
+use Rattle.table.specs.Search.{find}
+use Rattle.table.proofs.Places.{serial-is}
+use Rattle.soundness.specs.Sound.{sizeRight, countRight, leadRight, freeRight, zerosRight, stateRight, bitsRight, maskRight, limitRight, tailRight, wipedRight, replacedRight, replacementRight, linksRight, sound}
+use Rattle.soundness.specs.Checked.{wholeRight, valuesRight, namesRight, materialRight, isAt, standingRight, placeRight}
+use Rattle.soundness.proofs.Bools.{and-l, and-r, and-i, facts, tests}
+use Rattle.soundness.proofs.SoundIs.{Sound, Stands, Empty, Right, fit-is, fit-of, Linked, Distinct, find-own, own-distinct, links-is, links-of, sound-of}
+
+at-is : (i : ℕ) (f : Found) → isAt i f ≡ true → f ≡ At i
+unfolding isAt
+at-is i (At j) e = ap At (eqb-true j i e)
+at-is i Nothing e = absurd (false≢true e)
+
+at-of : (i : ℕ) (f : Found) → f ≡ At i → isAt i f ≡ true
+unfolding isAt
+at-of i f e = ap (isAt i) e ∙ eq-eqb i i refl
+
+-- what the check asks of a record that stands at place i, one by one
+record Asked (n : ℕ) (t : List ℕ) (i : ℕ) (r : Record) : Type 0 where
+  zeros : zerosRight n t i ≡ true
+  right : Right (lastSerial t) r
+  issued : r .serial ≤ lastSerial t
+  own : find n t (r .serial) ≡ At i
+  links : linksRight n t r ≡ true
+
+module _ (n : ℕ) (t : List ℕ) (i : ℕ) (r : Record) where
+  asked-is : standingRight n t i r ≡ true → Asked n t i r
+  unfolding standingRight valuesRight namesRight materialRight
+  asked-is e =
+      let values : valuesRight r ≡ true = search facts in
+      let material : materialRight r ≡ true = search facts in
+      let names : namesRight (lastSerial t) r ≡ true = search facts in
+      record {
+        zeros = search facts;
+        right = record {
+          state = search facts;
+          bits = search facts;
+          mask = search facts;
+          limit = search facts;
+          tail = search facts;
+          wiped = search facts;
+          replaced = search facts;
+          replacement = search facts;
+        };
+        issued = search facts;
+        own = at-is i _ (search facts);
+        links = search facts;
+      }
+
+  asked-of : Asked n t i r → standingRight n t i r ≡ true
+  unfolding standingRight valuesRight namesRight materialRight
+  asked-of a =
+      let own : isAt i (find n t (r .serial)) ≡ true = at-of i _ (a .own) in
+      search tests
+
+module _ (n : ℕ) (t : List ℕ) where
+  place-free : (i : ℕ) → serialAt t i ≡ 0 → placeRight n t i ≡ freeRight n t i
+  unfolding placeRight
+  place-free i z = ifb-true _ _ _ (eq-eqb (serialAt t i) 0 z)
+
+  place-standing : (i : ℕ) → Stands t i → placeRight n t i ≡ standingRight n t i (placeAt n t i)
+  unfolding placeRight
+  place-standing i s = ifb-false _ _ _ (ne-eqb (serialAt t i) 0 s)
+
+  pub whole-of : Sound n t → wholeRight n t ≡ true
+  unfolding wholeRight sizeRight countRight leadRight
+  whole-of h = and-i _ _ (and-i _ _ (eq-eqb (length t) (sizeOf n) (h .size)) (eq-eqb (placesSaid t) n (h .count))) (h .lead)
+
+  pub place-of : Sound n t → (i : ℕ) → i < n → placeRight n t i ≡ true
+  unfolding freeRight zerosRight
+  place-of h i l = elim (ℕ-discrete (serialAt t i) 0) [
+    | yes z ↦ place-free i z ∙ and-i _ _ (h .free i l z .line) (h .free i l z .body)
+    | no s ↦ place-standing i s ∙ asked-of n t i (placeAt n t i) (record {
+      zeros = h .zeros i l s;
+      right = fit-of (lastSerial t) (placeAt n t i) (h .fit i l s);
+      issued = rw (serial-is n t i) at (h .issued i l);
+      own = ap (find n t) (sym (serial-is n t i)) ∙ find-own n t (h .distinct) i l s;
+      links = links-of n t (placeAt n t i) (record {
+        replaced = λ j g u q. h .replaced i j l g s u q ∙ serial-is n t i;
+        replacement = λ j g u q. h .replacement i j l g s u q ∙ serial-is n t i;
+      });
+    })
+  ]
+
+  -- a table whose lead and every place pass is sound
+  pub checked-sound : wholeRight n t ≡ true → ((i : ℕ) → i < n → placeRight n t i ≡ true) → sound n t ≡ true
+  unfolding wholeRight sizeRight countRight leadRight freeRight zerosRight
+  checked-sound w p =
+      let asked : (i : ℕ) → i < n → Stands t i → Asked n t i (placeAt n t i) = λ i l s. asked-is n t i (placeAt n t i) (sym (place-standing i s) ∙ p i l) in
+      let alone : Distinct n t = own-distinct n t (λ i l s. ap (find n t) (serial-is n t i) ∙ asked i l s .own) in
+      let linked : (i : ℕ) → i < n → Stands t i → Linked n t (placeAt n t i) = λ i l s. links-is n t alone (placeAt n t i) (asked i l s .links) in
+      sound-of n t (record {
+        size = search facts;
+        count = search facts;
+        lead = search facts;
+        free = λ i l z. let g : freeRight n t i ≡ true = sym (place-free i z) ∙ p i l in
+            record { line = and-l (allZero (part t (lineOf i) lineSize)) _ g; body = and-r (allZero (part t (lineOf i) lineSize)) _ g };
+        zeros = λ i l s. asked i l s .zeros;
+        distinct = alone;
+        issued = λ i l. elim (ℕ-discrete (serialAt t i) 0) [ yes z ↦ omega arith | no s ↦ rw (serial-is n t i) (asked i l s .issued) ];
+        fit = λ i l s. fit-is (lastSerial t) (placeAt n t i) (asked i l s .right);
+        replaced = λ i j l g s u q. linked i l s .replaced j g u q ∙ sym (serial-is n t i);
+        replacement = λ i j l g s u q. linked i l s .replacement j g u q ∙ sym (serial-is n t i);
+      })

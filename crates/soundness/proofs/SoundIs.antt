@@ -1,0 +1,327 @@
+-- A sound table as plain facts, and the test and the facts each from the other.
+-- Assumes nothing.
+use mathlib.Core.Path.{_≡_, refl, sym, ap, _∙_}
+use mathlib.Core.Logic.{_⊎_, inl, inr, ⊎-elim}
+use Prim.Native.Nat.{ℕ, zero, suc, _+_, _-_, _/_, _≤_, _<_}
+use native.Mathlib.Omega.{arith}
+use native.Mathlib.Decide.{ℕ-discrete}
+use mathlib.Core.Bool.{Bool, true, false, not, _&&_, false≢true}
+use mathlib.Core.Option.{Option, none, some}
+use mathlib.Core.List.{List, [], _∷_, map}
+use lib.ListN.{length, drop}
+use lib.Dec.{leb, ltb, eqb}
+use borrow.Author.Tests.{eq-eqb, ne-eqb, le-leb, lt-ltb, eqb-true, eqb-false, leb-true, ltb-true, not-true}
+use Rattle.octets.specs.Maybe.{isSome}
+use Rattle.octets.specs.Octets.{part, allZero}
+use Rattle.octets.proofs.If.{ifb-true, ifb-false, on-bool}
+use Rattle.table.specs.declared.Record.{Record}
+use Rattle.table.specs.declared.Found.{Found}
+use Rattle.table.specs.declared.Found.the-variants.{At, Nothing}
+use Rattle.table.specs.Layout.{lineSize, bodySize, lineOf, bodyOf, sizeOf}
+use Rattle.table.specs.Records.{placeAt, serialAt, isFree, zerosIn, lastSerial, placesSaid, leadZeros}
+use Rattle.table.specs.Search.{isNothing, find, isDestroyed}
+use Rattle.table.proofs.First.{isNothing-is, none-fails, fails-none}
+use Rattle.table.proofs.Places.{serial-is}
+use Rattle.table.proofs.Finds.{find-nonzero, find-below, find-serial, find-only}
+use Rattle.soundness.specs.Sound.{Fault, standingRules, bitsOk, unitOk, totalOk, sizeRight, countRight, leadRight, freeRight, zerosRight, isTwin, distinctRight, issuedRight, stateRight, bitsRight, maskRight, limitRight, tailRight, wipedRight, replacedRight, replacementRight, ifStands, namesReplaced, namesReplacement, linksRight, breaksFree, breaksStanding, firstFault, sound}
+use Rattle.soundness.proofs.Bools.{and-l, and-r, and-i, or-cases, or-l, or-r, yes-unless, no-unless, not-both, facts, tests}
+use Rattle.soundness.proofs.Faults.{Faultless, fault-none, none-fault, Unbroken, Test}
+
+-- ---- the facts
+
+-- a record stands at place i
+abbrev pub Stands : List ℕ → ℕ → Type 0
+Stands t i = serialAt t i ≡ 0 → ⊥
+
+-- no usage limit
+pub record Unlimited (r : Record) : Type 0 where
+  pub unit : r .unit ≡ 0
+  pub total : r .total ≡ 0
+  pub count : r .count ≡ 0
+
+-- a usage limit
+pub record Limited (r : Record) : Type 0 where
+  pub unit : unitOk (r .unit) ≡ true
+  pub least : 1 ≤ r .total
+  pub most : r .total ≤ 1_000_000_000_000
+  pub count : r .count ≤ r .total
+
+-- what a record that stands shows by itself, where serials up to `last` have been issued
+pub record Fit (last : ℕ) (r : Record) : Type 0 where
+  pub low : 1 ≤ r .state
+  pub high : r .state ≤ 6
+  pub bits : bitsOk (r .bits) ≡ true
+  pub mask : r .mask ≤ 0x00FFFFFF
+  pub limit : Unlimited r ⊎ Limited r
+  pub tail : allZero (drop (r .bits / 8) (r .material)) ≡ true
+  pub wiped : isDestroyed (r .state) ≡ true → allZero (r .material) ≡ true
+  pub replaced : (r .replaced ≡ 0) ⊎ (r .replaced < r .serial)
+  pub replacement : (r .replacement ≡ 0) ⊎ ((r .serial < r .replacement) × (r .replacement ≤ last))
+
+-- a place with nothing in it
+pub record Empty (n : ℕ) (t : List ℕ) (i : ℕ) : Type 0 where
+  pub line : allZero (part t (lineOf i) lineSize) ≡ true
+  pub body : allZero (part t (bodyOf n i) bodySize) ≡ true
+
+-- a table of n places that breaks no rule
+pub record Sound (n : ℕ) (t : List ℕ) : Type 0 where
+  pub size : length t ≡ sizeOf n
+  pub count : placesSaid t ≡ n
+  pub lead : allZero (leadZeros t) ≡ true
+  pub free : (i : ℕ) → i < n → serialAt t i ≡ 0 → Empty n t i
+  pub zeros : (i : ℕ) → i < n → Stands t i → allZero (part t (bodyOf n i + zerosIn) 4) ≡ true
+  pub distinct : (i j : ℕ) → i < n → j < n → Stands t i → serialAt t i ≡ serialAt t j → i ≡ j
+  pub issued : (i : ℕ) → i < n → serialAt t i ≤ lastSerial t
+  pub fit : (i : ℕ) → i < n → Stands t i → Fit (lastSerial t) (placeAt n t i)
+  pub replaced : (i j : ℕ) → i < n → j < n → Stands t i → Stands t j → placeAt n t i .replaced ≡ serialAt t j → placeAt n t j .replacement ≡ serialAt t i
+  pub replacement : (i j : ℕ) → i < n → j < n → Stands t i → Stands t j → placeAt n t i .replacement ≡ serialAt t j → placeAt n t j .replaced ≡ serialAt t i
+
+-- ---- searches by serial
+
+module _ (n : ℕ) (t : List ℕ) where
+  -- the serials of records that stand are distinct
+  abbrev pub Distinct : Type 0
+  Distinct = (i j : ℕ) → i < n → j < n → Stands t i → serialAt t i ≡ serialAt t j → i ≡ j
+
+  -- so each record is found by its serial
+  pub find-own : Distinct → (i : ℕ) → i < n → Stands t i → find n t (serialAt t i) ≡ At i
+  find-own d i h s = find-only n t (serialAt t i) i s h refl (λ j g e. sym (d i j h g s (sym e)))
+
+  -- and where each record is found by its serial the serials are distinct
+  pub own-distinct : ((i : ℕ) → i < n → Stands t i → find n t (serialAt t i) ≡ At i) → Distinct
+  own-distinct own i j h g s e =
+      let a : find n t (serialAt t i) ≡ At i = own i h s in
+      let b : find n t (serialAt t j) ≡ At j = own j g (λ z. s (e ∙ z)) in
+      cc
+
+-- ---- a record's own rules
+
+limit-is : (r : Record) → limitRight r ≡ true → Unlimited r ⊎ Limited r
+unfolding limitRight
+limit-is r e =
+    on-bool (eqb (r .unit) 0)
+    (λ u. let h : (eqb (r .total) 0 && eqb (r .count) 0) ≡ true = sym (ifb-true _ _ _ u) ∙ e in inl (search facts))
+    (λ u. let h : (unitOk (r .unit) && totalOk (r .total) && leb (r .count) (r .total)) ≡ true = sym (ifb-false _ _ _ u) ∙ e in inr (search facts))
+
+limit-of : (r : Record) → Unlimited r ⊎ Limited r → limitRight r ≡ true
+unfolding limitRight
+limit-of r (inl h) = ifb-true _ _ _ (eq-eqb (r .unit) 0 (h .unit)) ∙ search tests
+limit-of r (inr h) =
+    let u : eqb (r .unit) 0 ≡ false = ne-eqb (r .unit) 0 (λ z. false≢true (sym (ap unitOk z) ∙ h .unit)) in
+    ifb-false _ _ _ u ∙ search tests
+
+replaced-is : (r : Record) → replacedRight r ≡ true → (r .replaced ≡ 0) ⊎ (r .replaced < r .serial)
+unfolding replacedRight
+replaced-is r e = ⊎-elim (λ z. inl (eqb-true (r .replaced) 0 z)) (λ z. inr (ltb-true (r .replaced) (r .serial) z)) (or-cases _ _ e)
+
+replaced-of : (r : Record) → (r .replaced ≡ 0) ⊎ (r .replaced < r .serial) → replacedRight r ≡ true
+unfolding replacedRight
+replaced-of r (inl h) = or-l _ _ (eq-eqb (r .replaced) 0 h)
+replaced-of r (inr h) = or-r (eqb (r .replaced) 0) _ (lt-ltb (r .replaced) (r .serial) h)
+
+replacement-is : (last : ℕ) (r : Record) → replacementRight last r ≡ true → (r .replacement ≡ 0) ⊎ ((r .serial < r .replacement) × (r .replacement ≤ last))
+unfolding replacementRight
+replacement-is last r e = ⊎-elim (λ z. inl (eqb-true (r .replacement) 0 z)) (λ z. inr (search facts)) (or-cases _ _ e)
+
+replacement-of : (last : ℕ) (r : Record) → (r .replacement ≡ 0) ⊎ ((r .serial < r .replacement) × (r .replacement ≤ last)) → replacementRight last r ≡ true
+unfolding replacementRight
+replacement-of last r (inl h) = or-l _ _ (eq-eqb (r .replacement) 0 h)
+replacement-of last r (inr h) = or-r (eqb (r .replacement) 0) (ltb (r .serial) (r .replacement) && leb (r .replacement) last) (search tests)
+
+-- the eight rules of a record by itself
+pub record Right (last : ℕ) (r : Record) : Type 0 where
+  pub state : stateRight r ≡ true
+  pub bits : bitsRight r ≡ true
+  pub mask : maskRight r ≡ true
+  pub limit : limitRight r ≡ true
+  pub tail : tailRight r ≡ true
+  pub wiped : wipedRight r ≡ true
+  pub replaced : replacedRight r ≡ true
+  pub replacement : replacementRight last r ≡ true
+
+pub fit-is : (last : ℕ) (r : Record) → Right last r → Fit last r
+unfolding stateRight bitsRight maskRight tailRight wipedRight
+fit-is last r h = record {
+  low = leb-true 1 (r .state) (and-l (leb 1 (r .state)) (leb (r .state) 6) (h .state));
+  high = leb-true (r .state) 6 (and-r (leb 1 (r .state)) (leb (r .state) 6) (h .state));
+  bits = h .bits;
+  mask = leb-true (r .mask) 0x00FFFFFF (h .mask);
+  limit = limit-is r (h .limit);
+  tail = h .tail;
+  wiped = λ d. sym (ifb-true _ _ _ d) ∙ h .wiped;
+  replaced = replaced-is r (h .replaced);
+  replacement = replacement-is last r (h .replacement);
+}
+
+pub fit-of : (last : ℕ) (r : Record) → Fit last r → Right last r
+unfolding stateRight bitsRight maskRight tailRight wipedRight
+fit-of last r h = record {
+  state = and-i _ _ (le-leb 1 (r .state) (h .low)) (le-leb (r .state) 6 (h .high));
+  bits = h .bits;
+  mask = le-leb (r .mask) 0x00FFFFFF (h .mask);
+  limit = limit-of r (h .limit);
+  tail = h .tail;
+  wiped = on-bool (isDestroyed (r .state)) (λ d. ifb-true _ _ _ d ∙ h .wiped d) (λ d. ifb-false _ _ _ d);
+  replaced = replaced-of r (h .replaced);
+  replacement = replacement-of last r (h .replacement);
+}
+
+-- ---- the rules on two places
+
+stands-is : (test : ℕ → Bool) (f : Found) (j : ℕ) → ifStands test f ≡ true → f ≡ At j → test j ≡ true
+unfolding ifStands
+stands-is test (At i) j e q = let z : i ≡ j = cc in ap test (sym z) ∙ e
+stands-is test Nothing j e q = let z : _≡_ {A = ℕ} 0 1 = cc in absurd (omega arith)
+
+stands-of : (test : ℕ → Bool) (f : Found) → ((j : ℕ) → f ≡ At j → test j ≡ true) → ifStands test f ≡ true
+unfolding ifStands
+stands-of test (At i) h = h i refl
+stands-of test Nothing h = refl
+
+module _ (n : ℕ) (t : List ℕ) where
+  pub distinct-is : ((i : ℕ) → i < n → Stands t i → distinctRight n t i ≡ true) → Distinct n t
+  unfolding distinctRight
+  distinct-is right i j h g s e =
+      let none : isTwin t i j ≡ false = none-fails n (isTwin t i) (isNothing-is _ (right i h s)) j g in
+      elim (ℕ-discrete j i) [
+        | yes q ↦ sym q
+        | no q ↦ absurd (not-both _ (and-i (not (eqb j i)) (eqb (serialAt t j) (serialAt t i)) (ap not (ne-eqb j i q)) (eq-eqb (serialAt t j) (serialAt t i) (sym e))) none)
+      ]
+
+  pub distinct-of : Distinct n t → (i : ℕ) → i < n → Stands t i → distinctRight n t i ≡ true
+  unfolding distinctRight isNothing
+  distinct-of d i h s =
+      let none : (j : ℕ) → j < n → isTwin t i j ≡ false = λ j g. no-unless (isTwin t i j) (λ e.
+      let q : j ≡ i → ⊥ = eqb-false j i (not-true (eqb j i) (and-l (not (eqb j i)) (eqb (serialAt t j) (serialAt t i)) e)) in
+      let p : serialAt t j ≡ serialAt t i = eqb-true _ _ (and-r (not (eqb j i)) (eqb (serialAt t j) (serialAt t i)) e) in
+      q (sym (d i j h g s (sym p)))) in
+      ap isNothing (fails-none n (isTwin t i) none)
+
+  -- the links of one record
+  pub record Linked (r : Record) : Type 0 where
+    pub replaced : (j : ℕ) → j < n → Stands t j → r .replaced ≡ serialAt t j → placeAt n t j .replacement ≡ r .serial
+    pub replacement : (j : ℕ) → j < n → Stands t j → r .replacement ≡ serialAt t j → placeAt n t j .replaced ≡ r .serial
+
+  pub links-is : Distinct n t → (r : Record) → linksRight n t r ≡ true → Linked r
+  unfolding linksRight
+  links-is d r e =
+      let back : Bool = ifStands (namesReplacement n t (r .serial)) (find n t (r .replaced)) in
+      let forth : Bool = ifStands (namesReplaced n t (r .serial)) (find n t (r .replacement)) in
+      record {
+        replaced = λ j h s q. eqb-true _ _ (stands-is (namesReplacement n t (r .serial)) _ j (and-l back forth e) (ap (find n t) q ∙ find-own n t d j h s));
+        replacement = λ j h s q. eqb-true _ _ (stands-is (namesReplaced n t (r .serial)) _ j (and-r back forth e) (ap (find n t) q ∙ find-own n t d j h s));
+      }
+
+  -- a place found by a serial that a link names
+  linked-at : {P : Type 0} (serial j : ℕ) → find n t serial ≡ At j → (j < n → Stands t j → serial ≡ serialAt t j → P) → P
+  linked-at serial j e f = f (find-below n t serial j e) (λ z. find-nonzero n t serial j e (sym (find-serial n t serial j e) ∙ z)) (sym (find-serial n t serial j e))
+
+  pub links-of : (r : Record) → Linked r → linksRight n t r ≡ true
+  unfolding linksRight
+  links-of r l =
+      and-i _ _
+      (stands-of _ _ (λ j e. eq-eqb _ _ (linked-at (r .replaced) j e (l .replaced j))))
+      (stands-of _ _ (λ j e. eq-eqb _ _ (linked-at (r .replacement) j e (l .replacement j))))
+
+-- ---- the whole
+
+-- a place that breaks no rule keeps the one asked of it
+module _ (n : ℕ) (t : List ℕ) (i : ℕ) where
+  free-kept : breaksFree n t i ≡ false → serialAt t i ≡ 0 → freeRight n t i ≡ true
+  unfolding breaksFree
+  free-kept e z = yes-unless _ (λ f. not-both _ (and-i (isFree t i) (not (freeRight n t i)) (eq-eqb (serialAt t i) 0 z) (ap not f)) e)
+
+  kept-free : (serialAt t i ≡ 0 → freeRight n t i ≡ true) → breaksFree n t i ≡ false
+  unfolding breaksFree
+  kept-free h =
+      no-unless _ (λ e. not-both (freeRight n t i) (h (eqb-true (serialAt t i) 0 (and-l (isFree t i) (not (freeRight n t i)) e)))
+      (not-true (freeRight n t i) (and-r (isFree t i) (not (freeRight n t i)) e)))
+
+  standing-kept : (rule : ℕ → List ℕ → ℕ → Bool) → breaksStanding rule n t i ≡ false → Stands t i → rule n t i ≡ true
+  unfolding breaksStanding
+  standing-kept rule e s = yes-unless _ (λ f. not-both _ (and-i (not (isFree t i)) (not (rule n t i)) (ap not (ne-eqb (serialAt t i) 0 s)) (ap not f)) e)
+
+  kept-standing : (rule : ℕ → List ℕ → ℕ → Bool) → (Stands t i → rule n t i ≡ true) → breaksStanding rule n t i ≡ false
+  unfolding breaksStanding
+  kept-standing rule h =
+      no-unless _ (λ e. not-both (rule n t i) (h (eqb-false (serialAt t i) 0 (not-true (isFree t i) (and-l (not (isFree t i)) (not (rule n t i)) e))))
+      (not-true (rule n t i) (and-r (not (isFree t i)) (not (rule n t i)) e)))
+
+no-fault : (f : Option Fault) → not (isSome f) ≡ true → f ≡ none
+unfolding isSome
+no-fault none e = refl
+no-fault (some f) e = absurd (false≢true e)
+
+module _ (n : ℕ) (t : List ℕ) where
+  pub sound-is : sound n t ≡ true → Sound n t
+  unfolding sound sizeRight countRight leadRight freeRight zerosRight issuedRight
+  sound-is e =
+      let f : Faultless n t = fault-none n t (no-fault (firstFault n t) e) in
+      let alone : Distinct n t = distinct-is n t (λ i h s. standing-kept n t i distinctRight (f .places 2 i h) s) in
+      let linked : (i : ℕ) → i < n → Stands t i → Linked n t (placeAt n t i)
+      = λ i h s. links-is n t alone (placeAt n t i) (standing-kept n t i (λ n t i. linksRight n t (placeAt n t i)) (f .places 12 i h) s) in
+      record {
+        size = eqb-true (length t) (sizeOf n) (f .whole 0);
+        count = eqb-true (placesSaid t) n (f .whole 1);
+        lead = f .whole 2;
+        free = λ i h z. let g : freeRight n t i ≡ true = free-kept n t i (f .places 0 i h) z in
+            record { line = and-l (allZero (part t (lineOf i) lineSize)) _ g; body = and-r (allZero (part t (lineOf i) lineSize)) _ g };
+        zeros = λ i h s. standing-kept n t i zerosRight (f .places 1 i h) s;
+        distinct = alone;
+        issued = λ i h. elim (ℕ-discrete (serialAt t i) 0) [
+          | yes z ↦ omega arith
+          | no s ↦ leb-true (serialAt t i) (lastSerial t) (standing-kept n t i issuedRight (f .places 3 i h) s)
+        ];
+        fit = λ i h s. fit-is (lastSerial t) (placeAt n t i) (record {
+          state = standing-kept n t i (λ n t i. stateRight (placeAt n t i)) (f .places 4 i h) s;
+          bits = standing-kept n t i (λ n t i. bitsRight (placeAt n t i)) (f .places 5 i h) s;
+          mask = standing-kept n t i (λ n t i. maskRight (placeAt n t i)) (f .places 6 i h) s;
+          limit = standing-kept n t i (λ n t i. limitRight (placeAt n t i)) (f .places 7 i h) s;
+          tail = standing-kept n t i (λ n t i. tailRight (placeAt n t i)) (f .places 8 i h) s;
+          wiped = standing-kept n t i (λ n t i. wipedRight (placeAt n t i)) (f .places 9 i h) s;
+          replaced = standing-kept n t i (λ n t i. replacedRight (placeAt n t i)) (f .places 10 i h) s;
+          replacement = standing-kept n t i (λ n t i. replacementRight (lastSerial t) (placeAt n t i)) (f .places 11 i h) s;
+        });
+        replaced = λ i j h g s u q. linked i h s .replaced j g u q ∙ sym (serial-is n t i);
+        replacement = λ i j h g s u q. linked i h s .replacement j g u q ∙ sym (serial-is n t i);
+      }
+
+-- each rule of a list holds at every standing place
+data Kept (n : ℕ) (t : List ℕ) : List Test → Type 0 where
+  end : Kept n t []
+  also : {rule : Test} {rules : List Test} → ((i : ℕ) → i < n → Stands t i → rule n t i ≡ true) → Kept n t rules → Kept n t (rule ∷ rules)
+
+module _ (n : ℕ) (t : List ℕ) where
+  kept-unbroken : (rules : List Test) → Kept n t rules → Unbroken (map breaksStanding rules) n t
+  kept-unbroken [] end = λ m j l. refl
+  kept-unbroken (rule ∷ rules) (also h k) =
+      let g : Unbroken (map breaksStanding rules) n t = kept-unbroken rules k in
+      λ m. elim m [ zero ↦ (λ i l. kept-standing n t i rule (h i l)) | suc m ↦ g m ]
+
+  pub sound-of : Sound n t → sound n t ≡ true
+  unfolding sound sizeRight countRight leadRight freeRight zerosRight issuedRight isSome
+  sound-of h =
+      let right : (i : ℕ) → i < n → Stands t i → Right (lastSerial t) (placeAt n t i) = λ i l s. fit-of (lastSerial t) (placeAt n t i) (h .fit i l s) in
+      let linked : (i : ℕ) → i < n → Stands t i → Linked n t (placeAt n t i) = λ i l s. record {
+        replaced = λ j g u q. h .replaced i j l g s u q ∙ serial-is n t i;
+        replacement = λ j g u q. h .replacement i j l g s u q ∙ serial-is n t i;
+      } in
+      let standing : Kept n t standingRules =
+      also (h .zeros)
+      (also (distinct-of n t (h .distinct))
+      (also (λ i l s. le-leb (serialAt t i) (lastSerial t) (h .issued i l))
+      (also (λ i l s. right i l s .state)
+      (also (λ i l s. right i l s .bits)
+      (also (λ i l s. right i l s .mask)
+      (also (λ i l s. right i l s .limit)
+      (also (λ i l s. right i l s .tail)
+      (also (λ i l s. right i l s .wiped)
+      (also (λ i l s. right i l s .replaced)
+      (also (λ i l s. right i l s .replacement)
+      (also (λ i l s. links-of n t (placeAt n t i) (linked i l s)) end))))))))))) in
+      let free : (i : ℕ) → i < n → serialAt t i ≡ 0 → freeRight n t i ≡ true = λ i l z. and-i _ _ (h .free i l z .line) (h .free i l z .body) in
+      let f : Faultless n t = record {
+        whole = λ m. elim m [ zero ↦ eq-eqb (length t) (sizeOf n) (h .size) | suc m ↦ elim m [ zero ↦ eq-eqb (placesSaid t) n (h .count) | suc m ↦ elim m [ zero ↦ h .lead | suc m ↦ refl ] ] ];
+        places = λ m. elim m [ zero ↦ (λ i l. kept-free n t i (free i l)) | suc m ↦ kept-unbroken standingRules standing m ];
+      } in
+      ap (λ (o : Option Fault). not (isSome o)) (none-fault n t f)

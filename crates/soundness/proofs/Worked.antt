@@ -1,0 +1,137 @@
+-- Worked cases, by computation: the blank table, tables with keys, and for each rule a table whose first fault it is.
+-- Assumes nothing.
+use mathlib.Core.Path.{_≡_, refl}
+use Prim.Native.Nat.{ℕ, _+_}
+use mathlib.Core.Bool.{Bool, true, _&&_}
+use mathlib.Core.Option.{some}
+use mathlib.Core.List.{List, [], _∷_, _++_, map}
+use lib.ListN.{replicate, set}
+use Rattle.octets.specs.If.{ifb}
+use Rattle.octets.specs.Maybe.{isSome}
+use Rattle.octets.specs.Octets.{be, fromBe, fromBeAfter, all}
+use Rattle.table.specs.declared.Record.{Record}
+use Rattle.table.specs.Layout.{bodyOf, placeCount}
+use Rattle.table.specs.Records.{line, body, recordOf, placeAt, withPlace, serialAt, lastSerial, withLast, placesSaid, zerosIn, blank}
+use Rattle.table.specs.Search.{firstFrom, isNothing, find}
+use Rattle.soundness.specs.Sound.{sizeRight, countRight, leadRight, freeRight, zerosRight, distinctRight, issuedRight, stateRight, bitsRight, maskRight, limitRight, tailRight, wipedRight, replacedRight, replacementRight, ifStands, linksRight, breaksFree, breaksStanding, whole, atPlace, orLater, standingFault, placeFault, wholeFault, firstFault, sound}
+
+-- a key of 128 bits with a limit of 100 objects
+abbrev key : ℕ → Record
+key serial = record {
+  serial = serial;
+  state = 2;
+  unit = 2;
+  bits = 128;
+  replaced = 0;
+  replacement = 0;
+  total = 100;
+  count = 90;
+  mask = 4;
+  material = replicate 16 7 ++ replicate 16 0;
+}
+
+-- the same key, but for one value or two
+abbrev withValues : ℕ → ℕ → ℕ → ℕ → Record → Record
+withValues state bits mask count r = record {
+  serial = r .serial;
+  state = state;
+  unit = r .unit;
+  bits = bits;
+  replaced = r .replaced;
+  replacement = r .replacement;
+  total = r .total;
+  count = count;
+  mask = mask;
+  material = r .material;
+}
+
+abbrev withLinks : ℕ → ℕ → Record → Record
+withLinks replaced replacement r = record {
+  serial = r .serial;
+  state = r .state;
+  unit = r .unit;
+  bits = r .bits;
+  replaced = replaced;
+  replacement = replacement;
+  total = r .total;
+  count = r .count;
+  mask = r .mask;
+  material = r .material;
+}
+
+abbrev withMaterial : List ℕ → Record → Record
+withMaterial material r = record {
+  serial = r .serial;
+  state = r .state;
+  unit = r .unit;
+  bits = r .bits;
+  replaced = r .replaced;
+  replacement = r .replacement;
+  total = r .total;
+  count = r .count;
+  mask = r .mask;
+  material = material;
+}
+
+-- four places, of which 1 and 2 hold keys; serials up to 3 have been issued
+abbrev pair : Record → Record → List ℕ
+pair p q = withLast (withPlace 4 (withPlace 4 (blank 4) 1 p) 2 q) 3
+
+abbrev good : List ℕ
+good = pair (key 1) (key 2)
+
+-- one table for each rule, in the order of the rules
+abbrev faulty : List (List ℕ)
+faulty =
+    (good ++ (0 ∷ []))
+    ∷ set good 7 5
+    ∷ set good 8 1
+    ∷ set good (bodyOf 4 3 + 55) 1
+    ∷ set good (bodyOf 4 1 + zerosIn) 1
+    ∷ pair (key 2) (key 2)
+    ∷ pair (key 1) (key 4)
+    ∷ pair (withValues 7 128 4 90 (key 1)) (key 2)
+    ∷ pair (key 1) (withValues 2 64 4 90 (key 2))
+    ∷ pair (withValues 2 128 0x01000000 90 (key 1)) (key 2)
+    ∷ pair (key 1) (withValues 2 128 4 101 (key 2))
+    ∷ pair (withMaterial (replicate 32 7) (key 1)) (key 2)
+    ∷ pair (key 1) (withValues 5 128 4 90 (key 2))
+    ∷ pair (key 1) (withLinks 2 0 (key 2))
+    ∷ pair (withLinks 0 4 (key 1)) (key 2)
+    ∷ pair (key 1) (withLinks 1 0 (key 2))
+    ∷ []
+
+-- what is wrong with each
+pub faults : map (firstFault 4) faulty
+    ≡ some (whole 1)
+    ∷ some (whole 2)
+    ∷ some (whole 3)
+    ∷ some (atPlace 4 3)
+    ∷ some (atPlace 5 1)
+    ∷ some (atPlace 6 1)
+    ∷ some (atPlace 7 2)
+    ∷ some (atPlace 8 1)
+    ∷ some (atPlace 9 2)
+    ∷ some (atPlace 10 1)
+    ∷ some (atPlace 11 2)
+    ∷ some (atPlace 12 1)
+    ∷ some (atPlace 13 2)
+    ∷ some (atPlace 14 2)
+    ∷ some (atPlace 15 1)
+    ∷ some (atPlace 16 2)
+    ∷ []
+unfolding ifb be fromBe fromBeAfter all line body recordOf placeAt withPlace serialAt lastSerial withLast placesSaid blank firstFrom isNothing find sizeRight countRight leadRight freeRight zerosRight distinctRight issuedRight stateRight bitsRight maskRight limitRight tailRight wipedRight replacedRight replacementRight ifStands linksRight breaksFree breaksStanding orLater standingFault placeFault wholeFault firstFault
+faults = refl
+
+-- tables with nothing wrong: two keys; a key and its replacement; a key whose replacement stands no more; the table that the box starts with; one key in it
+abbrev right : Bool
+right =
+    sound 4 good
+    && sound 4 (pair (withLinks 0 2 (key 1)) (withLinks 1 0 (key 2)))
+    && sound 4 (pair (withLinks 0 3 (key 1)) (key 2))
+    && sound placeCount (blank placeCount)
+    && sound placeCount (withLast (withPlace placeCount (blank placeCount) 40 (key 9)) 9)
+
+pub none-wrong : right ≡ true
+unfolding ifb isSome be fromBe fromBeAfter all line body recordOf placeAt withPlace serialAt lastSerial withLast placesSaid blank firstFrom isNothing find sizeRight countRight leadRight freeRight zerosRight distinctRight issuedRight stateRight bitsRight maskRight limitRight tailRight wipedRight replacedRight replacementRight ifStands linksRight breaksFree breaksStanding orLater standingFault placeFault wholeFault firstFault sound
+none-wrong = refl

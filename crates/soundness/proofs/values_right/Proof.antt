@@ -1,0 +1,41 @@
+use borrow.Author.Needs.{needs}
+use Rattle.soundness.proofs.values_right.Statement.{statement}
+use Rattle.soundness.proofs.values_right.Tie as tie
+use Rattle.soundness.proofs.values_right.Reads as reads
+use Rattle.soundness.proofs.values_right.Lts as lts
+use Rattle.soundness.proofs.bits_ok.Reads as bits-ok-reads
+use Rattle.soundness.proofs.limit_right.Reads as limit-right-reads
+use Rattle.soundness.proofs.mask_ok.Reads as mask-ok-reads
+use Prim.Native.Nat.{_-_}
+use Rattle.soundness.specs.Sound.{stateRight, bitsRight, maskRight}
+use Rattle.soundness.specs.Checked.{valuesRight}
+
+cast-bits-ok : tie.Need-cast-bits-ok
+cast-bits-ok c = search needs
+
+bits-ok-requires : tie.Need-bits-ok-requires
+bits-ok-requires c κs = search needs
+
+cast-mask-ok : tie.Need-cast-mask-ok
+cast-mask-ok c = search needs
+
+mask-ok-requires : tie.Need-mask-ok-requires
+mask-ok-requires c κs = search needs
+
+limit-right-requires : tie.Need-limit-right-requires
+limit-right-requires c κs = search needs
+
+returns : tie.Need-returns
+unfolding valuesRight stateRight bitsRight maskRight
+returns c = rw (c .before .before .before .bits-ok .ensures, c .before .mask-ok .ensures, c .limit-right .ensures)
+
+pub values-right-spec : {M : Type 1} → statement M
+values-right-spec =
+    tie.close
+    (tie.spec
+    cast-bits-ok
+    bits-ok-requires
+    cast-mask-ok
+    mask-ok-requires
+    limit-right-requires
+    returns)

@@ -1,0 +1,43 @@
+-- What the check asks of the whole table and of one place after the other, each place once; that it asks what `sound` asks is a law.
+-- Assumes nothing.
+use Prim.Native.Nat.{ℕ}
+use mathlib.Core.Bool.{Bool, true, false, _&&_}
+use mathlib.Core.List.{List}
+use lib.Dec.{leb, eqb}
+use Rattle.octets.specs.If.{ifb}
+use Rattle.table.specs.declared.Record.{Record}
+use Rattle.table.specs.declared.Found.{Found}
+use Rattle.table.specs.declared.Found.the-variants.{At, Nothing}
+use Rattle.table.specs.Records.{placeAt, isFree, lastSerial}
+use Rattle.table.specs.Search.{find}
+use Rattle.soundness.specs.Sound.{sizeRight, countRight, leadRight, freeRight, zerosRight, stateRight, bitsRight, maskRight, limitRight, tailRight, wipedRight, replacedRight, replacementRight, linksRight}
+
+-- rules 1 to 3
+unfoldable pub wholeRight : ℕ → List ℕ → Bool
+wholeRight n t = sizeRight n t && countRight n t && leadRight n t
+
+-- rules 8 to 11: the numbers of a record
+unfoldable pub valuesRight : Record → Bool
+valuesRight r = stateRight r && bitsRight r && maskRight r && limitRight r
+
+-- rules 7 and 14 to 15: the serials that a record names, where `last` is the last issued
+unfoldable pub namesRight : ℕ → Record → Bool
+namesRight last r = leb (r .serial) last && replacedRight r && replacementRight last r
+
+-- rules 12 and 13: the material
+unfoldable pub materialRight : Record → Bool
+materialRight r = tailRight r && wipedRight r
+
+-- a search found this place
+unfoldable pub isAt : ℕ → Found → Bool
+isAt i (At j) = eqb j i
+isAt i Nothing = false
+
+-- rules 5 to 16 at place i, where r stands: its serial is distinct if the search for it gives this place
+unfoldable pub standingRight : ℕ → List ℕ → ℕ → Record → Bool
+standingRight n t i r =
+    zerosRight n t i && valuesRight r && materialRight r && namesRight (lastSerial t) r && isAt i (find n t (r .serial)) && linksRight n t r
+
+-- rules 4 to 16 at place i
+unfoldable pub placeRight : ℕ → List ℕ → ℕ → Bool
+placeRight n t i = ifb (isFree t i) (freeRight n t i) (standingRight n t i (placeAt n t i))
