@@ -7,3 +7,4 @@ pub mod Lead
 pub mod First
 pub mod Finds
 pub mod Blank
+pub mod Unique
