@@ -1,0 +1,5 @@
+-- The laws of a record's life.
+-- Assumes nothing.
+pub mod Tests
+pub mod States
+pub mod Grants
