@@ -3,3 +3,4 @@
 pub mod Tests
 pub mod States
 pub mod Grants
+pub mod Material
