@@ -25,8 +25,8 @@ module _ (state unit count amount : ℕ) where
     module _ (limited : unit ≡ 0 → ⊥) where
       pub too-much : count < amount → granting state unit count amount ≡ Denied UsageLimitExceeded
       unfolding granting grantTests due ifb leftUnless
-      too-much h = rw (is, ne-eqb _ _ limited, lt-ltb _ _ h)
+      too-much h = rw (is, ne-eqb _ _ limited, lt-ltb)
 
       pub takes-off : amount ≤ count → granting state unit count amount ≡ Left (count - amount)
       unfolding granting grantTests due ifb leftUnless
-      takes-off h = rw (is, ne-eqb _ _ limited, le-ltb _ _ h)
+      takes-off h = rw (is, ne-eqb _ _ limited, le-ltb)

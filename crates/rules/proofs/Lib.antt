@@ -4,3 +4,6 @@ pub mod Tests
 pub mod States
 pub mod Grants
 pub mod Material
+pub mod Unique
+pub mod Listed
+pub mod Moves
