@@ -50,7 +50,7 @@ destroyedCompromised = 6
 -- ---- reasons
 
 -- the Result Reason number of each failure, from the enumeration of KMIP 2.1
-unfoldable pub reasonNumber : Reason → ℕ
+abbrev pub reasonNumber : Reason → ℕ
 reasonNumber OperationNotSupported = 0x05
 reasonNumber InvalidField = 0x07
 reasonNumber PermissionDenied = 0x0C

@@ -1,6 +1,6 @@
 -- 01, "Operations": how a record begins, is replaced, moves and is destroyed.
 -- Assumes nothing.
-use Prim.Native.Nat.{ℕ, _-_, _/_}
+use Prim.Native.Nat.{ℕ, _/_}
 use mathlib.Core.List.{List, _++_}
 use lib.ListN.{take, replicate}
 use lib.Dec.{eqb}
@@ -10,9 +10,9 @@ use Rattle.table.specs.Layout.{materialSize}
 use Rattle.rules.specs.declared.Attributes.{Attributes}
 use Rattle.rules.specs.Numbers.{destroy, preActive}
 
--- "the first length/8 of them": what is kept of a part of the fresh strip, zero past the length
+-- "the first length/8 of them": what is kept of a part of the fresh strip, zero past the length; 32 bytes, whatever the part is
 unfoldable pub materialFrom : ℕ → List ℕ → List ℕ
-materialFrom bits fresh = take (bits / 8) fresh ++ replicate (materialSize - bits / 8) 0
+materialFrom bits fresh = take materialSize (take (bits / 8) fresh ++ replicate materialSize 0)
 
 -- "Starts Pre-Active, count = total, both link serials 0"
 unfoldable pub newRecord : ℕ → Attributes → List ℕ → Record

@@ -1,0 +1,103 @@
+-- Laws of new material: the first bytes of a part of the fresh strip, then zeros, 32 in all.
+-- Assumes nothing.
+use mathlib.Core.Path.{_≡_, refl, sym, ap, _∙_}
+use Prim.Native.Nat.{ℕ, zero, suc, _+_, _-_, _/_, _≤_, _<_, min}
+use native.Mathlib.Omega.{arith}
+use native.Mathlib.Decide.{decLe}
+use mathlib.Core.Bool.{true}
+use mathlib.Core.List.{List, _++_}
+use lib.ListN.{length, take, drop, replicate, length-append, length-take, length-replicate, replicate-append-replicate}
+use lib.Seq.{sets, length-take-le, take-append-le, take-append-add, take-take, take-at, drop-at}
+use Rattle.octets.specs.Octets.{Bytes, allZero, all, over}
+use Rattle.octets.proofs.Numbers.{bytes-append, bytes-take}
+use Rattle.octets.proofs.Stores.{take-there, sets-whole, sets-over}
+use Rattle.table.specs.Layout.{materialSize}
+use Rattle.rules.specs.Records.{materialFrom}
+
+-- ---- zeros
+
+abbrev pub zeros : ℕ → List ℕ
+zeros n = replicate n 0
+
+pub all-zeros : (n : ℕ) → allZero (zeros n) ≡ true
+unfolding all
+all-zeros zero = refl
+all-zeros (suc n) = all-zeros n
+
+pub bytes-zeros : (n : ℕ) → Bytes (zeros n)
+bytes-zeros zero = tt
+bytes-zeros (suc n) = (omega arith, bytes-zeros n)
+
+module _ (l m : ℕ) where
+  zeros-split : zeros (l + m) ≡ zeros l ++ zeros m
+  zeros-split = sym (replicate-append-replicate {A = ℕ} l m 0)
+
+  pub take-zeros : take l (zeros (l + m)) ≡ zeros l
+  take-zeros = ap (take l) zeros-split ∙ take-at (zeros l) (zeros m) l (length-replicate l 0)
+
+  pub drop-zeros : drop l (zeros (l + m)) ≡ zeros m
+  drop-zeros = ap (drop l) zeros-split ∙ drop-at (zeros l) (zeros m) l (length-replicate l 0)
+
+-- ---- what fits, with zeros up to 32
+
+module _ (xs : List ℕ) (h : length xs ≤ materialSize) where
+  pub padded : take materialSize (xs ++ zeros materialSize) ≡ xs ++ zeros (materialSize - length xs)
+  padded =
+      let a : materialSize ≡ length xs + (materialSize - length xs) = omega arith in
+      let b : materialSize ≡ materialSize - length xs + length xs = omega arith in
+      ap (λ (n : ℕ). take n (xs ++ zeros materialSize)) a
+      ∙ take-append-add xs (zeros materialSize) (materialSize - length xs)
+      ∙ ap (λ (n : ℕ). xs ++ take (materialSize - length xs) (zeros n)) b
+      ∙ ap (λ (s : List ℕ). xs ++ s) (take-zeros (materialSize - length xs) (length xs))
+
+  pub over-zeros : over xs (zeros materialSize) ≡ xs ++ zeros (materialSize - length xs)
+  over-zeros =
+      let a : materialSize ≡ length xs + (materialSize - length xs) = omega arith in
+      ap (λ (n : ℕ). xs ++ drop (length xs) (zeros n)) a ∙ ap (λ (s : List ℕ). xs ++ s) (drop-zeros (length xs) (materialSize - length xs))
+
+-- ---- material
+
+module _ (bits : ℕ) (fresh : List ℕ) where
+  -- stored over 32 zeros
+  pub material-stored : (end : ℕ) → end ≡ min (bits / 8) (min materialSize (length fresh)) → sets (zeros materialSize) 0 (take end fresh) ≡ materialFrom bits fresh
+  unfolding materialFrom
+  material-stored end e = elim (decLe (length (take (bits / 8) fresh)) materialSize) [
+    | yes h ↦ (
+        let l = length-take (bits / 8) fresh in
+        let m : end ≡ length (take (bits / 8) fresh) = omega arith in
+        ap (λ (k : ℕ). sets (zeros materialSize) 0 (take k fresh)) m
+        ∙ ap (sets (zeros materialSize) 0) (take-there (bits / 8) fresh)
+        ∙ sets-over (take (bits / 8) fresh) (zeros materialSize) h
+        ∙ over-zeros (take (bits / 8) fresh) h
+        ∙ sym (padded (take (bits / 8) fresh) h))
+    | no h ↦ (
+        let l = length-take (bits / 8) fresh in
+        let m : end ≡ materialSize = omega arith in
+        ap (λ (k : ℕ). sets (zeros materialSize) 0 (take k fresh)) m
+        ∙ sets-whole (zeros materialSize) (take materialSize fresh) (length-take materialSize fresh ∙ omega arith)
+        ∙ sym (take-append-le materialSize (take (bits / 8) fresh) (zeros materialSize) (omega arith) ∙ take-take materialSize (bits / 8) fresh (omega arith)))
+  ]
+
+  pub length-material : length (materialFrom bits fresh) ≡ materialSize
+  unfolding materialFrom
+  length-material = rw (length-take, length-append, length-replicate) (omega arith)
+
+  pub bytes-material : Bytes fresh → Bytes (materialFrom bits fresh)
+  unfolding materialFrom
+  bytes-material b =
+      bytes-take materialSize (take (bits / 8) fresh ++ zeros materialSize)
+      (bytes-append (take (bits / 8) fresh) (zeros materialSize) (bytes-take (bits / 8) fresh b) (bytes-zeros materialSize))
+
+  -- where there is as much as the length asks, it is that and then zeros
+  pub material-plain : bits / 8 ≤ materialSize → bits / 8 ≤ length fresh → materialFrom bits fresh ≡ take (bits / 8) fresh ++ zeros (materialSize - bits / 8)
+  unfolding materialFrom
+  material-plain h k =
+      let l : length (take (bits / 8) fresh) ≡ bits / 8 = length-take-le (bits / 8) fresh k in
+      padded (take (bits / 8) fresh) (omega arith) ∙ ap (λ (n : ℕ). take (bits / 8) fresh ++ zeros (materialSize - n)) l
+
+  -- zero past the length
+  pub material-tail : bits / 8 ≤ materialSize → bits / 8 ≤ length fresh → allZero (drop (bits / 8) (materialFrom bits fresh)) ≡ true
+  material-tail h k =
+      ap (λ (s : List ℕ). allZero (drop (bits / 8) s)) (material-plain h k)
+      ∙ ap allZero (drop-at (take (bits / 8) fresh) (zeros (materialSize - bits / 8)) (bits / 8) (length-take-le (bits / 8) fresh k))
+      ∙ all-zeros (materialSize - bits / 8)
