@@ -11,5 +11,6 @@ pub mod Deeper
 pub mod Well
 pub mod Tree
 pub mod Message
+pub mod Step
 pub mod Small
 pub mod Eight

@@ -203,3 +203,33 @@ pub fn read_first(s: &[u8]) -> First
     let n = octets::number(&s[4..8]) as usize;
     head_first(s, tag, s[3], n)
 }
+
+// Whether s is a run of items by the rules, with structures at most `depth` deep.
+pub fn check(s: &[u8], depth: usize) -> bool
+    ensures { λ r. ⌜ r ≡ isSome (parse depth (now (s .entry))) ⌝ }
+{
+    if depth == 0 {
+        return s.len() == 0;
+    }
+    let mut t = s;
+    loop {
+        match read_first(t) {
+            First::End => return true,
+            First::Bad => return false,
+            First::Value {
+                tag: _,
+                kind: _,
+                len: _,
+                next,
+            } => {
+                t = &t[next..];
+            }
+            First::Group { tag: _, next } => {
+                if !check(&t[8..next], depth - 1) {
+                    return false;
+                }
+                t = &t[next..];
+            }
+        }
+    }
+}
