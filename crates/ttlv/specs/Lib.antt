@@ -3,4 +3,6 @@
 pub mod Types
 pub mod Items
 pub mod Parse
+pub mod Tree
 pub mod Fields
+pub mod Found
