@@ -1,0 +1,3 @@
+-- The laws of written items.
+-- Assumes nothing.
+pub mod Puts
