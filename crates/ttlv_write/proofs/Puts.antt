@@ -15,7 +15,8 @@ use Rattle.octets.proofs.Numbers.{length-be, be-zero}
 use Rattle.octets.proofs.Stores.{sets-append, sets-over}
 use Rattle.ttlv.specs.Types.{padded}
 use Rattle.ttlv.specs.Items.{Items, nil, value, group, head, padding, encode}
-use Rattle.ttlv_write.specs.Write.{Wrote}
+use Rattle.ttlv_write.proofs.Sizes.{length-head, length-value}
+use Rattle.ttlv_write.specs.Write.{item, Wrote, WroteValue}
 
 -- b is stored from the front on, and then d right behind it
 pub puts-then : (zs b d : List ℕ) {xs ys : List ℕ} (a : ℕ) → xs ≡ sets zs 0 b → length b ≡ a → ys ≡ sets xs a d → ys ≡ sets zs 0 (b ++ d)
@@ -34,15 +35,7 @@ head-puts tag kind n zs h e₁ e₂ e₃ =
     let l : length (be 3 tag ++ be 1 kind) ≡ 4 = rw (length-append, length-be 3 tag, length-be 1 kind) in
     puts-then zs (be 3 tag ++ be 1 kind) (be 4 n) 4 two l e₃ ∙ rw (one-byte kind h, append-assoc)
 
-pub length-head : (tag kind n : ℕ) → length (head tag kind n) ≡ 8
-length-head tag kind n = rw (length-append, length-be 3 tag) (rw (length-be 4 n))
-
 -- ---- one value
-
-pub length-value : (tag kind : ℕ) (v : List ℕ) → length (encode (value tag kind v nil)) ≡ 8 + padded (length v)
-unfolding encode
-length-value tag kind v =
-    rw (append-nil, length-append (head tag kind (length v)) (v ++ padding (length v)), length-head, length-append v (padding (length v)), length-replicate) (omega arith)
 
 -- head, value and w zeros
 value-puts : (tag kind n w : ℕ) (v zs : List ℕ) {t₁ t₂ t₃ : List ℕ} → length v ≡ n → w ≡ padded n - n
@@ -67,3 +60,11 @@ pub wrote-value : (ok : Bool) (tag kind n w : ℕ) (v zs : List ℕ) {t₁ t₂ 
 wrote-value ok tag kind n w v zs h l p room e₁ e₂ e₃ =
     let size : length (encode (value tag kind v nil)) ≤ length zs = rw (length-value, l) room in
     wrote-all ok (8 + padded n) (encode (value tag kind v nil)) zs h size (value-puts tag kind n w v zs l p e₁ e₂ e₃)
+
+-- a value that its type may refuse
+module _ (right : Bool) (tag kind : ℕ) (v room : List ℕ) where
+  pub wrote-right : {after : List ℕ} {r : ℕ} → right ≡ true → WroteValue true tag kind v room after r → WroteValue right tag kind v room after r
+  wrote-right e w = rw e w
+
+  pub wrote-wrong : right ≡ false → WroteValue right tag kind v room room 0
+  wrote-wrong e = wrote-none _ (8 + padded (length v)) (encode (item tag kind v)) room (rw e)

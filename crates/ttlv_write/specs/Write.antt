@@ -1,6 +1,6 @@
 -- 01, "TTLV", written into lent room: one item over the front, or nothing where it does not fit or would not read back.
 -- Assumes nothing.
-use Prim.Native.Nat.{ℕ, _+_, _%_, _^_}
+use Prim.Native.Nat.{ℕ, _+_, _%_, _^_, _≤_}
 use mathlib.Core.Path.{_≡_}
 use mathlib.Core.Bool.{Bool, true, false, _&&_}
 use mathlib.Core.List.{List}
@@ -8,8 +8,8 @@ use lib.ListN.{length}
 use lib.Dec.{leb, ltb, eqb}
 use Rattle.octets.specs.If.{ifb}
 use Rattle.octets.specs.Octets.{be, over}
-use Rattle.ttlv.specs.Types.{padded, boolean, text}
-use Rattle.ttlv.specs.Items.{Items, nil, value, group}
+use Rattle.ttlv.specs.Types.{structure, padded}
+use Rattle.ttlv.specs.Items.{Items, nil, value, group, head, encode}
 
 -- a tag by its last two bytes; the first is 42 hex
 abbrev pub tagOf : ℕ → ℕ
@@ -53,17 +53,42 @@ spelled n = ltb n (256 ^ 4)
 abbrev pub valueFits : List ℕ → ℕ → Bool
 valueFits room n = spelled n && fits room (8 + padded n)
 
--- the same of a Text String, which is text besides
-abbrev pub textFits : List ℕ → List ℕ → Bool
-textFits room v = text v && valueFits room (length v)
+-- a multiple of 8: the length of a structure's body
+abbrev pub eighths : ℕ → Bool
+eighths n = eqb (n % 8) 0
 
--- a structure's body of n bytes has a length that can be spelled and that items have, and the head fits
-abbrev pub headFits : List ℕ → ℕ → Bool
-headFits room n = spelled n && eqb (n % 8) 0 && fits room 8
+-- the length of a Big Integer
+abbrev pub bigLength : ℕ → Bool
+bigLength n = leb 8 n && eighths n
 
 -- ---- what a writer answers
 
--- where the test holds, the answer is `size` and the bytes stand over the front of the room; where not, it is 0 and the room is as it was
+-- where the test holds, the answer is `size` and b stands over the front of the room; where not, it is 0 and the room is as it was
 pub record Wrote (ok : Bool) (size : ℕ) (b room after : List ℕ) (r : ℕ) : Type 0 where
   pub answer : r ≡ ifb ok size 0
   pub bytes : after ≡ ifb ok (over b room) room
+
+-- an item of four bytes, which takes 16 in all
+abbrev pub WroteWord : ℕ → ℕ → ℕ → List ℕ → List ℕ → ℕ → Type 0
+WroteWord tag kind bits room after r = Wrote (fits room 16) 16 (encode (wordItem tag kind bits)) room after r
+
+-- an item of eight bytes, which takes 16 in all
+abbrev pub WroteLong : ℕ → ℕ → ℕ → List ℕ → List ℕ → ℕ → Type 0
+WroteLong tag kind bits room after r = Wrote (fits room 16) 16 (encode (longItem tag kind bits)) room after r
+
+-- an item with the value v, if its type allows it
+abbrev pub WroteValue : Bool → ℕ → ℕ → List ℕ → List ℕ → List ℕ → ℕ → Type 0
+WroteValue right tag kind v room after r =
+    Wrote (right && valueFits room (length v)) (8 + padded (length v)) (encode (item tag kind v)) room after r
+
+-- the head of a structure with a body of n bytes
+abbrev pub WroteHead : ℕ → ℕ → List ℕ → List ℕ → ℕ → Type 0
+WroteHead tag n room after r = Wrote (spelled n && eighths n && fits room 8) 8 (head (tagOf tag) structure n) room after r
+
+-- ---- what a room holds after writes
+
+-- the room has b over its front, n bytes, and past them what it had before
+pub record Holds (b room after : List ℕ) (n : ℕ) : Type 0 where
+  pub size : n ≡ length b
+  pub bytes : after ≡ over b room
+  pub within : n ≤ length room

@@ -3,14 +3,15 @@
 use Prim.Native.Nat.{_≤_, _%_, _^_}
 use native.Mathlib.Omega.{arith}
 use mathlib.Core.Path.{_≡_, refl}
-use mathlib.Core.Bool.{true}
+use mathlib.Core.Bool.{true, _&&_}
 use lib.ListN.{length}
 use lib.Dec.{ltb, eqb}
 use borrow.Author.Tests.{le-leb, lt-leb, lt-ltb, le-ltb, eq-eqb, ne-eqb}
 use Rattle.ttlv.specs.Items.{head}
 use Rattle.ttlv.specs.Types.{structure}
-use Rattle.ttlv_write.specs.Write.{tagOf, headFits}
-use Rattle.ttlv_write.proofs.Puts.{wrote-all, wrote-none, length-head}
+use Rattle.ttlv_write.specs.Write.{tagOf, spelled, eighths, fits}
+use Rattle.ttlv_write.proofs.Puts.{wrote-all, wrote-none}
+use Rattle.ttlv_write.proofs.Sizes.{length-head}
 use borrow.Author.Needs.{needs}
 use Rattle.ttlv_write.proofs.write_structure.Statement.{statement}
 use Rattle.ttlv_write.proofs.write_structure.Tie as tie
@@ -33,8 +34,8 @@ returns-3 : tie.Need-returns-3
 returns-3 c =
     let a = c .before .before .before .before .args in
     let short : ltb (a .len) (256 ^ 4) ≡ true = lt-ltb (a .len) (256 ^ 4) (omega arith) in
-    let eighths : eqb (a .len % 8) 0 ≡ true = eq-eqb (a .len % 8) 0 (omega arith) in
-    wrote-none _ 8 (head (tagOf (a .tag)) structure (a .len)) (a .out .now) (rw (short, eighths, lt-leb 8 (length (a .out .now)) (c .if3 .taken)))
+    let whole : eqb (a .len % 8) 0 ≡ true = eq-eqb (a .len % 8) 0 (omega arith) in
+    wrote-none _ 8 (head (tagOf (a .tag)) structure (a .len)) (a .out .now) (rw (short, whole, lt-leb 8 (length (a .out .now)) (c .if3 .taken)))
 
 put-head-requires : tie.Need-put-head-requires
 put-head-requires c κs = search needs
@@ -47,9 +48,9 @@ returns-4 c =
     let a = c .before .before .before .before .before .before .before .before .args in
     let h = head (tagOf (a .tag)) structure (a .len) in
     let short : ltb (a .len) (256 ^ 4) ≡ true = lt-ltb (a .len) (256 ^ 4) (omega arith) in
-    let eighths : eqb (a .len % 8) 0 ≡ true = eq-eqb (a .len % 8) 0 (omega arith) in
+    let whole : eqb (a .len % 8) 0 ≡ true = eq-eqb (a .len % 8) 0 (omega arith) in
     let room : 8 ≤ length (a .out .now) = omega arith in
-    let fit : headFits (a .out .now) (a .len) ≡ true = rw (short, eighths, le-leb 8 (length (a .out .now)) room) in
+    let fit : (spelled (a .len) && eighths (a .len) && fits (a .out .now) 8) ≡ true = rw (short, whole, le-leb 8 (length (a .out .now)) room) in
     let l : length h ≤ length (a .out .now) = rw (length-head (tagOf (a .tag)) structure (a .len)) room in
     wrote-all _ 8 h (a .out .now) fit l (c .before .before .put-head .ensures)
 
