@@ -4,3 +4,4 @@ pub mod Sizes
 pub mod Puts
 pub mod Holds
 pub mod Sample
+pub mod Unique
