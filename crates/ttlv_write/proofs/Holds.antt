@@ -12,10 +12,11 @@ use Rattle.octets.specs.Octets.{be, over}
 use Rattle.octets.specs.If.{ifb}
 use Rattle.octets.proofs.If.{ifb-true}
 use Rattle.octets.proofs.Over.{length-over, over-front, lent, lent-then, lent-length}
-use Rattle.ttlv.specs.Types.{structure, padded}
+use Rattle.ttlv.specs.Types.{structure, padded, lengthOk}
 use Rattle.ttlv.specs.Items.{Items, nil, value, group, head, encode}
-use Rattle.ttlv_write.specs.Write.{tagOf, item, wordItem, longItem, join, spelled, eighths, fits, valueFits, Wrote, WroteWord, WroteLong, WroteValue, WroteHead, Holds}
-use Rattle.ttlv_write.proofs.Sizes.{length-head, length-value, length-word, length-long, length-group, length-join, encode-join, encode-group, encode-eighths}
+use Rattle.ttlv.proofs.Back.{eights}
+use Rattle.ttlv_write.specs.Write.{tagOf, item, wordItem, longItem, join, spelled, fits, valueFits, Wrote, WroteWord, WroteLong, WroteValue, WroteHead, Holds}
+use Rattle.ttlv_write.proofs.Sizes.{length-head, length-value, length-word, length-long, length-group, length-join, encode-join, encode-group}
 
 -- ---- a write that fits
 
@@ -48,11 +49,15 @@ holds-value right tag kind v {room} e n l w =
     let ok : (right && valueFits room (length v)) ≡ true = rw (e, lt-ltb (length v) (256 ^ 4) n, le-leb (8 + padded (length v)) (length room) l) in
     holds-wrote ok (sym (length-value (tagOf tag) kind v)) l w
 
+body-length : (n : ℕ) → n % 8 ≡ 0 → lengthOk structure n ≡ true
+unfolding lengthOk ifb
+body-length n e = eq-eqb (n % 8) 0 e
+
 -- the head of a body that is items
 pub holds-head : (tag n : ℕ) (b : Items) {room after : List ℕ} {r : ℕ} → n ≡ length (encode b) → n < 256 ^ 4 → 8 ≤ length room
     → WroteHead tag n room after r → Holds (head (tagOf tag) structure n) room after r
 holds-head tag n b {room} e s l w =
-    let ok : (spelled n && eighths n && fits room 8) ≡ true = rw (lt-ltb n (256 ^ 4) s, eq-eqb (n % 8) 0 (rw e (encode-eighths b)), le-leb 8 (length room) l) in
+    let ok : (spelled n && lengthOk structure n && fits room 8) ≡ true = rw (lt-ltb n (256 ^ 4) s, body-length n (rw e (eights b)), le-leb 8 (length room) l) in
     holds-wrote ok (sym (length-head (tagOf tag) structure n)) l w
 
 -- ---- one behind another

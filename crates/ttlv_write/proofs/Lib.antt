@@ -4,4 +4,5 @@ pub mod Sizes
 pub mod Puts
 pub mod Holds
 pub mod Sample
+pub mod Writable
 pub mod Unique

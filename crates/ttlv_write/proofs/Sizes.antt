@@ -1,8 +1,7 @@
 -- The sizes of items in bytes, and runs of items joined to runs.
 -- Assumes nothing.
 use mathlib.Core.Path.{_≡_, refl, sym, ap, _∙_}
-use Prim.Native.Nat.{ℕ, _+_, _-_, _*_, _/_, _%_}
-use native.Mathlib.Nat.{add-assoc}
+use Prim.Native.Nat.{ℕ, _+_}
 use native.Mathlib.Omega.{arith}
 use mathlib.Core.List.{List, [], _∷_, _++_, append-assoc, append-nil}
 use lib.ListN.{length, replicate, length-append, length-replicate}
@@ -64,19 +63,10 @@ join-assoc (value tag kind v rest) u w = ap (value tag kind v) (join-assoc rest 
 join-assoc (group tag body rest) u w = ap (group tag body) (join-assoc rest u w)
 
 -- an item, and then others
-pub join-value : (tag kind : ℕ) (v : List ℕ) (u : Items) → join (value tag kind v nil) u ≡ value tag kind v u
+pub encode-value : (tag kind : ℕ) (v : List ℕ) (u : Items) → encode (value tag kind v u) ≡ encode (value tag kind v nil) ++ encode u
 unfolding join
-join-value tag kind v u = refl
+encode-value tag kind v u = encode-join (value tag kind v nil) u
 
-pub join-group : (tag : ℕ) (b u : Items) → join (group tag b nil) u ≡ group tag b u
+pub encode-group-then : (tag : ℕ) (b u : Items) → encode (group tag b u) ≡ encode (group tag b nil) ++ encode u
 unfolding join
-join-group tag b u = refl
-
--- ---- every run takes a multiple of 8 bytes
-
-pub encode-eighths : (t : Items) → length (encode t) % 8 ≡ 0
-encode-eighths nil = rw encode-nil
-encode-eighths (value tag kind v rest) =
-    rw (← join-value, length-join, length-value) (omega (arith, encode-eighths rest))
-encode-eighths (group tag body rest) =
-    rw (← join-group, length-join, length-group) (omega (arith, encode-eighths rest, encode-eighths body))
+encode-group-then tag b u = encode-join (group tag b nil) u

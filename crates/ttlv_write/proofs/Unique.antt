@@ -25,6 +25,8 @@ use Rattle.ttlv_write.proofs.write_boolean.Reads as write-boolean
 use Rattle.ttlv_write.proofs.write_boolean.Kinds as write-boolean-kinds
 use Rattle.ttlv_write.proofs.write_bytes.Reads as write-bytes
 use Rattle.ttlv_write.proofs.write_bytes.Kinds as write-bytes-kinds
+use Rattle.ttlv_write.proofs.write_text.Reads as write-text
+use Rattle.ttlv_write.proofs.write_text.Kinds as write-text-kinds
 use Rattle.ttlv_write.proofs.write_big_integer.Reads as write-big-integer
 use Rattle.ttlv_write.proofs.write_big_integer.Kinds as write-big-integer-kinds
 use Rattle.ttlv_write.proofs.write_structure.Reads as write-structure
@@ -64,6 +66,10 @@ write-boolean-unique κs a r r′ s s′ p q = wrote-unique p q
 pub write-bytes-unique : (κs : Lfts 2) (a : Dens κs write-bytes-kinds.ps) (r r′ : resT write-bytes-kinds.r κs .Denot) (s s′ : AtExit (endedOf 2 write-bytes-kinds.ps write-bytes-kinds.r) κs)
     → write-bytes.Post κs a r s → write-bytes.Post κs a r′ s′ → (r ≡ r′) × (now (s .0) ≡ now (s′ .0))
 write-bytes-unique κs a r r′ s s′ p q = wrote-unique p q
+
+pub write-text-unique : (κs : Lfts 2) (a : Dens κs write-text-kinds.ps) (r r′ : resT write-text-kinds.r κs .Denot) (s s′ : AtExit (endedOf 2 write-text-kinds.ps write-text-kinds.r) κs)
+    → write-text.Post κs a r s → write-text.Post κs a r′ s′ → (r ≡ r′) × (now (s .0) ≡ now (s′ .0))
+write-text-unique κs a r r′ s s′ p q = wrote-unique p q
 
 pub write-big-integer-unique : (κs : Lfts 2) (a : Dens κs write-big-integer-kinds.ps) (r r′ : resT write-big-integer-kinds.r κs .Denot) (s s′ : AtExit (endedOf 2 write-big-integer-kinds.ps write-big-integer-kinds.r) κs)
     → write-big-integer.Post κs a r s → write-big-integer.Post κs a r′ s′ → (r ≡ r′) × (now (s .0) ≡ now (s′ .0))

@@ -1,15 +1,15 @@
 -- 01, "TTLV", written into lent room: one item over the front, or nothing where it does not fit or would not read back.
 -- Assumes nothing.
-use Prim.Native.Nat.{ℕ, _+_, _%_, _^_, _≤_}
+use Prim.Native.Nat.{ℕ, _+_, _^_, _≤_}
 use mathlib.Core.Path.{_≡_}
 use mathlib.Core.Bool.{Bool, true, false, _&&_}
 use mathlib.Core.List.{List}
 use lib.ListN.{length}
-use lib.Dec.{leb, ltb, eqb}
+use lib.Dec.{leb, ltb}
 use Rattle.octets.specs.If.{ifb}
 use Rattle.octets.specs.Octets.{be, over}
-use Rattle.ttlv.specs.Types.{structure, padded}
-use Rattle.ttlv.specs.Items.{Items, nil, value, group, head, encode}
+use Rattle.ttlv.specs.Types.{structure, padded, lengthOk}
+use Rattle.ttlv.specs.Items.{Items, nil, value, group, head, encode, wellFormed}
 
 -- a tag by its last two bytes; the first is 42 hex
 abbrev pub tagOf : ℕ → ℕ
@@ -53,13 +53,9 @@ spelled n = ltb n (256 ^ 4)
 abbrev pub valueFits : List ℕ → ℕ → Bool
 valueFits room n = spelled n && fits room (8 + padded n)
 
--- a multiple of 8: the length of a structure's body
-abbrev pub eighths : ℕ → Bool
-eighths n = eqb (n % 8) 0
-
--- the length of a Big Integer
-abbrev pub bigLength : ℕ → Bool
-bigLength n = leb 8 n && eighths n
+-- what all these tests say: the item reads back, and the room has place for it
+abbrev pub writable : Items → List ℕ → Bool
+writable t room = wellFormed 1 t && fits room (length (encode t))
 
 -- ---- what a writer answers
 
@@ -81,9 +77,9 @@ abbrev pub WroteValue : Bool → ℕ → ℕ → List ℕ → List ℕ → List 
 WroteValue right tag kind v room after r =
     Wrote (right && valueFits room (length v)) (8 + padded (length v)) (encode (item tag kind v)) room after r
 
--- the head of a structure with a body of n bytes
+-- the head of a structure with a body of n bytes, if a body can have so many
 abbrev pub WroteHead : ℕ → ℕ → List ℕ → List ℕ → ℕ → Type 0
-WroteHead tag n room after r = Wrote (spelled n && eighths n && fits room 8) 8 (head (tagOf tag) structure n) room after r
+WroteHead tag n room after r = Wrote (spelled n && lengthOk structure n && fits room 8) 8 (head (tagOf tag) structure n) room after r
 
 -- ---- what a room holds after writes
 
