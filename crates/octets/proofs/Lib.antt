@@ -5,3 +5,4 @@ pub mod Numbers
 pub mod Stores
 pub mod Over
 pub mod All
+pub mod Unique

@@ -1,0 +1,72 @@
+-- The sizes of items in bytes, and runs of items joined to runs.
+-- Assumes nothing.
+use mathlib.Core.Path.{_≡_, refl, sym, ap, _∙_}
+use Prim.Native.Nat.{ℕ, _+_}
+use native.Mathlib.Omega.{arith}
+use mathlib.Core.List.{List, [], _∷_, _++_, append-assoc, append-nil}
+use lib.ListN.{length, replicate, length-append, length-replicate}
+use Rattle.octets.specs.Octets.{be}
+use Rattle.octets.proofs.Numbers.{length-be}
+use Rattle.ttlv.specs.Types.{structure, padded}
+use Rattle.ttlv.specs.Items.{Items, nil, value, group, head, padding, encode}
+use Rattle.ttlv_write.specs.Write.{wordItem, longItem, join}
+
+-- ---- sizes
+
+pub encode-nil : encode nil ≡ []
+unfolding encode
+encode-nil = refl
+
+pub length-head : (tag kind n : ℕ) → length (head tag kind n) ≡ 8
+length-head tag kind n = rw (length-append, length-be 3 tag) (rw (length-be 4 n))
+
+pub length-value : (tag kind : ℕ) (v : List ℕ) → length (encode (value tag kind v nil)) ≡ 8 + padded (length v)
+unfolding encode
+length-value tag kind v =
+    rw (append-nil, length-append (head tag kind (length v)) (v ++ padding (length v)), length-head, length-append v (padding (length v)), length-replicate) (omega arith)
+
+pub length-word : (tag kind bits : ℕ) → length (encode (wordItem tag kind bits)) ≡ 16
+length-word tag kind bits = length-value _ kind (be 4 bits) ∙ rw (length-be 4 bits)
+
+pub length-long : (tag kind bits : ℕ) → length (encode (longItem tag kind bits)) ≡ 16
+length-long tag kind bits = length-value _ kind (be 8 bits) ∙ rw (length-be 8 bits)
+
+-- a structure is its head and its body
+pub encode-group : (tag : ℕ) (b : Items) → encode (group tag b nil) ≡ head tag structure (length (encode b)) ++ encode b
+unfolding encode
+encode-group tag b = rw append-nil
+
+pub length-group : (tag : ℕ) (b : Items) → length (encode (group tag b nil)) ≡ 8 + length (encode b)
+length-group tag b = rw (encode-group, length-append, length-head)
+
+-- ---- items behind items
+
+pub encode-join : (t u : Items) → encode (join t u) ≡ encode t ++ encode u
+unfolding encode join
+encode-join nil u = refl
+encode-join (value tag kind v rest) u = rw (encode-join rest u) (simp append-assoc)
+encode-join (group tag body rest) u = rw (encode-join rest u) (simp append-assoc)
+
+pub length-join : (t u : Items) → length (encode (join t u)) ≡ length (encode t) + length (encode u)
+length-join t u = rw (encode-join, length-append)
+
+pub join-nil : (t : Items) → join t nil ≡ t
+unfolding join
+join-nil nil = refl
+join-nil (value tag kind v rest) = ap (value tag kind v) (join-nil rest)
+join-nil (group tag body rest) = ap (group tag body) (join-nil rest)
+
+pub join-assoc : (t u w : Items) → join (join t u) w ≡ join t (join u w)
+unfolding join
+join-assoc nil u w = refl
+join-assoc (value tag kind v rest) u w = ap (value tag kind v) (join-assoc rest u w)
+join-assoc (group tag body rest) u w = ap (group tag body) (join-assoc rest u w)
+
+-- an item, and then others
+pub encode-value : (tag kind : ℕ) (v : List ℕ) (u : Items) → encode (value tag kind v u) ≡ encode (value tag kind v nil) ++ encode u
+unfolding join
+encode-value tag kind v u = encode-join (value tag kind v nil) u
+
+pub encode-group-then : (tag : ℕ) (b u : Items) → encode (group tag b u) ≡ encode (group tag b nil) ++ encode u
+unfolding join
+encode-group-then tag b u = encode-join (group tag b nil) u

@@ -1,0 +1,104 @@
+-- The writers' tests are the right ones: an item is written exactly when it reads back and the room has place for it.
+-- Assumes nothing. A tag's last two bytes are below 65536, which every u16 is.
+use mathlib.Core.Path.{_≡_, refl, sym, ap, _∙_}
+use mathlib.Core.Bool.{Bool, true, false, not, _&&_, and-assoc, and-true}
+use mathlib.Core.Option.{some}
+use Prim.Native.Nat.{ℕ, suc, _+_, _/_, _%_, _^_, _<_}
+use native.Mathlib.Omega.{arith}
+use mathlib.Core.List.{List}
+use lib.ListN.{length, take, drop}
+use lib.Seq.{take-at}
+use lib.Dec.{eqb, leb}
+use borrow.Author.Tests.{eq-eqb}
+use Rattle.octets.specs.If.{ifb}
+use Rattle.octets.specs.Octets.{be, fromBe, fromBeAfter}
+use Rattle.octets.proofs.If.{ifb-false, on-bool}
+use Rattle.octets.proofs.Numbers.{length-be}
+use Rattle.ttlv.specs.Types.{structure, integer, longInteger, bigInteger, enumeration, boolean, textString, byteString, dateTime, interval, dateTimeExtended, padded, lengthOk, valueOk, text}
+use Rattle.ttlv.specs.Items.{Items, nil, value, group, encode, tagOk, itemOk, wellFormed}
+use Rattle.ttlv.specs.Parse.{parse}
+use Rattle.ttlv.proofs.Back.{parse-back}
+use Rattle.ttlv.proofs.Bools.{both}
+use Rattle.ttlv_write.specs.Write.{tagOf, item, wordItem, longItem, bit, fits, spelled, valueFits, writable, Wrote}
+use Rattle.ttlv_write.proofs.Sizes.{length-value}
+use Rattle.ttlv_write.proofs.Holds.{wrote-size, wrote-bytes}
+
+tag-right : (tag : ℕ) → tag < 65536 → tagOk (tagOf tag) ≡ true
+tag-right tag h = eq-eqb ((0x420000 + tag) / 65536) 0x42 (omega arith)
+
+-- what the type table says of a value
+abbrev allowed : ℕ → List ℕ → Bool
+allowed kind v = not (eqb kind structure) && lengthOk kind (length v) && valueOk kind v
+
+module _ (tag : ℕ) (room : List ℕ) (h : tag < 65536) where
+  value-writable : (kind : ℕ) (v : List ℕ) → writable (item tag kind v) room ≡ (allowed kind v && valueFits room (length v))
+  unfolding itemOk wellFormed
+  value-writable kind v = rw (tag-right tag h, length-value) (simp (and-assoc, and-true))
+
+  -- ---- each writer
+
+  word-writable : (kind bits : ℕ) → allowed kind (be 4 bits) ≡ true → writable (wordItem tag kind bits) room ≡ fits room 16
+  word-writable kind bits e = value-writable kind (be 4 bits) ∙ rw (e, length-be 4 bits)
+
+  long-writable : (kind bits : ℕ) → allowed kind (be 8 bits) ≡ true → writable (longItem tag kind bits) room ≡ fits room 16
+  long-writable kind bits e = value-writable kind (be 8 bits) ∙ rw (e, length-be 8 bits)
+
+  pub integer-writable : (bits : ℕ) → writable (wordItem tag integer bits) room ≡ fits room 16
+  unfolding lengthOk valueOk ifb
+  integer-writable bits = word-writable integer bits (rw (length-be 4 bits))
+
+  pub enumeration-writable : (bits : ℕ) → writable (wordItem tag enumeration bits) room ≡ fits room 16
+  unfolding lengthOk valueOk ifb
+  enumeration-writable bits = word-writable enumeration bits (rw (length-be 4 bits))
+
+  pub interval-writable : (bits : ℕ) → writable (wordItem tag interval bits) room ≡ fits room 16
+  unfolding lengthOk valueOk ifb
+  interval-writable bits = word-writable interval bits (rw (length-be 4 bits))
+
+  pub long-integer-writable : (bits : ℕ) → writable (longItem tag longInteger bits) room ≡ fits room 16
+  unfolding lengthOk valueOk ifb
+  long-integer-writable bits = long-writable longInteger bits (rw (length-be 8 bits))
+
+  pub date-time-writable : (bits : ℕ) → writable (longItem tag dateTime bits) room ≡ fits room 16
+  unfolding lengthOk valueOk ifb
+  date-time-writable bits = long-writable dateTime bits (rw (length-be 8 bits))
+
+  pub date-time-extended-writable : (bits : ℕ) → writable (longItem tag dateTimeExtended bits) room ≡ fits room 16
+  unfolding lengthOk valueOk ifb
+  date-time-extended-writable bits = long-writable dateTimeExtended bits (rw (length-be 8 bits))
+
+  pub boolean-writable : (b : Bool) → writable (longItem tag boolean (bit b)) room ≡ fits room 16
+  unfolding lengthOk valueOk ifb bit be fromBe fromBeAfter
+  boolean-writable true = long-writable boolean 1 refl
+  boolean-writable false = long-writable boolean 0 refl
+
+  pub bytes-writable : (v : List ℕ) → writable (item tag byteString v) room ≡ (true && valueFits room (length v))
+  unfolding lengthOk valueOk ifb
+  bytes-writable v = value-writable byteString v
+
+  pub text-writable : (v : List ℕ) → writable (item tag textString v) room ≡ (text v && valueFits room (length v))
+  unfolding lengthOk valueOk ifb
+  text-writable v = value-writable textString v
+
+  pub big-integer-writable : (v : List ℕ) → writable (item tag bigInteger v) room ≡ (lengthOk bigInteger (length v) && valueFits room (length v))
+  unfolding valueOk ifb
+  big-integer-writable v = value-writable bigInteger v ∙ simp (and-true)
+
+  -- a structure reads back where its items do and its length can be spelled
+  pub structure-writable : (d : ℕ) (b : Items) → wellFormed d b ≡ true → wellFormed (suc d) (group (tagOf tag) b nil) ≡ spelled (length (encode b))
+  unfolding wellFormed
+  structure-writable d b e = rw (tag-right tag h, e) (simp and-true)
+
+-- ---- and what is written reads back
+
+pub reads-back : (t : Items) (room : List ℕ) {size r : ℕ} {after : List ℕ} → size ≡ length (encode t) → Wrote (writable t room) size (encode t) room after r → 0 < r
+    → parse 1 (take r after) ≡ some t
+reads-back t room {size} {r} {after} e w h = on-bool (writable t room) yes no-room
+  where
+    yes : writable t room ≡ true → parse 1 (take r after) ≡ some t
+    yes ok =
+        let b : take r after ≡ encode t = rw (wrote-bytes ok w) (take-at (encode t) (drop (length (encode t)) room) r (sym (wrote-size ok w ∙ e))) in
+        rw b (parse-back 1 t (both (wellFormed 1 t) (fits room (length (encode t))) ok .0))
+
+    no-room : writable t room ≡ false → parse 1 (take r after) ≡ some t
+    no-room bad = let z : r ≡ 0 = w .answer ∙ ifb-false (writable t room) size 0 bad in absurd (omega arith)

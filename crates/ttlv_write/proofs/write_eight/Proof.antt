@@ -1,0 +1,44 @@
+-- `ttlv_write::write_eight`. The head and the value, one behind the other.
+-- Assumes nothing.
+use Prim.Native.Nat.{_≤_}
+use native.Mathlib.Omega.{arith}
+use mathlib.Core.Path.{_≡_, refl}
+use lib.ListN.{length}
+use borrow.Author.Tests.{le-leb, lt-leb}
+use Rattle.octets.specs.Octets.{be}
+use Rattle.octets.proofs.Numbers.{length-be}
+use Rattle.ttlv.specs.Items.{encode}
+use Rattle.ttlv_write.specs.Write.{tagOf, longItem}
+use Rattle.ttlv_write.proofs.Puts.{wrote-value, wrote-none}
+use borrow.Author.Needs.{needs}
+use Rattle.ttlv_write.proofs.write_eight.Statement.{statement}
+use Rattle.ttlv_write.proofs.write_eight.Tie as tie
+use Rattle.ttlv_write.proofs.write_eight.Reads as reads
+use Rattle.ttlv_write.proofs.write_eight.Lts as lts
+use Rattle.octets.proofs.put.Reads as put-reads
+use Rattle.ttlv_write.proofs.put_head.Reads as put-head-reads
+
+returns : tie.Need-returns
+returns c =
+    let a = c .before .before .args in
+    wrote-none _ 16 (encode (longItem (a .tag) (a .kind) (a .bits))) (a .out .now) (lt-leb 16 _ (c .if1 .taken))
+
+put-head-requires : tie.Need-put-head-requires
+put-head-requires c κs = search needs
+
+put-requires : tie.Need-put-requires
+put-requires c κs = search needs
+
+same-length : tie.Need-same-length
+same-length c = search needs
+
+returns-2 : tie.Need-returns-2
+unfolding be
+returns-2 c =
+    let a = c .before .before .before .before .before .before .before .before .before .before .args in
+    let room : 16 ≤ length (a .out .now) = omega arith in
+    wrote-value _ (tagOf (a .tag)) (a .kind) 8 0 (be 8 (a .bits)) (a .out .now) (le-leb 16 _ room) (length-be 8 (a .bits)) refl room (c .before .before .before .before .before .before .put-head .ensures) (c .before .before .put .ensures) refl
+
+pub write-eight-spec : {M : Type 1} → statement M
+write-eight-spec =
+    tie.close (tie.spec returns put-head-requires put-requires same-length returns-2)

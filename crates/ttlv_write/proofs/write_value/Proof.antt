@@ -1,0 +1,93 @@
+-- `ttlv_write::write_value`. The head, the value and its padding, one behind the other.
+-- Assumes nothing.
+use Prim.Native.Nat.{_+_, _<_, _≤_}
+use native.Mathlib.Omega.{arith}
+use mathlib.Core.Path.{_≡_, refl}
+use mathlib.Core.Bool.{true, false, _&&_}
+use lib.ListN.{length}
+use borrow.Author.Tests.{le-leb, lt-leb, lt-ltb, le-ltb}
+use Rattle.octets.specs.Octets.{be}
+use Rattle.ttlv.specs.Items.{encode}
+use Rattle.ttlv.specs.Types.{padded}
+use Rattle.ttlv_write.specs.Write.{tagOf, item, spelled, valueFits}
+use Rattle.ttlv_write.proofs.Puts.{wrote-value, wrote-none}
+use borrow.Author.Needs.{needs}
+use Rattle.ttlv_write.proofs.write_value.Statement.{statement}
+use Rattle.ttlv_write.proofs.write_value.Tie as tie
+use Rattle.ttlv_write.proofs.write_value.Reads as reads
+use Rattle.ttlv_write.proofs.write_value.Lts as lts
+use Rattle.octets.proofs.put.Reads as put-reads
+use Rattle.octets.proofs.put_all.Reads as put-all-reads
+use Rattle.ttlv_write.proofs.put_head.Reads as put-head-reads
+
+returns : tie.Need-returns
+returns c =
+    let a = c .before .before .before .args in
+    let n = length (a .s .now) in
+    let long : spelled n ≡ false = le-ltb n _ (omega arith) in
+    wrote-none _ (8 + padded n) (encode (item (a .tag) (a .kind) (a .s .now))) (a .out .now) (rw long)
+
+add-end : tie.Need-add-end
+add-end c = search needs
+
+mul-end : tie.Need-mul-end
+mul-end c = search needs
+
+add-end-2 : tie.Need-add-end-2
+add-end-2 c = search needs
+
+returns-2 : tie.Need-returns-2
+returns-2 c =
+    let a = c .before .before .before .before .args in
+    let n = length (a .s .now) in
+    let long : spelled n ≡ true = lt-ltb n _ (omega arith) in
+    let short : valueFits (a .out .now) n ≡ false = rw (long, lt-leb (8 + padded n) (length (a .out .now)) (c .if2 .taken)) in
+    wrote-none _ (8 + padded n) (encode (item (a .tag) (a .kind) (a .s .now))) (a .out .now) short
+
+put-head-requires : tie.Need-put-head-requires
+put-head-requires c κs = search needs
+
+put-all-requires : tie.Need-put-all-requires
+put-all-requires c κs = search needs
+
+add-put : tie.Need-add-put
+add-put c = search needs
+
+add-put-2 : tie.Need-add-put-2
+add-put-2 c = search needs
+
+sub-put : tie.Need-sub-put
+sub-put c = search needs
+
+put-requires : tie.Need-put-requires
+put-requires c κs = search needs
+
+same-length : tie.Need-same-length
+same-length c = search needs
+
+returns-3 : tie.Need-returns-3
+returns-3 c =
+    let a = c .before .before .before .before .before .before .before .before .before .before .before .before .before .before .before .before .args in
+    let n = length (a .s .now) in
+    let room : 8 + padded n ≤ length (a .out .now) = omega arith in
+    let long : spelled n ≡ true = lt-ltb n _ (omega arith) in
+    let ok : valueFits (a .out .now) n ≡ true = rw (long, le-leb (8 + padded n) (length (a .out .now)) room) in
+    wrote-value _ (tagOf (a .tag)) (a .kind) n _ (a .s .now) (a .out .now) ok refl (omega arith) room (c .before .before .before .before .before .before .before .before .before .before .put-head .ensures) (c .before .before .before .before .before .before .put-all .ensures) (c .before .before .put .ensures)
+
+pub write-value-spec : {M : Type 1} → statement M
+write-value-spec =
+    tie.close
+    (tie.spec
+    returns
+    add-end
+    mul-end
+    add-end-2
+    returns-2
+    put-head-requires
+    put-all-requires
+    add-put
+    add-put-2
+    sub-put
+    put-requires
+    same-length
+    returns-3)

@@ -1,0 +1,90 @@
+-- 01, "TTLV", written into lent room: one item over the front, or nothing where it does not fit or would not read back.
+-- Assumes nothing.
+use Prim.Native.Nat.{ℕ, _+_, _^_, _≤_}
+use mathlib.Core.Path.{_≡_}
+use mathlib.Core.Bool.{Bool, true, false, _&&_}
+use mathlib.Core.List.{List}
+use lib.ListN.{length}
+use lib.Dec.{leb, ltb}
+use Rattle.octets.specs.If.{ifb}
+use Rattle.octets.specs.Octets.{be, over}
+use Rattle.ttlv.specs.Types.{structure, padded, lengthOk}
+use Rattle.ttlv.specs.Items.{Items, nil, value, group, head, encode, wellFormed}
+
+-- a tag by its last two bytes; the first is 42 hex
+abbrev pub tagOf : ℕ → ℕ
+tagOf tag = 0x420000 + tag
+
+-- ---- items
+
+-- one item, alone
+abbrev pub item : ℕ → ℕ → List ℕ → Items
+item tag kind v = value (tagOf tag) kind v nil
+
+-- an Integer, an Enumeration or an Interval: four bytes of value
+abbrev pub wordItem : ℕ → ℕ → ℕ → Items
+wordItem tag kind bits = item tag kind (be 4 bits)
+
+-- a Long Integer, a Boolean or a Date-Time: eight bytes of value
+abbrev pub longItem : ℕ → ℕ → ℕ → Items
+longItem tag kind bits = item tag kind (be 8 bits)
+
+-- the value of a Boolean: 0 or 1
+unfoldable pub bit : Bool → ℕ
+bit b = ifb b 1 0
+
+-- items behind items
+unfoldable pub join : Items → Items → Items
+join nil u = u
+join (value tag kind v rest) u = value tag kind v (join rest u)
+join (group tag body rest) u = group tag body (join rest u)
+
+-- ---- when an item is written
+
+-- the room has place for `size` bytes
+abbrev pub fits : List ℕ → ℕ → Bool
+fits room size = leb size (length room)
+
+-- a length that four bytes spell
+abbrev pub spelled : ℕ → Bool
+spelled n = ltb n (256 ^ 4)
+
+-- a value of n bytes has a length that can be spelled, and fits with its head and its padding
+abbrev pub valueFits : List ℕ → ℕ → Bool
+valueFits room n = spelled n && fits room (8 + padded n)
+
+-- what all these tests say: the item reads back, and the room has place for it
+abbrev pub writable : Items → List ℕ → Bool
+writable t room = wellFormed 1 t && fits room (length (encode t))
+
+-- ---- what a writer answers
+
+-- where the test holds, the answer is `size` and b stands over the front of the room; where not, it is 0 and the room is as it was
+pub record Wrote (ok : Bool) (size : ℕ) (b room after : List ℕ) (r : ℕ) : Type 0 where
+  pub answer : r ≡ ifb ok size 0
+  pub bytes : after ≡ ifb ok (over b room) room
+
+-- an item of four bytes, which takes 16 in all
+abbrev pub WroteWord : ℕ → ℕ → ℕ → List ℕ → List ℕ → ℕ → Type 0
+WroteWord tag kind bits room after r = Wrote (fits room 16) 16 (encode (wordItem tag kind bits)) room after r
+
+-- an item of eight bytes, which takes 16 in all
+abbrev pub WroteLong : ℕ → ℕ → ℕ → List ℕ → List ℕ → ℕ → Type 0
+WroteLong tag kind bits room after r = Wrote (fits room 16) 16 (encode (longItem tag kind bits)) room after r
+
+-- an item with the value v, if its type allows it
+abbrev pub WroteValue : Bool → ℕ → ℕ → List ℕ → List ℕ → List ℕ → ℕ → Type 0
+WroteValue right tag kind v room after r =
+    Wrote (right && valueFits room (length v)) (8 + padded (length v)) (encode (item tag kind v)) room after r
+
+-- the head of a structure with a body of n bytes, if a body can have so many
+abbrev pub WroteHead : ℕ → ℕ → List ℕ → List ℕ → ℕ → Type 0
+WroteHead tag n room after r = Wrote (spelled n && lengthOk structure n && fits room 8) 8 (head (tagOf tag) structure n) room after r
+
+-- ---- what a room holds after writes
+
+-- the room has b over its front, n bytes, and past them what it had before
+pub record Holds (b room after : List ℕ) (n : ℕ) : Type 0 where
+  pub size : n ≡ length b
+  pub bytes : after ≡ over b room
+  pub within : n ≤ length room
