@@ -17,7 +17,6 @@ use Rattle.ttlv.specs.Items.{encode, itemOk, wellFormed}
 use Rattle.ttlv.specs.Parse.{headed, firstOf, putValue, putGroup, more, walk, parse, isOne, message}
 use Rattle.ttlv.specs.Fields.{startsWith, ended, bytesOf, bodyOf, numberOf, optional}
 use Rattle.identifier.specs.Identifier.{digits, identifier, fromDigitsAfter, serialOf}
-use Rattle.rules.specs.Numbers.{reasonNumber}
 use Rattle.frame.specs.Frame.{versionIn, headerIn, idOk, idBytes, itemIn, itemsIn, frameIn, optionOf, framing, framed}
 use Rattle.answer.specs.Respond.{limitItems, linkItems, attributeItems, outcomeItems, idItems, answerItems, batchItems, versionItems, headerItems, respond}
 use Rattle.answer.specs.Read.{spelled, fixed, serialIn, limitsFirst, orNoLimits, linkFirst, orNoLink, linkIn, shownIn, createdIn, doneIn, showedIn, payloadIn, reasonAmong, failureIn, successIn, outcomeIn, answerIn, answersOf, headIn, shownOk, outcomeOk, answerOk, allowed, ifAllowed, answersIn}
@@ -28,7 +27,7 @@ activated = record { clock = 0; answers = record { operation = 0x12; id = []; ou
 
 -- the definitions that the cases compute with: who opens this opens them all
 opened : Unit {0}
-unfolding ifb _>>=_ _>>_ isSome be fromBeAfter fromBe all same lengthOk text valueOk encode itemOk wellFormed headed firstOf putValue putGroup more walk parse isOne message startsWith ended bytesOf bodyOf numberOf optional digits identifier fromDigitsAfter serialOf reasonNumber versionIn headerIn idOk idBytes itemIn itemsIn frameIn optionOf framing framed limitItems linkItems attributeItems outcomeItems idItems answerItems batchItems versionItems headerItems respond spelled fixed serialIn limitsFirst orNoLimits linkFirst orNoLink linkIn shownIn createdIn doneIn showedIn payloadIn reasonAmong failureIn successIn outcomeIn answerIn answersOf headIn shownOk outcomeOk answerOk allowed ifAllowed answersIn
+unfolding ifb _>>=_ _>>_ isSome be fromBeAfter fromBe all same lengthOk text valueOk encode itemOk wellFormed headed firstOf putValue putGroup more walk parse isOne message startsWith ended bytesOf bodyOf numberOf optional digits identifier fromDigitsAfter serialOf versionIn headerIn idOk idBytes itemIn itemsIn frameIn optionOf framing framed limitItems linkItems attributeItems outcomeItems idItems answerItems batchItems versionItems headerItems respond spelled fixed serialIn limitsFirst orNoLimits linkFirst orNoLink linkIn shownIn createdIn doneIn showedIn payloadIn reasonAmong failureIn successIn outcomeIn answerIn answersOf headIn shownOk outcomeOk answerOk allowed ifAllowed answersIn
 opened = tt
 
 activated-written : encode (respond activated) ≡ hex "42007B01 00000090 42007A01 00000048 42006901 00000020 42006A02 00000004 00000002 00000000 42006B02 00000004 00000001 00000000 42009209 00000008 00000000 00000000 42000D02 00000004 00000001 00000000 42000F01 00000038 42005C05 00000004 00000012 00000000 42007F05 00000004 00000000 00000000 42007C01 00000010 42009407 00000008 30303030 30303031"
