@@ -12,5 +12,7 @@ pub mod Well
 pub mod Tree
 pub mod Message
 pub mod Step
+pub mod One
+pub mod Found
 pub mod Small
 pub mod Eight
