@@ -26,7 +26,7 @@ use Rattle.ttlv.specs.declared.NumberField.the-variants.{Number, NoNumbe
 use Rattle.ttlv.specs.declared.BodyField.{BodyField}
 use Rattle.ttlv.specs.declared.BodyField.the-variants.{Body, NoBody}
 use Rattle.ttlv.proofs.Bools.{both, and-i, and-no, and-second}
-use Rattle.ttlv.proofs.Step.{Within, value-ends, group-ends}
+use Rattle.ttlv.proofs.Step.{Within, Holds, value-ends, group-ends}
 
 -- ---- from the item at the front to the answer
 
@@ -110,8 +110,8 @@ module _ (s : List ℕ) (tag kind : ℕ) where
   unfolding numberAt
   number-bytes {v} {next} h = number-in s v next (bytesAt s tag kind) h
 
-  -- where the field ends
-  pub bytes-ends : {n next : ℕ} → bytesAt s tag kind ≡ Span n next → (8 + n ≤ next) × (next ≤ length s)
+  -- where the field ends, and that the type allows it
+  pub bytes-ends : {n next : ℕ} → bytesAt s tag kind ≡ Span n next → Holds s kind n next
   bytes-ends h = value-ends s (bytes-first h)
 
   pub number-ends : {v next : ℕ} → numberAt s tag kind ≡ Number v next → Within s next

@@ -14,5 +14,6 @@ pub mod Message
 pub mod Step
 pub mod One
 pub mod Found
+pub mod Lift
 pub mod Small
 pub mod Eight
