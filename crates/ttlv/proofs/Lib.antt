@@ -16,4 +16,5 @@ pub mod One
 pub mod Found
 pub mod Lift
 pub mod Small
+pub mod Unique
 pub mod Eight
