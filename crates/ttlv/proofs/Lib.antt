@@ -12,5 +12,9 @@ pub mod Well
 pub mod Tree
 pub mod Message
 pub mod Step
+pub mod One
+pub mod Found
+pub mod Lift
 pub mod Small
+pub mod Unique
 pub mod Eight

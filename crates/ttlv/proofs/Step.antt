@@ -12,7 +12,7 @@ use lib.Dec.{eqb}
 use borrow.Author.Tests.{ne-eqb}
 use Rattle.octets.specs.Maybe.{isSome}
 use Rattle.octets.specs.Octets.{part}
-use Rattle.ttlv.specs.Types.{padded}
+use Rattle.ttlv.specs.Types.{padded, lengthOk, valueOk}
 use Rattle.ttlv.specs.Items.{Items}
 use Rattle.ttlv.specs.Parse.{firstOf, putValue, putGroup, more, parse}
 use Rattle.ttlv.specs.declared.First.{First}
@@ -34,23 +34,27 @@ nothing (x ∷ s) = ne-eqb (length (x ∷ s)) 0 (λ e. omega arith)
 
 -- ---- where the item at the front ends
 
+-- an item ends within t
 abbrev pub Within : List ℕ → ℕ → Type 0
 Within t next = (8 ≤ next) × (next ≤ length t)
+
+-- a value ends where its padding starts, and this where the next item does; the type allows its length and it
+abbrev pub Holds : List ℕ → ℕ → ℕ → ℕ → Type 0
+Holds t kind n next = (8 + n ≤ next) × (next ≤ length t) × (lengthOk kind n ≡ true) × (valueOk kind (part t 8 n) ≡ true)
 
 abbrev Ends : List ℕ → First → Type 0
 Ends t End = Unit {0}
 Ends t Bad = Unit {0}
-Ends t (Value tag kind n next) = (8 + n ≤ next) × (next ≤ length t)
+Ends t (Value tag kind n next) = Holds t kind n next
 Ends t (Group tag next) = Within t next
 
 ends : (t : List ℕ) (f : First) → View t f → Ends t f
 ends t End (end e) = tt
 ends t Bad bad = tt
-ends t (Value tag kind n next) (val hd k1 ok z) = (omega arith, hd .room)
+ends t (Value tag kind n next) (val hd k1 ok z) = (omega arith, hd .room, hd .allowed, ok)
 ends t (Group tag next) (grp {n} hd) = (omega arith, group-room t tag n hd)
 
--- the value of an item ends where its padding starts, and this where the next item does
-pub value-ends : (t : List ℕ) {tag kind n next : ℕ} → firstOf t ≡ Value tag kind n next → (8 + n ≤ next) × (next ≤ length t)
+pub value-ends : (t : List ℕ) {tag kind n next : ℕ} → firstOf t ≡ Value tag kind n next → Holds t kind n next
 value-ends t e = rw e at (ends t (firstOf t) (view t))
 
 pub group-ends : (t : List ℕ) {tag next : ℕ} → firstOf t ≡ Group tag next → Within t next

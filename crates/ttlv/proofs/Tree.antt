@@ -94,8 +94,8 @@ pub record Rest (s : List ℕ) (next : ℕ) : Type 0 where
   pub run : isRun (drop next s) ≡ true
 
 value-items : (s : List ℕ) (t : Items) (tag kind n next : ℕ) → Tree s t (Value tag kind n next)
-    → (t ≡ value tag kind (part s 8 n) (treeOf (drop next s))) × Rest s next × (8 + n ≤ next) × (lengthOk kind n ≡ true) × (valueOk kind (part s 8 n) ≡ true)
-value-items s t tag kind n next (t-value l b a o e) = (refl, record { past = omega arith; within = b; run = e }, l, a, o)
+    → (t ≡ value tag kind (part s 8 n) (treeOf (drop next s))) × Rest s next
+value-items s t tag kind n next (t-value l b a o e) = (refl, record { past = omega arith; within = b; run = e })
 
 group-items : (s : List ℕ) (t : Items) (tag next : ℕ) → Tree s t (Group tag next)
     → (t ≡ group tag (treeOf (part s 8 (next - 8))) (treeOf (drop next s))) × Rest s next × (isRun (part s 8 (next - 8)) ≡ true)
@@ -125,15 +125,6 @@ module _ (s : List ℕ) (h : isRun s ≡ true) where
 
     pub value-rest : Rest s next
     value-rest = value-items s (treeOf s) tag kind n next (by-first e) .1
-
-    pub value-within : 8 + n ≤ next
-    value-within = value-items s (treeOf s) tag kind n next (by-first e) .2
-
-    pub value-length : lengthOk kind n ≡ true
-    value-length = value-items s (treeOf s) tag kind n next (by-first e) .3
-
-    pub value-value : valueOk kind (part s 8 n) ≡ true
-    value-value = value-items s (treeOf s) tag kind n next (by-first e) .4
 
   module _ {tag next : ℕ} (e : firstOf s ≡ Group tag next) where
     pub tree-group : treeOf s ≡ group tag (treeOf (part s 8 (next - 8))) (treeOf (drop next s))

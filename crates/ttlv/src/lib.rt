@@ -233,3 +233,94 @@ pub fn check(s: &[u8], depth: usize) -> bool
         }
     }
 }
+
+// Whether s is one item by the rules and nothing behind it. Each byte is looked at once.
+pub fn is_message(s: &[u8]) -> bool
+    ensures { λ r. ⌜ r ≡ isSome (message (now (s .entry))) ⌝ }
+{
+    match read_first(s) {
+        First::End => false,
+        First::Bad => false,
+        First::Value {
+            tag: _,
+            kind: _,
+            len: _,
+            next,
+        } => next == s.len(),
+        First::Group { tag: _, next } => {
+            if next != s.len() {
+                return false;
+            }
+            check(&s[8..next], DEPTH_MOST - 1)
+        }
+    }
+}
+
+// Whether an item with this tag stands at the front.
+pub fn starts_with(s: &[u8], tag: u32) -> bool
+    ensures { λ r. ⌜ r ≡ startsAt (now (s .entry)) tag ⌝ }
+{
+    match read_first(s) {
+        First::End => false,
+        First::Bad => false,
+        First::Value {
+            tag: found,
+            kind: _,
+            len: _,
+            next: _,
+        } => found == tag,
+        First::Group {
+            tag: found,
+            next: _,
+        } => found == tag,
+    }
+}
+
+// The value of the item at the front, if it has this tag and type.
+pub fn bytes_field(s: &[u8], tag: u32, kind: u8) -> BytesField
+    ensures { λ r. ⌜ r ≡ bytesAt (now (s .entry)) tag kind ⌝ }
+{
+    let First::Value {
+        tag: found,
+        kind: typed,
+        len,
+        next,
+    } = read_first(s)
+    else {
+        return BytesField::NoSpan;
+    };
+    if found != tag {
+        return BytesField::NoSpan;
+    }
+    if typed != kind {
+        return BytesField::NoSpan;
+    }
+    BytesField::Span { len, next }
+}
+
+// The number that the value of the item at the front spells, if it has this tag and type; it reads at most eight bytes.
+pub fn number_field(s: &[u8], tag: u32, kind: u8) -> NumberField
+    ensures { λ r. ⌜ r ≡ numberAt (now (s .entry)) tag kind ⌝ }
+{
+    let BytesField::Span { len, next } = bytes_field(s, tag, kind) else {
+        return NumberField::NoNumber;
+    };
+    let stop = 8 + len;
+    NumberField::Number {
+        value: octets::number(&s[8..stop]),
+        next,
+    }
+}
+
+// The items of the structure at the front, if it has this tag.
+pub fn body_field(s: &[u8], tag: u32) -> BodyField
+    ensures { λ r. ⌜ r ≡ bodyAt (now (s .entry)) tag ⌝ }
+{
+    let First::Group { tag: found, next } = read_first(s) else {
+        return BodyField::NoBody;
+    };
+    if found != tag {
+        return BodyField::NoBody;
+    }
+    BodyField::Body { next }
+}

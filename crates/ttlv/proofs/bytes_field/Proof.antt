@@ -1,0 +1,46 @@
+-- `ttlv::bytes_field`. By cases on the item at the front, its tag and its type.
+-- Assumes nothing.
+use mathlib.Core.Path.{_≡_, refl, sym, ap, _∙_}
+use Rattle.ttlv.specs.Found.{bytesIn, bytesAt}
+use Rattle.ttlv.proofs.Found.{no-value-first, other-tag, other-kind, wanted}
+use borrow.Author.Needs.{needs}
+use Rattle.ttlv.proofs.bytes_field.Statement.{statement}
+use Rattle.ttlv.proofs.bytes_field.Tie as tie
+use Rattle.ttlv.proofs.bytes_field.Reads as reads
+use Rattle.ttlv.proofs.bytes_field.Lts as lts
+use Rattle.ttlv.proofs.read_first.Reads as read-first-reads
+
+read-first-requires : tie.Need-read-first-requires
+read-first-requires c κs = search needs
+
+enum-known-found : tie.Need-enum-known-found
+enum-known-found c = search needs
+
+returns : tie.Need-returns
+unfolding bytesAt
+returns c =
+    let a = c .before .before .before .args in
+    let rf = c .before .read-first in
+    sym (ap (bytesIn (a .tag) (a .kind)) (sym (rf .ensures)) ∙ no-value-first (a .tag) (a .kind) (rf .result) (c .match .keys2))
+
+returns-2 : tie.Need-returns-2
+unfolding bytesAt
+returns-2 c =
+    let a = c .before .before .before .before .before .before .args in
+    sym (ap (bytesIn (a .tag) (a .kind)) (sym (c .before .before .before .before .read-first .ensures) ∙ c .before .before .found .given .1) ∙ other-tag (a .tag) (a .kind) _ _ _ _ (c .if1 .taken))
+
+returns-3 : tie.Need-returns-3
+unfolding bytesAt
+returns-3 c =
+    let a = c .before .before .before .before .before .before .before .args in
+    sym (ap (bytesIn (a .tag) (a .kind)) (sym (c .before .before .before .before .before .read-first .ensures) ∙ c .before .before .before .found .given .1) ∙ other-kind (a .tag) (a .kind) _ _ _ _ (c .before .if1 .left) (c .if2 .taken))
+
+returns-4 : tie.Need-returns-4
+unfolding bytesAt
+returns-4 c =
+    let a = c .before .before .before .before .before .before .before .args in
+    sym (ap (bytesIn (a .tag) (a .kind)) (sym (c .before .before .before .before .before .read-first .ensures) ∙ c .before .before .before .found .given .1) ∙ wanted (a .tag) (a .kind) _ _ _ _ (c .before .if1 .left) (c .if2 .left))
+
+pub bytes-field-spec : {M : Type 1} → statement M
+bytes-field-spec =
+    tie.close (tie.spec read-first-requires enum-known-found returns returns-2 returns-3 returns-4)
