@@ -15,8 +15,8 @@ use Rattle.octets.proofs.Over.{length-over, over-front, lent, lent-then, lent-l
 use Rattle.ttlv.specs.Types.{structure, padded, lengthOk}
 use Rattle.ttlv.specs.Items.{Items, nil, value, group, head, encode}
 use Rattle.ttlv.proofs.Back.{eights}
-use Rattle.ttlv_write.specs.Write.{tagOf, item, wordItem, longItem, join, spelled, fits, valueFits, Wrote, WroteWord, WroteLong, WroteValue, WroteHead, Holds}
-use Rattle.ttlv_write.proofs.Sizes.{length-head, length-value, length-word, length-long, length-group, length-join, encode-join, encode-group}
+use Rattle.ttlv_write.specs.Write.{tagOf, item, numberItem, join, spelled, fits, valueFits, Wrote, WroteNumber, WroteValue, WroteHead, Holds}
+use Rattle.ttlv_write.proofs.Sizes.{length-head, length-value, length-number, length-group, length-join, encode-join, encode-group}
 
 -- ---- a write that fits
 
@@ -36,12 +36,9 @@ holds-none room = record { size = refl; bytes = refl; within = omega arith }
 pub holds-wrote : {ok : Bool} {size r : ℕ} {b room after : List ℕ} → ok ≡ true → size ≡ length b → size ≤ length room → Wrote ok size b room after r → Holds b room after r
 holds-wrote h e l w = record { size = wrote-size h w ∙ e; bytes = wrote-bytes h w; within = rw (wrote-size h w) l }
 
-module _ (tag kind bits : ℕ) {room after : List ℕ} {r : ℕ} (l : 16 ≤ length room) where
-  pub holds-word : WroteWord tag kind bits room after r → Holds (encode (wordItem tag kind bits)) room after r
-  holds-word w = holds-wrote (le-leb 16 (length room) l) (sym (length-word tag kind bits)) l w
-
-  pub holds-long : WroteLong tag kind bits room after r → Holds (encode (longItem tag kind bits)) room after r
-  holds-long w = holds-wrote (le-leb 16 (length room) l) (sym (length-long tag kind bits)) l w
+pub holds-number : (width tag kind bits : ℕ) {room after : List ℕ} {r : ℕ} → 0 < width → width ≤ 8 → 16 ≤ length room
+    → WroteNumber width tag kind bits room after r → Holds (encode (numberItem width tag kind bits)) room after r
+holds-number width tag kind bits {room} h k l w = holds-wrote (le-leb 16 (length room) l) (sym (length-number width tag kind bits h k)) l w
 
 pub holds-value : (right : Bool) (tag kind : ℕ) (v : List ℕ) {room after : List ℕ} {r : ℕ} → right ≡ true → length v < 256 ^ 4 → 8 + padded (length v) ≤ length room
     → WroteValue right tag kind v room after r → Holds (encode (item tag kind v)) room after r

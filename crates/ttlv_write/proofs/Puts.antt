@@ -55,11 +55,11 @@ pub wrote-none : (ok : Bool) (size : ℕ) (b room : List ℕ) → ok ≡ false �
 wrote-none ok size b room h = record { answer = sym (ifb-false ok size 0 h); bytes = sym (ifb-false ok (over b room) room h) }
 
 -- a value of n bytes, by its three puts
-pub wrote-value : (ok : Bool) (tag kind n w : ℕ) (v zs : List ℕ) {t₁ t₂ t₃ : List ℕ} → ok ≡ true → length v ≡ n → w ≡ padded n - n → 8 + padded n ≤ length zs
-    → t₁ ≡ sets zs 0 (head tag kind n) → t₂ ≡ sets t₁ 8 v → t₃ ≡ sets t₂ (8 + n) (be w 0) → Wrote ok (8 + padded n) (encode (value tag kind v nil)) zs t₃ (8 + padded n)
-wrote-value ok tag kind n w v zs h l p room e₁ e₂ e₃ =
-    let size : length (encode (value tag kind v nil)) ≤ length zs = rw (length-value, l) room in
-    wrote-all ok (8 + padded n) (encode (value tag kind v nil)) zs h size (value-puts tag kind n w v zs l p e₁ e₂ e₃)
+pub wrote-value : (ok : Bool) (tag kind n w size : ℕ) (v zs : List ℕ) {t₁ t₂ t₃ : List ℕ} → ok ≡ true → length v ≡ n → w ≡ padded n - n → size ≡ 8 + padded n → size ≤ length zs
+    → t₁ ≡ sets zs 0 (head tag kind n) → t₂ ≡ sets t₁ 8 v → t₃ ≡ sets t₂ (8 + n) (be w 0) → Wrote ok size (encode (value tag kind v nil)) zs t₃ size
+wrote-value ok tag kind n w size v zs h l p e room e₁ e₂ e₃ =
+    let fit : length (encode (value tag kind v nil)) ≤ length zs = rw (length-value, l, ← e) room in
+    wrote-all ok size (encode (value tag kind v nil)) zs h fit (value-puts tag kind n w v zs l p e₁ e₂ e₃)
 
 -- a value that its type may refuse
 module _ (right : Bool) (tag kind : ℕ) (v room : List ℕ) where

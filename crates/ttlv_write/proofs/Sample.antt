@@ -10,42 +10,42 @@ use Rattle.octets.specs.Octets.{be}
 use Rattle.octets.proofs.Over.{lent-length}
 use Rattle.ttlv.specs.Types.{structure, integer}
 use Rattle.ttlv.specs.Items.{Items, nil, value, group, head, encode}
-use Rattle.ttlv_write.specs.Write.{tagOf, wordItem, join, WroteWord, WroteHead, Holds}
-use Rattle.ttlv_write.proofs.Sizes.{length-join, length-word, length-head, encode-join}
-use Rattle.ttlv_write.proofs.Holds.{holds-word, holds-head, holds-then, holds-front, holds-join, holds-group, holds-left, holds-length}
+use Rattle.ttlv_write.specs.Write.{tagOf, numberItem, join, WroteNumber, WroteHead, Holds}
+use Rattle.ttlv_write.proofs.Sizes.{length-join, length-number, length-head, encode-join}
+use Rattle.ttlv_write.proofs.Holds.{holds-number, holds-head, holds-then, holds-front, holds-join, holds-group, holds-left, holds-length}
 
 -- the two fields
 abbrev pub fields : ℕ → ℕ → ℕ → ℕ → Items
-fields first a second b = join (wordItem first integer a) (wordItem second integer b)
+fields first a second b = join (numberItem 4 first integer a) (numberItem 4 second integer b)
 
 module _ (tag first a second b : ℕ) (room : List ℕ) where
   fields-size : 32 ≡ length (encode (fields first a second b))
-  fields-size = sym (rw (length-join, length-word first integer a, length-word second integer b))
+  fields-size = sym (rw (length-join, length-number 4 first integer a (omega arith) (omega arith), length-number 4 second integer b (omega arith) (omega arith)))
 
   -- the head, then the first field behind it, then the second behind that
   pub head-first : {xs ys zs : List ℕ} {r n m : ℕ} → 40 ≤ length room
       → WroteHead tag 32 room xs r
-      → WroteWord first integer a (midOf r (length xs - r) xs) ys n
-      → (let whole = putMid r (length xs - r) xs ys in WroteWord second integer b (midOf (r + n) (length whole - (r + n)) whole) zs m
+      → WroteNumber 4 first integer a (midOf r (length xs - r) xs) ys n
+      → (let whole = putMid r (length xs - r) xs ys in WroteNumber 4 second integer b (midOf (r + n) (length whole - (r + n)) whole) zs m
       → Holds (encode (group (tagOf tag) (fields first a second b) nil)) room (putMid (r + n) (length whole - (r + n)) whole zs) (r + n + m))
   head-first l w f s =
       let h₁ = holds-head tag 32 (fields first a second b) fields-size (omega arith) (omega arith) w in
       let k₁ = h₁ .size ∙ length-head (tagOf tag) structure 32 in
-      let h₂ = holds-word first integer a (omega (arith, holds-left h₁)) f in
-      let k₂ = h₂ .size ∙ length-word first integer a in
+      let h₂ = holds-number 4 first integer a (omega arith) (omega arith) (omega (arith, holds-left h₁)) f in
+      let k₂ = h₂ .size ∙ length-number 4 first integer a (omega arith) (omega arith) in
       let h₃ = holds-then h₁ h₂ in
-      let h₄ = holds-then h₃ (holds-word second integer b (omega (arith, holds-left h₃)) s) in
+      let h₄ = holds-then h₃ (holds-number 4 second integer b (omega arith) (omega arith) (omega (arith, holds-left h₃)) s) in
       holds-group (tagOf tag) 32 (fields first a second b) fields-size (rw (encode-join, ← append-assoc) h₄)
 
   -- the fields alone, as a function does it that is lent the room of the body
   pub fields-then : {xs ys : List ℕ} {n m : ℕ} → 32 ≤ length room
-      → WroteWord first integer a room xs n
-      → WroteWord second integer b (midOf n (length xs - n) xs) ys m
+      → WroteNumber 4 first integer a room xs n
+      → WroteNumber 4 second integer b (midOf n (length xs - n) xs) ys m
       → Holds (encode (fields first a second b)) room (putMid n (length xs - n) xs ys) (n + m)
   fields-then l f s =
-      let h = holds-word first integer a (omega arith) f in
-      let k = h .size ∙ length-word first integer a in
-      holds-join (wordItem first integer a) (wordItem second integer b) (holds-then h (holds-word second integer b (omega (arith, holds-left h)) s))
+      let h = holds-number 4 first integer a (omega arith) (omega arith) (omega arith) f in
+      let k = h .size ∙ length-number 4 first integer a (omega arith) (omega arith) in
+      holds-join (numberItem 4 first integer a) (numberItem 4 second integer b) (holds-then h (holds-number 4 second integer b (omega arith) (omega arith) (omega (arith, holds-left h)) s))
 
   -- and then the head in front of them: no size is known beforehand
   pub head-last : {ys after : List ℕ} {n r : ℕ} → 8 ≤ length room

@@ -1,7 +1,7 @@
 -- The sizes of items in bytes, and runs of items joined to runs.
 -- Assumes nothing.
 use mathlib.Core.Path.{_≡_, refl, sym, ap, _∙_}
-use Prim.Native.Nat.{ℕ, _+_}
+use Prim.Native.Nat.{ℕ, _+_, _≤_, _<_}
 use native.Mathlib.Omega.{arith}
 use mathlib.Core.List.{List, [], _∷_, _++_, append-assoc, append-nil}
 use lib.ListN.{length, replicate, length-append, length-replicate}
@@ -9,7 +9,7 @@ use Rattle.octets.specs.Octets.{be}
 use Rattle.octets.proofs.Numbers.{length-be}
 use Rattle.ttlv.specs.Types.{structure, padded}
 use Rattle.ttlv.specs.Items.{Items, nil, value, group, head, padding, encode}
-use Rattle.ttlv_write.specs.Write.{wordItem, longItem, join}
+use Rattle.ttlv_write.specs.Write.{tagOf, numberItem, join}
 
 -- ---- sizes
 
@@ -25,11 +25,8 @@ unfolding encode
 length-value tag kind v =
     rw (append-nil, length-append (head tag kind (length v)) (v ++ padding (length v)), length-head, length-append v (padding (length v)), length-replicate) (omega arith)
 
-pub length-word : (tag kind bits : ℕ) → length (encode (wordItem tag kind bits)) ≡ 16
-length-word tag kind bits = length-value _ kind (be 4 bits) ∙ rw (length-be 4 bits)
-
-pub length-long : (tag kind bits : ℕ) → length (encode (longItem tag kind bits)) ≡ 16
-length-long tag kind bits = length-value _ kind (be 8 bits) ∙ rw (length-be 8 bits)
+pub length-number : (width tag kind bits : ℕ) → 0 < width → width ≤ 8 → length (encode (numberItem width tag kind bits)) ≡ 16
+length-number width tag kind bits h l = length-value (tagOf tag) kind (be width bits) ∙ rw (length-be width bits) (omega arith)
 
 -- a structure is its head and its body
 pub encode-group : (tag : ℕ) (b : Items) → encode (group tag b nil) ≡ head tag structure (length (encode b)) ++ encode b

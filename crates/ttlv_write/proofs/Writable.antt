@@ -3,13 +3,13 @@
 use mathlib.Core.Path.{_≡_, refl, sym, ap, _∙_}
 use mathlib.Core.Bool.{Bool, true, false, not, _&&_, and-assoc, and-true}
 use mathlib.Core.Option.{some}
-use Prim.Native.Nat.{ℕ, suc, _+_, _/_, _%_, _^_, _<_}
+use Prim.Native.Nat.{ℕ, suc, _+_, _/_, _%_, _^_, _≤_, _<_}
 use native.Mathlib.Omega.{arith}
 use mathlib.Core.List.{List}
 use lib.ListN.{length, take, drop}
 use lib.Seq.{take-at}
 use lib.Dec.{eqb, leb}
-use borrow.Author.Tests.{eq-eqb}
+use borrow.Author.Tests.{eq-eqb, lt-ltb}
 use Rattle.octets.specs.If.{ifb}
 use Rattle.octets.specs.Octets.{be, fromBe, fromBeAfter}
 use Rattle.octets.proofs.If.{ifb-false, on-bool}
@@ -19,7 +19,7 @@ use Rattle.ttlv.specs.Items.{Items, nil, value, group, encode, tagOk, itemOk, w
 use Rattle.ttlv.specs.Parse.{parse}
 use Rattle.ttlv.proofs.Back.{parse-back}
 use Rattle.ttlv.proofs.Bools.{both}
-use Rattle.ttlv_write.specs.Write.{tagOf, item, wordItem, longItem, bit, fits, spelled, valueFits, writable, Wrote}
+use Rattle.ttlv_write.specs.Write.{tagOf, item, numberItem, bit, fits, spelled, valueFits, writable, Wrote}
 use Rattle.ttlv_write.proofs.Sizes.{length-value}
 use Rattle.ttlv_write.proofs.Holds.{wrote-size, wrote-bytes}
 
@@ -37,40 +37,40 @@ module _ (tag : ℕ) (room : List ℕ) (h : tag < 65536) where
 
   -- ---- each writer
 
-  word-writable : (kind bits : ℕ) → allowed kind (be 4 bits) ≡ true → writable (wordItem tag kind bits) room ≡ fits room 16
-  word-writable kind bits e = value-writable kind (be 4 bits) ∙ rw (e, length-be 4 bits)
+  number-writable : (width kind bits : ℕ) → 0 < width → width ≤ 8 → allowed kind (be width bits) ≡ true → writable (numberItem width tag kind bits) room ≡ fits room 16
+  number-writable width kind bits l m e =
+      let s : spelled width ≡ true = lt-ltb width (256 ^ 4) (omega arith) in
+      let p : 8 + padded width ≡ 16 = omega arith in
+      value-writable kind (be width bits) ∙ rw (e, length-be width bits, s, p)
 
-  long-writable : (kind bits : ℕ) → allowed kind (be 8 bits) ≡ true → writable (longItem tag kind bits) room ≡ fits room 16
-  long-writable kind bits e = value-writable kind (be 8 bits) ∙ rw (e, length-be 8 bits)
-
-  pub integer-writable : (bits : ℕ) → writable (wordItem tag integer bits) room ≡ fits room 16
+  pub integer-writable : (bits : ℕ) → writable (numberItem 4 tag integer bits) room ≡ fits room 16
   unfolding lengthOk valueOk ifb
-  integer-writable bits = word-writable integer bits (rw (length-be 4 bits))
+  integer-writable bits = number-writable 4 integer bits (omega arith) (omega arith) (rw (length-be 4 bits))
 
-  pub enumeration-writable : (bits : ℕ) → writable (wordItem tag enumeration bits) room ≡ fits room 16
+  pub enumeration-writable : (bits : ℕ) → writable (numberItem 4 tag enumeration bits) room ≡ fits room 16
   unfolding lengthOk valueOk ifb
-  enumeration-writable bits = word-writable enumeration bits (rw (length-be 4 bits))
+  enumeration-writable bits = number-writable 4 enumeration bits (omega arith) (omega arith) (rw (length-be 4 bits))
 
-  pub interval-writable : (bits : ℕ) → writable (wordItem tag interval bits) room ≡ fits room 16
+  pub interval-writable : (bits : ℕ) → writable (numberItem 4 tag interval bits) room ≡ fits room 16
   unfolding lengthOk valueOk ifb
-  interval-writable bits = word-writable interval bits (rw (length-be 4 bits))
+  interval-writable bits = number-writable 4 interval bits (omega arith) (omega arith) (rw (length-be 4 bits))
 
-  pub long-integer-writable : (bits : ℕ) → writable (longItem tag longInteger bits) room ≡ fits room 16
+  pub long-integer-writable : (bits : ℕ) → writable (numberItem 8 tag longInteger bits) room ≡ fits room 16
   unfolding lengthOk valueOk ifb
-  long-integer-writable bits = long-writable longInteger bits (rw (length-be 8 bits))
+  long-integer-writable bits = number-writable 8 longInteger bits (omega arith) (omega arith) (rw (length-be 8 bits))
 
-  pub date-time-writable : (bits : ℕ) → writable (longItem tag dateTime bits) room ≡ fits room 16
+  pub date-time-writable : (bits : ℕ) → writable (numberItem 8 tag dateTime bits) room ≡ fits room 16
   unfolding lengthOk valueOk ifb
-  date-time-writable bits = long-writable dateTime bits (rw (length-be 8 bits))
+  date-time-writable bits = number-writable 8 dateTime bits (omega arith) (omega arith) (rw (length-be 8 bits))
 
-  pub date-time-extended-writable : (bits : ℕ) → writable (longItem tag dateTimeExtended bits) room ≡ fits room 16
+  pub date-time-extended-writable : (bits : ℕ) → writable (numberItem 8 tag dateTimeExtended bits) room ≡ fits room 16
   unfolding lengthOk valueOk ifb
-  date-time-extended-writable bits = long-writable dateTimeExtended bits (rw (length-be 8 bits))
+  date-time-extended-writable bits = number-writable 8 dateTimeExtended bits (omega arith) (omega arith) (rw (length-be 8 bits))
 
-  pub boolean-writable : (b : Bool) → writable (longItem tag boolean (bit b)) room ≡ fits room 16
+  pub boolean-writable : (b : Bool) → writable (numberItem 8 tag boolean (bit b)) room ≡ fits room 16
   unfolding lengthOk valueOk ifb bit be fromBe fromBeAfter
-  boolean-writable true = long-writable boolean 1 refl
-  boolean-writable false = long-writable boolean 0 refl
+  boolean-writable true = number-writable 8 boolean 1 (omega arith) (omega arith) refl
+  boolean-writable false = number-writable 8 boolean 0 (omega arith) (omega arith) refl
 
   pub bytes-writable : (v : List ℕ) → writable (item tag byteString v) room ≡ (true && valueFits room (length v))
   unfolding lengthOk valueOk ifb

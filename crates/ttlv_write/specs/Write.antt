@@ -21,13 +21,9 @@ tagOf tag = 0x420000 + tag
 abbrev pub item : ℕ → ℕ → List ℕ → Items
 item tag kind v = value (tagOf tag) kind v nil
 
--- an Integer, an Enumeration or an Interval: four bytes of value
-abbrev pub wordItem : ℕ → ℕ → ℕ → Items
-wordItem tag kind bits = item tag kind (be 4 bits)
-
--- a Long Integer, a Boolean or a Date-Time: eight bytes of value
-abbrev pub longItem : ℕ → ℕ → ℕ → Items
-longItem tag kind bits = item tag kind (be 8 bits)
+-- an item whose value is a number: 4 bytes of an Integer, an Enumeration or an Interval, 8 of a Long Integer, a Boolean or a Date-Time
+abbrev pub numberItem : ℕ → ℕ → ℕ → ℕ → Items
+numberItem width tag kind bits = item tag kind (be width bits)
 
 -- the value of a Boolean: 0 or 1
 unfoldable pub bit : Bool → ℕ
@@ -64,13 +60,9 @@ pub record Wrote (ok : Bool) (size : ℕ) (b room after : List ℕ) (r : ℕ) : 
   pub answer : r ≡ ifb ok size 0
   pub bytes : after ≡ ifb ok (over b room) room
 
--- an item of four bytes, which takes 16 in all
-abbrev pub WroteWord : ℕ → ℕ → ℕ → List ℕ → List ℕ → ℕ → Type 0
-WroteWord tag kind bits room after r = Wrote (fits room 16) 16 (encode (wordItem tag kind bits)) room after r
-
--- an item of eight bytes, which takes 16 in all
-abbrev pub WroteLong : ℕ → ℕ → ℕ → List ℕ → List ℕ → ℕ → Type 0
-WroteLong tag kind bits room after r = Wrote (fits room 16) 16 (encode (longItem tag kind bits)) room after r
+-- a number of 1 to 8 bytes, which takes 16 in all
+abbrev pub WroteNumber : ℕ → ℕ → ℕ → ℕ → List ℕ → List ℕ → ℕ → Type 0
+WroteNumber width tag kind bits room after r = Wrote (fits room 16) 16 (encode (numberItem width tag kind bits)) room after r
 
 -- an item with the value v, if its type allows it
 abbrev pub WroteValue : Bool → ℕ → ℕ → List ℕ → List ℕ → List ℕ → ℕ → Type 0

@@ -2,12 +2,12 @@
 // Assumes nothing. A tag is given by its last two bytes; a writer answers the bytes written, or 0 with the room as it was.
 ghost use mathlib.Core.Path.{_≡_};
 ghost use mathlib.Core.Bool.{true};
-ghost use Prim.Native.Nat.{_≤_};
+ghost use Prim.Native.Nat.{_≤_, _<_};
 ghost use lib.ListN.{length};
 ghost use lib.Seq.{sets};
 ghost use Rattle.ttlv.specs.Types.{integer, longInteger, bigInteger, enumeration, boolean, textString, byteString, dateTime, interval, dateTimeExtended, lengthOk, text};
 ghost use Rattle.ttlv.specs.Items.{head};
-ghost use Rattle.ttlv_write.specs.Write.{tagOf, bit, WroteWord, WroteLong, WroteValue, WroteHead};
+ghost use Rattle.ttlv_write.specs.Write.{tagOf, bit, WroteNumber, WroteValue, WroteHead};
 
 // The first byte of every tag, before the two that are given.
 const TAG_LEAD: u64 = 0x420000;
@@ -22,77 +22,66 @@ fn put_head(out: &mut [u8], tag: u16, kind: u8, n: usize)
     octets::put(out, 4, 4, n as u64);
 }
 
-// An item with four bytes of value.
-fn write_word(out: &mut [u8], tag: u16, kind: u8, bits: u32) -> usize
-    ensures { λ r. ⌜ WroteWord tag kind bits (now (out .entry)) (now (out .exit)) r ⌝ }
+// An item with a value of `width` bytes, which takes 16 in all. Each caller shows that these are 1 to 8.
+fn write_number(out: &mut [u8], tag: u16, kind: u8, width: usize, bits: u64) -> usize
+    requires { ⌜ (0 < width) × (width ≤ 8) ⌝ }
+    ensures { λ r. ⌜ WroteNumber width tag kind bits (now (out .entry)) (now (out .exit)) r ⌝ }
 {
     if out.len() < 16 {
         return 0;
     }
-    put_head(out, tag, kind, 4);
-    octets::put(out, 8, 4, bits as u64);
-    octets::put(out, 12, 4, 0);
+    put_head(out, tag, kind, width);
+    octets::put(out, 8, width, bits);
+    octets::put(out, 8 + width, 8 - width, 0);
     16
 }
 
 pub fn write_integer(out: &mut [u8], tag: u16, bits: u32) -> usize
-    ensures { λ r. ⌜ WroteWord tag integer bits (now (out .entry)) (now (out .exit)) r ⌝ }
+    ensures { λ r. ⌜ WroteNumber 4 tag integer bits (now (out .entry)) (now (out .exit)) r ⌝ }
 {
-    write_word(out, tag, ttlv::INTEGER, bits)
+    write_number(out, tag, ttlv::INTEGER, 4, bits as u64)
 }
 
 pub fn write_enumeration(out: &mut [u8], tag: u16, bits: u32) -> usize
-    ensures { λ r. ⌜ WroteWord tag enumeration bits (now (out .entry)) (now (out .exit)) r ⌝ }
+    ensures { λ r. ⌜ WroteNumber 4 tag enumeration bits (now (out .entry)) (now (out .exit)) r ⌝ }
 {
-    write_word(out, tag, ttlv::ENUMERATION, bits)
+    write_number(out, tag, ttlv::ENUMERATION, 4, bits as u64)
 }
 
 pub fn write_interval(out: &mut [u8], tag: u16, bits: u32) -> usize
-    ensures { λ r. ⌜ WroteWord tag interval bits (now (out .entry)) (now (out .exit)) r ⌝ }
+    ensures { λ r. ⌜ WroteNumber 4 tag interval bits (now (out .entry)) (now (out .exit)) r ⌝ }
 {
-    write_word(out, tag, ttlv::INTERVAL, bits)
-}
-
-// An item with eight bytes of value.
-fn write_eight(out: &mut [u8], tag: u16, kind: u8, bits: u64) -> usize
-    ensures { λ r. ⌜ WroteLong tag kind bits (now (out .entry)) (now (out .exit)) r ⌝ }
-{
-    if out.len() < 16 {
-        return 0;
-    }
-    put_head(out, tag, kind, 8);
-    octets::put(out, 8, 8, bits);
-    16
+    write_number(out, tag, ttlv::INTERVAL, 4, bits as u64)
 }
 
 // The bits are those of the signed number, in two's complement.
 pub fn write_long(out: &mut [u8], tag: u16, bits: u64) -> usize
-    ensures { λ r. ⌜ WroteLong tag longInteger bits (now (out .entry)) (now (out .exit)) r ⌝ }
+    ensures { λ r. ⌜ WroteNumber 8 tag longInteger bits (now (out .entry)) (now (out .exit)) r ⌝ }
 {
-    write_eight(out, tag, ttlv::LONG_INTEGER, bits)
+    write_number(out, tag, ttlv::LONG_INTEGER, 8, bits)
 }
 
 // The bits are those of the signed number of seconds, in two's complement.
 pub fn write_date_time(out: &mut [u8], tag: u16, bits: u64) -> usize
-    ensures { λ r. ⌜ WroteLong tag dateTime bits (now (out .entry)) (now (out .exit)) r ⌝ }
+    ensures { λ r. ⌜ WroteNumber 8 tag dateTime bits (now (out .entry)) (now (out .exit)) r ⌝ }
 {
-    write_eight(out, tag, ttlv::DATE_TIME, bits)
-}
-
-pub fn write_boolean(out: &mut [u8], tag: u16, b: bool) -> usize
-    ensures { λ r. ⌜ WroteLong tag boolean (bit b) (now (out .entry)) (now (out .exit)) r ⌝ }
-{
-    if b {
-        return write_eight(out, tag, ttlv::BOOLEAN, 1);
-    }
-    write_eight(out, tag, ttlv::BOOLEAN, 0)
+    write_number(out, tag, ttlv::DATE_TIME, 8, bits)
 }
 
 // The bits are those of the signed number of microseconds, in two's complement.
 pub fn write_date_time_extended(out: &mut [u8], tag: u16, bits: u64) -> usize
-    ensures { λ r. ⌜ WroteLong tag dateTimeExtended bits (now (out .entry)) (now (out .exit)) r ⌝ }
+    ensures { λ r. ⌜ WroteNumber 8 tag dateTimeExtended bits (now (out .entry)) (now (out .exit)) r ⌝ }
 {
-    write_eight(out, tag, ttlv::DATE_TIME_EXTENDED, bits)
+    write_number(out, tag, ttlv::DATE_TIME_EXTENDED, 8, bits)
+}
+
+pub fn write_boolean(out: &mut [u8], tag: u16, b: bool) -> usize
+    ensures { λ r. ⌜ WroteNumber 8 tag boolean (bit b) (now (out .entry)) (now (out .exit)) r ⌝ }
+{
+    if b {
+        return write_number(out, tag, ttlv::BOOLEAN, 8, 1);
+    }
+    write_number(out, tag, ttlv::BOOLEAN, 8, 0)
 }
 
 // An item with a value of any length.
@@ -103,13 +92,14 @@ fn write_value(out: &mut [u8], tag: u16, kind: u8, s: &[u8]) -> usize
     if n > 0xFFFFFFFF {
         return 0;
     }
-    let end = 8 + (n + 7) / 8 * 8;
+    let full = (n + 7) / 8 * 8;
+    let end = 8 + full;
     if out.len() < end {
         return 0;
     }
     put_head(out, tag, kind, n);
     octets::put_all(out, 8, s);
-    octets::put(out, 8 + n, end - (8 + n), 0);
+    octets::put(out, 8 + n, full - n, 0);
     end
 }
 

@@ -6,9 +6,8 @@ use mathlib.Core.Path.{_≡_, refl}
 use mathlib.Core.Bool.{true, false, _&&_}
 use lib.ListN.{length}
 use borrow.Author.Tests.{le-leb, lt-leb, lt-ltb, le-ltb}
-use Rattle.octets.specs.Octets.{be}
-use Rattle.ttlv.specs.Items.{encode}
 use Rattle.ttlv.specs.Types.{padded}
+use Rattle.ttlv.specs.Items.{encode}
 use Rattle.ttlv_write.specs.Write.{tagOf, item, spelled, valueFits}
 use Rattle.ttlv_write.proofs.Puts.{wrote-value, wrote-none}
 use borrow.Author.Needs.{needs}
@@ -27,14 +26,14 @@ returns c =
     let long : spelled n ≡ false = le-ltb n _ (omega arith) in
     wrote-none _ (8 + padded n) (encode (item (a .tag) (a .kind) (a .s .now))) (a .out .now) (rw long)
 
+add-full : tie.Need-add-full
+add-full c = search needs
+
+mul-full : tie.Need-mul-full
+mul-full c = search needs
+
 add-end : tie.Need-add-end
 add-end c = search needs
-
-mul-end : tie.Need-mul-end
-mul-end c = search needs
-
-add-end-2 : tie.Need-add-end-2
-add-end-2 c = search needs
 
 returns-2 : tie.Need-returns-2
 returns-2 c =
@@ -53,9 +52,6 @@ put-all-requires c κs = search needs
 add-put : tie.Need-add-put
 add-put c = search needs
 
-add-put-2 : tie.Need-add-put-2
-add-put-2 c = search needs
-
 sub-put : tie.Need-sub-put
 sub-put c = search needs
 
@@ -72,21 +68,20 @@ returns-3 c =
     let room : 8 + padded n ≤ length (a .out .now) = omega arith in
     let long : spelled n ≡ true = lt-ltb n _ (omega arith) in
     let ok : valueFits (a .out .now) n ≡ true = rw (long, le-leb (8 + padded n) (length (a .out .now)) room) in
-    wrote-value _ (tagOf (a .tag)) (a .kind) n _ (a .s .now) (a .out .now) ok refl (omega arith) room (c .before .before .before .before .before .before .before .before .before .before .put-head .ensures) (c .before .before .before .before .before .before .put-all .ensures) (c .before .before .put .ensures)
+    wrote-value _ (tagOf (a .tag)) (a .kind) n _ _ (a .s .now) (a .out .now) ok refl refl refl room (c .before .before .before .before .before .before .before .before .before .before .put-head .ensures) (c .before .before .before .before .before .before .put-all .ensures) (c .before .before .put .ensures)
 
 pub write-value-spec : {M : Type 1} → statement M
 write-value-spec =
     tie.close
     (tie.spec
     returns
+    add-full
+    mul-full
     add-end
-    mul-end
-    add-end-2
     returns-2
     put-head-requires
     put-all-requires
     add-put
-    add-put-2
     sub-put
     put-requires
     same-length
