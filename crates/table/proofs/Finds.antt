@@ -17,11 +17,11 @@ use Rattle.table.specs.declared.Found.{Found}
 use Rattle.table.specs.declared.Found.the-variants.{At, Nothing}
 use Rattle.table.specs.Layout.{materialSize, sizeOf}
 use Rattle.table.specs.Records.{withPlace, withLast, serialAt, stateAt, isFree}
-use Rattle.table.specs.Search.{first, hasSerial, find, orElse, isDestroyed, freePlace, destroyedPlace, newPlace}
+use Rattle.table.specs.Search.{first, hasSerial, isNothing, find, orElse, isDestroyed, freePlace, destroyedPlace, newPlace}
 use Rattle.table.proofs.Lines.{InRange}
 use Rattle.table.proofs.Places.{serial-same, serial-other, serial-with}
 use Rattle.table.proofs.Lead.{serial-last, state-last}
-use Rattle.table.proofs.First.{At-same, At-not, on-found, found-below, found-test, found-lowest, found-is, found-only, none-fails, fails-none, first-cong}
+use Rattle.table.proofs.First.{At-not, on-found, isNothing-none, found-below, found-test, found-lowest, found-is, found-only, none-fails, fails-none, first-cong}
 
 -- ---- a record by its serial
 
@@ -164,6 +164,9 @@ module _ (n : ℕ) (t : List ℕ) where
   pub new-destroyed : freePlace n t ≡ Nothing → newPlace n t ≡ destroyedPlace n t
   unfolding newPlace orElse
   new-destroyed e = ap (λ (f : Found). orElse f (destroyedPlace n t)) e
+
+  pub new-if-free : isNothing (freePlace n t) ≡ false → newPlace n t ≡ freePlace n t
+  new-if-free e = on-found (freePlace n t) (λ i p. new-free i p ∙ sym p) (λ p. absurd (true≢false (sym (isNothing-none _ p) ∙ e)))
 
   -- where it goes: the lowest free place; or no place is free, and it is the lowest that was destroyed
   pub new-cases : (i : ℕ) → newPlace n t ≡ At i → (freePlace n t ≡ At i) ⊎ ((freePlace n t ≡ Nothing) × (destroyedPlace n t ≡ At i))

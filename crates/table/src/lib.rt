@@ -8,7 +8,7 @@ ghost use lib.Seq.{sets};
 ghost use Rattle.octets.specs.Octets.{fromBe, part};
 ghost use Rattle.table.specs.Layout.{leadSize, lineSize, bodySize, materialSize, lineOf, bodyOf, sizeOf};
 ghost use Rattle.table.specs.Records.{line, body, placeAt, withPlace, serialAt, stateAt, lastSerial, withLast, placesSaid};
-ghost use Rattle.table.specs.Search.{first, hasSerial, find, isDestroyed, freePlace, destroyedPlace, newPlace};
+ghost use Rattle.table.specs.Search.{first, hasSerial, isNothing, find, isDestroyed, freePlace, destroyedPlace, newPlace};
 
 // The layout of a table of so many places: constants for sizes, and the offsets of a place's line and body.
 pub struct Layout {
@@ -162,13 +162,13 @@ pub fn store(t: &mut [u8], n: usize, i: usize, r: Record)
     requires { ⌜ (length (now t) ≡ sizeOf n) × (i < n) ⌝ }
     ensures { λ _. ⌜ now (t .exit) ≡ withPlace n (now (t .entry)) i r ⌝ }
 {
-    let line = Layout::line(i);
+    let line_at = Layout::line(i);
     let layout = Layout { places: n };
-    let body = layout.body(i);
+    let body_at = layout.body(i);
     let material = r.material;
     put_line(
         t,
-        line,
+        line_at,
         r.serial,
         r.state,
         r.unit,
@@ -176,7 +176,7 @@ pub fn store(t: &mut [u8], n: usize, i: usize, r: Record)
         r.replaced,
         r.replacement,
     );
-    put_body(t, body, r.total, r.count, r.mask, material);
+    put_body(t, body_at, r.total, r.count, r.mask, material);
 }
 
 // The last serial issued.
@@ -208,8 +208,8 @@ pub fn serial_at(t: &[u8], i: usize) -> u32
     requires { ⌜ lineOf i + lineSize ≤ length (now t) ⌝ }
     ensures { λ r. ⌜ r ≡ serialAt (now (t .entry)) i ⌝ }
 {
-    let line = Layout::line(i);
-    field(t, line, 4) as u32
+    let at = Layout::line(i);
+    field(t, at, 4) as u32
 }
 
 // The state of place i, read by itself.
@@ -217,15 +217,15 @@ pub fn state_at(t: &[u8], i: usize) -> u8
     requires { ⌜ lineOf i + lineSize ≤ length (now t) ⌝ }
     ensures { λ r. ⌜ r ≡ stateAt (now (t .entry)) i ⌝ }
 {
-    let line = Layout::line(i);
-    field(t, line + 4, 1) as u8
+    let at = Layout::line(i);
+    field(t, at + 4, 1) as u8
 }
 
 // Whether a state is 5 or 6.
 pub fn is_destroyed(state: u8) -> bool
     ensures { λ r. ⌜ r ≡ isDestroyed state ⌝ }
 {
-    state == 5 || state == 6
+    (state == 5) | (state == 6)
 }
 
 // The lowest place whose serial is this one, zero and all.
@@ -267,14 +267,23 @@ pub fn destroyed_place(t: &[u8], n: usize) -> Found
     requires { ⌜ length (now t) ≡ sizeOf n ⌝ }
     ensures { λ r. ⌜ r ≡ destroyedPlace n (now (t .entry)) ⌝ }
 {
-    let mut i: usize = 0;
-    while i < n {
-        if is_destroyed(state_at(t, i)) {
-            return Found::At(i);
+    let mut place: usize = 0;
+    while place < n {
+        if is_destroyed(state_at(t, place)) {
+            return Found::At(place);
         }
-        i += 1;
+        place += 1;
     }
     Found::Nothing
+}
+
+fn is_nothing(found: Found) -> bool
+    ensures { λ r. ⌜ r ≡ isNothing found ⌝ }
+{
+    match found {
+        Found::At(_) => false,
+        Found::Nothing => true,
+    }
 }
 
 // Where a new key goes: the lowest free place, or if none is free the lowest place in state 5 or 6.
@@ -282,8 +291,9 @@ pub fn new_place(t: &[u8], n: usize) -> Found
     requires { ⌜ length (now t) ≡ sizeOf n ⌝ }
     ensures { λ r. ⌜ r ≡ newPlace n (now (t .entry)) ⌝ }
 {
-    match free_place(t, n) {
-        Found::At(i) => Found::At(i),
-        Found::Nothing => destroyed_place(t, n),
+    let free = free_place(t, n);
+    if !is_nothing(free) {
+        return free;
     }
+    destroyed_place(t, n)
 }

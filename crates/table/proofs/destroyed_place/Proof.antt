@@ -15,10 +15,10 @@ use Rattle.table.proofs.is_destroyed.Reads as is-destroyed-reads
 use Rattle.table.proofs.state_at.Reads as state-at-reads
 
 abbrev Inv-loop : tie.InvT-loop
-Inv-loop t n i₀ i = (i ≤ n) × (left n (λ k. isDestroyed (stateAt t k)) i ≡ first n (λ k. isDestroyed (stateAt t k)))
+Inv-loop t n place₀ place = (place ≤ n) × (left n (λ k. isDestroyed (stateAt t k)) place ≡ first n (λ k. isDestroyed (stateAt t k)))
 
 abbrev μ-loop : tie.MeasureT-loop
-μ-loop t n i₀ i = n - i
+μ-loop t n place₀ place = n - place
 
 loop-holds : tie.Need-loop-holds Inv-loop μ-loop
 loop-holds c = (omega arith, left-start _ _)
@@ -34,10 +34,10 @@ unfolding destroyedPlace
 returns c =
     let a = c .before .before .before .before .before .before .args in
     let l = c .before .before .before .before .loop in
-    sym (left-yes (a .n) (λ k. isDestroyed (stateAt (a .t .now) k)) (l .i) (omega arith) (ap isDestroyed (sym (c .before .before .state-at .ensures)) ∙ sym (c .before .is-destroyed .ensures) ∙ c .if1 .taken)) ∙ l .inv .1
+    sym (left-yes (a .n) (λ k. isDestroyed (stateAt (a .t .now) k)) (l .place) (omega arith) (ap isDestroyed (sym (c .before .before .state-at .ensures)) ∙ sym (c .before .is-destroyed .ensures) ∙ c .if1 .taken)) ∙ l .inv .1
 
-add-i : tie.Need-add-i Inv-loop μ-loop
-add-i c = search needs
+add-place : tie.Need-add-place Inv-loop μ-loop
+add-place c = search needs
 
 loop-less : tie.Need-loop-less Inv-loop μ-loop
 loop-less c = search needs
@@ -46,7 +46,7 @@ loop-again : tie.Need-loop-again Inv-loop μ-loop
 loop-again c =
     let a = c .before .before .before .before .before .before .args in
     let l = c .before .before .before .before .loop in
-    (omega arith, left-no (a .n) (λ k. isDestroyed (stateAt (a .t .now) k)) (l .i) (omega arith) (ap isDestroyed (sym (c .before .before .state-at .ensures)) ∙ sym (c .before .is-destroyed .ensures) ∙ c .if1 .left) ∙ l .inv .1)
+    (omega arith, left-no (a .n) (λ k. isDestroyed (stateAt (a .t .now) k)) (l .place) (omega arith) (ap isDestroyed (sym (c .before .before .state-at .ensures)) ∙ sym (c .before .is-destroyed .ensures) ∙ c .if1 .left) ∙ l .inv .1)
 
 returns-2 : tie.Need-returns-2 Inv-loop μ-loop
 unfolding destroyedPlace
@@ -62,7 +62,7 @@ destroyed-place-spec =
     state-at-requires
     is-destroyed-requires
     returns
-    add-i
+    add-place
     loop-less
     loop-again
     returns-2)
