@@ -1,28 +1,29 @@
 -- The check that goes place by place agrees with the rules one after the other.
 -- Assumes nothing.
 use mathlib.Core.Path.{_≡_, refl, sym, ap, _∙_}
-use Prim.Native.Nat.{ℕ, _≤_, _<_}
+use mathlib.Core.Logic.{⊎-elim}
+use Prim.Native.Nat.{ℕ, _+_, _≤_, _<_}
+use native.Mathlib.Nat.{eq-or-lt-of-le}
 use native.Mathlib.Omega.{arith}
 use native.Mathlib.Decide.{ℕ-discrete}
 use mathlib.Core.Bool.{Bool, true, false, _&&_, false≢true}
 use mathlib.Core.List.{List}
 use lib.ListN.{length}
-use lib.Dec.{leb, eqb}
-use borrow.Author.Tests.{eq-eqb, ne-eqb, le-leb, eqb-true, eqb-false, leb-true}
-use Rattle.octets.specs.If.{ifb}
+use lib.Dec.{eqb}
+use borrow.Author.Tests.{eq-eqb, ne-eqb, eqb-true}
 use Rattle.octets.specs.Octets.{part, allZero}
-use Rattle.octets.proofs.If.{ifb-true, ifb-false, on-bool}
+use Rattle.octets.proofs.If.{ifb-true, ifb-false}
 use Rattle.table.specs.declared.Record.{Record}
 use Rattle.table.specs.declared.Found.{Found}
 use Rattle.table.specs.declared.Found.the-variants.{At, Nothing}
-use Rattle.table.specs.Layout.{lineOf, bodyOf, lineSize, bodySize, sizeOf}
-use Rattle.table.specs.Records.{placeAt, serialAt, isFree, lastSerial, placesSaid}
+use Rattle.table.specs.Layout.{lineOf, lineSize, sizeOf}
+use Rattle.table.specs.Records.{placeAt, serialAt, lastSerial, placesSaid}
 use Rattle.table.specs.Search.{find}
 use Rattle.table.proofs.Places.{serial-is}
-use Rattle.soundness.specs.Sound.{sizeRight, countRight, leadRight, freeRight, zerosRight, stateRight, bitsRight, maskRight, limitRight, tailRight, wipedRight, replacedRight, replacementRight, linksRight, sound}
+use Rattle.soundness.specs.Sound.{sizeRight, countRight, leadRight, freeRight, zerosRight, linksRight, sound}
 use Rattle.soundness.specs.Checked.{wholeRight, valuesRight, namesRight, materialRight, isAt, standingRight, placeRight}
-use Rattle.soundness.proofs.Bools.{and-l, and-r, and-i, facts, tests}
-use Rattle.soundness.proofs.SoundIs.{Sound, Stands, Empty, Right, fit-is, fit-of, Linked, Distinct, find-own, own-distinct, links-is, links-of, sound-of}
+use Rattle.soundness.proofs.Bools.{and-l, and-r, and-i, no-unless, not-both, facts, tests}
+use Rattle.soundness.proofs.SoundIs.{Sound, Stands, Right, fit-is, fit-of, Linked, Distinct, find-own, own-distinct, links-is, links-of, sound-is, sound-of}
 
 at-is : (i : ℕ) (f : Found) → isAt i f ≡ true → f ≡ At i
 unfolding isAt
@@ -120,3 +121,31 @@ module _ (n : ℕ) (t : List ℕ) where
         replaced = λ i j l g s u q. linked i l s .replaced j g u q ∙ sym (serial-is n t i);
         replacement = λ i j l g s u q. linked i l s .replacement j g u q ∙ sym (serial-is n t i);
       })
+
+  -- a table whose lead fails is unsound, and so is one with a place that fails
+  pub unsound-whole : wholeRight n t ≡ false → sound n t ≡ false
+  unsound-whole e = no-unless (sound n t) (λ s. not-both (wholeRight n t) (whole-of (sound-is n t s)) e)
+
+  pub unsound-place : (i : ℕ) → i < n → placeRight n t i ≡ false → sound n t ≡ false
+  unsound-place i l e = no-unless (sound n t) (λ s. not-both (placeRight n t i) (place-of (sound-is n t s) i l) e)
+
+  -- ---- what the functions go by
+
+  pub whole-size : wholeRight n t ≡ true → length t ≡ sizeOf n
+  unfolding wholeRight sizeRight
+  whole-size e = eqb-true (length t) (sizeOf n) (and-l _ (countRight n t) (and-l _ (leadRight n t) e))
+
+  pub whole-sized : length t ≡ sizeOf n → wholeRight n t ≡ (countRight n t && leadRight n t)
+  unfolding wholeRight sizeRight
+  whole-sized e = ap (λ (b : Bool). b && countRight n t && leadRight n t) (eq-eqb (length t) (sizeOf n) e)
+
+  pub whole-unsized : eqb (length t) (sizeOf n) ≡ false → wholeRight n t ≡ false
+  unfolding wholeRight sizeRight
+  whole-unsized e = ap (λ (b : Bool). b && countRight n t && leadRight n t) e
+
+  -- the places below i have passed
+  abbrev pub Passed : ℕ → Type 0
+  Passed i = (k : ℕ) → k < i → placeRight n t k ≡ true
+
+  pub passed-more : (i : ℕ) → Passed i → placeRight n t i ≡ true → Passed (i + 1)
+  passed-more i h e k l = ⊎-elim (λ z. ap (placeRight n t) z ∙ e) (λ z. h k z) (eq-or-lt-of-le (let m : k ≤ i = omega arith in m))

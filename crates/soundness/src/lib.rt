@@ -3,10 +3,14 @@
 ghost use mathlib.Core.Path.{_≡_};
 ghost use Prim.Native.Nat.{_<_};
 ghost use lib.ListN.{length};
-ghost use lib.Dec.{eqb, leb};
+ghost use lib.Dec.{eqb};
 ghost use Rattle.table.specs.Layout.{sizeOf};
-ghost use Rattle.soundness.specs.Sound.{bitsOk, maskOk, unitOk, totalOk, stateRight, bitsRight, maskRight, limitRight, tailRight, wipedRight, replacedRight, replacementRight};
-ghost use Rattle.soundness.specs.Checked.{valuesRight, namesRight, materialRight};
+ghost use Rattle.table.specs.Records.{lastSerial};
+ghost use Rattle.table.specs.Search.{find};
+ghost use Rattle.soundness.specs.Sound.{bitsOk, maskOk, unitOk, totalOk, limitRight, tailRight, wipedRight, freeRight, zerosRight, ifStands, namesReplacement, namesReplaced, sound};
+ghost use Rattle.soundness.specs.Checked.{wholeRight, valuesRight, materialRight, namesRight, isAt, standingRight, placeRight};
+use table::Found;
+use table::Layout;
 use table::Record;
 
 // ---- the values that a record may have: Create allows the same
@@ -64,14 +68,14 @@ fn tail_right(p: Record) -> bool
     ensures { λ r. ⌜ r ≡ tailRight p ⌝ }
 {
     let material = p.material;
-    let len = octets::fewer((p.bits / 8) as usize, 32);
+    let len = octets::fewer((p.bits / 8) as usize, Layout::MATERIAL);
     octets::all_zero(&material[len..])
 }
 
 fn wiped_right(p: Record) -> bool
     ensures { λ r. ⌜ r ≡ wipedRight p ⌝ }
 {
-    if (p.state == 5) | (p.state == 6) {
+    if table::is_destroyed(p.state) {
         let material = p.material;
         return octets::all_zero(&material);
     }
@@ -90,4 +94,135 @@ fn names_right(p: Record, last: u32) -> bool
     let back = (p.replaced == 0) | (p.replaced < p.serial);
     let forth = (p.replacement == 0) | ((p.serial < p.replacement) & (p.replacement <= last));
     (p.serial <= last) & back & forth
+}
+
+// ---- the rules of the whole table
+
+// Whether so many bytes make a table of n places.
+fn size_right(len: usize, n: usize) -> bool
+    ensures { λ r. ⌜ r ≡ eqb len (sizeOf n) ⌝ }
+{
+    if len < Layout::LEAD {
+        return false;
+    }
+    if (len - Layout::LEAD) / (Layout::LINE + Layout::BODY) < n {
+        return false;
+    }
+    let layout = Layout { places: n };
+    len == layout.size()
+}
+
+// Rules 1 to 3.
+fn whole_right(t: &[u8], n: usize) -> bool
+    ensures { λ r. ⌜ r ≡ wholeRight n (now (t .entry)) ⌝ }
+{
+    if !size_right(t.len(), n) {
+        return false;
+    }
+    (table::places_said(t) as usize == n) & octets::all_zero(&t[8..Layout::LEAD])
+}
+
+// ---- the rules at a place. They ask for the size, and for a place of the table: the check has tested the one and counts the other.
+
+// Rule 4, of a free place.
+fn free_right(t: &[u8], n: usize, i: usize) -> bool
+    requires { ⌜ (length (now t) ≡ sizeOf n) × (i < n) ⌝ }
+    ensures { λ r. ⌜ r ≡ freeRight n (now (t .entry)) i ⌝ }
+{
+    let layout = Layout { places: n };
+    let line = Layout::line(i);
+    let body = layout.body(i);
+    octets::all_zero(&t[line..line + Layout::LINE])
+        & octets::all_zero(&t[body..body + Layout::BODY])
+}
+
+// Rule 5: the four zeros behind the mask.
+fn zeros_right(t: &[u8], n: usize, i: usize) -> bool
+    requires { ⌜ (length (now t) ≡ sizeOf n) × (i < n) ⌝ }
+    ensures { λ r. ⌜ r ≡ zerosRight n (now (t .entry)) i ⌝ }
+{
+    let layout = Layout { places: n };
+    let zeros = layout.body(i) + 20;
+    octets::all_zero(&t[zeros..zeros + 4])
+}
+
+// Rule 6: the search for the serial of place i gives place i.
+fn own_place(t: &[u8], n: usize, i: usize, serial: u32) -> bool
+    requires { ⌜ length (now t) ≡ sizeOf n ⌝ }
+    ensures { λ r. ⌜ r ≡ isAt i (find n (now (t .entry)) serial) ⌝ }
+{
+    match table::find(t, n, serial) {
+        Found::At(j) => j == i,
+        Found::Nothing => false,
+    }
+}
+
+// The first half of rule 16: the record that was replaced, if it stands, names this serial.
+fn back_right(t: &[u8], n: usize, serial: u32, replaced: u32) -> bool
+    requires { ⌜ length (now t) ≡ sizeOf n ⌝ }
+    ensures { λ r. ⌜ r ≡ ifStands (namesReplacement n (now (t .entry)) serial) (find n (now (t .entry)) replaced) ⌝ }
+{
+    match table::find(t, n, replaced) {
+        Found::At(j) => {
+            let old = table::load(t, n, j);
+            old.replacement == serial
+        }
+        Found::Nothing => true,
+    }
+}
+
+// The second half of rule 16: the replacement, if it stands, names this serial.
+fn forth_right(t: &[u8], n: usize, serial: u32, replacement: u32) -> bool
+    requires { ⌜ length (now t) ≡ sizeOf n ⌝ }
+    ensures { λ r. ⌜ r ≡ ifStands (namesReplaced n (now (t .entry)) serial) (find n (now (t .entry)) replacement) ⌝ }
+{
+    match table::find(t, n, replacement) {
+        Found::At(j) => {
+            let heir = table::load(t, n, j);
+            heir.replaced == serial
+        }
+        Found::Nothing => true,
+    }
+}
+
+// Rules 5 to 16, of the record p that stands at place i, where `last` is the last serial issued: the check has read both.
+fn standing_right(t: &[u8], n: usize, i: usize, last: u32, p: Record) -> bool
+    requires { ⌜ (length (now t) ≡ sizeOf n) × ((i < n) × (last ≡ lastSerial (now t))) ⌝ }
+    ensures { λ r. ⌜ r ≡ standingRight n (now (t .entry)) i p ⌝ }
+{
+    let alone = zeros_right(t, n, i) & values_right(p) & material_right(p) & names_right(p, last);
+    let links = back_right(t, n, p.serial, p.replaced) & forth_right(t, n, p.serial, p.replacement);
+    alone & own_place(t, n, i, p.serial) & links
+}
+
+// Rules 4 to 16 at place i.
+fn place_right(t: &[u8], n: usize, i: usize, last: u32) -> bool
+    requires { ⌜ (length (now t) ≡ sizeOf n) × ((i < n) × (last ≡ lastSerial (now t))) ⌝ }
+    ensures { λ r. ⌜ r ≡ placeRight n (now (t .entry)) i ⌝ }
+{
+    if table::serial_at(t, i) == 0 {
+        return free_right(t, n, i);
+    }
+    let p = table::load(t, n, i);
+    standing_right(t, n, i, last, p)
+}
+
+// ---- the check
+
+// Whether t is a sound table of n places. Any bytes and any number get an answer.
+pub fn is_sound(t: &[u8], n: usize) -> bool
+    ensures { λ r. ⌜ r ≡ sound n (now (t .entry)) ⌝ }
+{
+    if !whole_right(t, n) {
+        return false;
+    }
+    let last = table::last_serial(t);
+    let mut i: usize = 0;
+    while i < n {
+        if !place_right(t, n, i, last) {
+            return false;
+        }
+        i += 1;
+    }
+    true
 }

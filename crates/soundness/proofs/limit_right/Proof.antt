@@ -1,10 +1,8 @@
+-- `soundness::limit_right`. Each arm is the definition's, by its test on the unit.
+-- Assumes nothing.
 use borrow.Author.Needs.{needs}
 use Rattle.soundness.proofs.limit_right.Statement.{statement}
 use Rattle.soundness.proofs.limit_right.Tie as tie
-use Rattle.soundness.proofs.limit_right.Reads as reads
-use Rattle.soundness.proofs.limit_right.Lts as lts
-use Rattle.soundness.proofs.total_ok.Reads as total-ok-reads
-use Rattle.soundness.proofs.unit_ok.Reads as unit-ok-reads
 use Prim.Native.Nat.{_-_}
 use borrow.Author.Tests.{eq-eqb, ne-eqb}
 use Rattle.octets.proofs.If.{ifb-true, ifb-false}

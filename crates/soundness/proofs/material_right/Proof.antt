@@ -1,10 +1,8 @@
+-- `soundness::material_right`. The two tests are the definition's.
+-- Assumes nothing.
 use borrow.Author.Needs.{needs}
 use Rattle.soundness.proofs.material_right.Statement.{statement}
 use Rattle.soundness.proofs.material_right.Tie as tie
-use Rattle.soundness.proofs.material_right.Reads as reads
-use Rattle.soundness.proofs.material_right.Lts as lts
-use Rattle.soundness.proofs.tail_right.Reads as tail-right-reads
-use Rattle.soundness.proofs.wiped_right.Reads as wiped-right-reads
 use Prim.Native.Nat.{_-_}
 use Rattle.soundness.proofs.Bools.{and-cong}
 use Rattle.soundness.specs.Checked.{materialRight}

@@ -1,7 +1,7 @@
+-- `soundness::names_right`. The tests compute to the definition's.
+-- Assumes nothing.
 use Rattle.soundness.proofs.names_right.Statement.{statement}
 use Rattle.soundness.proofs.names_right.Tie as tie
-use Rattle.soundness.proofs.names_right.Reads as reads
-use Rattle.soundness.proofs.names_right.Lts as lts
 use Prim.Native.Nat.{_-_}
 use mathlib.Core.Path.{refl}
 use Rattle.soundness.specs.Sound.{replacedRight, replacementRight}

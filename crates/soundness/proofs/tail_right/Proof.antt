@@ -1,10 +1,8 @@
+-- `soundness::tail_right`. What is lent is the material from its length on.
+-- Assumes nothing.
 use borrow.Author.Needs.{needs}
 use Rattle.soundness.proofs.tail_right.Statement.{statement}
 use Rattle.soundness.proofs.tail_right.Tie as tie
-use Rattle.soundness.proofs.tail_right.Reads as reads
-use Rattle.soundness.proofs.tail_right.Lts as lts
-use Rattle.octets.proofs.all_zero.Reads as all-zero-reads
-use Rattle.octets.proofs.fewer.Reads as fewer-reads
 use Prim.Native.Nat.{_-_, _/_, _≤_}
 use native.Mathlib.Nat.{min-le-right}
 use native.Mathlib.Omega.{arith}

@@ -1,11 +1,8 @@
+-- `soundness::values_right`. The tests are the definition's, in its order.
+-- Assumes nothing.
 use borrow.Author.Needs.{needs}
 use Rattle.soundness.proofs.values_right.Statement.{statement}
 use Rattle.soundness.proofs.values_right.Tie as tie
-use Rattle.soundness.proofs.values_right.Reads as reads
-use Rattle.soundness.proofs.values_right.Lts as lts
-use Rattle.soundness.proofs.bits_ok.Reads as bits-ok-reads
-use Rattle.soundness.proofs.limit_right.Reads as limit-right-reads
-use Rattle.soundness.proofs.mask_ok.Reads as mask-ok-reads
 use Prim.Native.Nat.{_-_}
 use Rattle.soundness.specs.Sound.{stateRight, bitsRight, maskRight}
 use Rattle.soundness.specs.Checked.{valuesRight}

@@ -1,0 +1,50 @@
+-- `soundness::standing_right`. The tests are the definition's, in its order.
+-- Assumes nothing.
+use Prim.Native.Nat.{ℕ, _-_}
+use mathlib.Core.Path.{ap, _∙_}
+use borrow.Author.Needs.{needs}
+use Rattle.soundness.specs.Sound.{linksRight}
+use Rattle.soundness.specs.Checked.{namesRight, standingRight}
+use Rattle.soundness.proofs.Bools.{and-cong}
+use Rattle.soundness.proofs.standing_right.Statement.{statement}
+use Rattle.soundness.proofs.standing_right.Tie as tie
+
+zeros-right-requires : tie.Need-zeros-right-requires
+zeros-right-requires c κs = search needs
+
+values-right-requires : tie.Need-values-right-requires
+values-right-requires c κs = search needs
+
+material-right-requires : tie.Need-material-right-requires
+material-right-requires c κs = search needs
+
+names-right-requires : tie.Need-names-right-requires
+names-right-requires c κs = search needs
+
+back-right-requires : tie.Need-back-right-requires
+back-right-requires c κs = search needs
+
+forth-right-requires : tie.Need-forth-right-requires
+forth-right-requires c κs = search needs
+
+own-place-requires : tie.Need-own-place-requires
+own-place-requires c κs = search needs
+
+returns : tie.Need-returns
+unfolding standingRight linksRight
+returns c =
+    let alone = and-cong (and-cong (and-cong (c .before .before .before .before .before .before .zeros-right .ensures) (c .before .before .before .before .before .values-right .ensures)) (c .before .before .before .before .material-right .ensures)) (c .before .before .before .names-right .ensures ∙ ap (λ (last : ℕ). namesRight last (c .before .before .before .before .before .before .before .before .args .p)) (c .before .before .before .before .before .before .before .before .pre .1 .1)) in
+    and-cong (and-cong alone (c .own-place .ensures)) (and-cong (c .before .before .back-right .ensures) (c .before .forth-right .ensures))
+
+pub standing-right-spec : {M : Type 1} → statement M
+standing-right-spec =
+    tie.close
+    (tie.spec
+    zeros-right-requires
+    values-right-requires
+    material-right-requires
+    names-right-requires
+    back-right-requires
+    forth-right-requires
+    own-place-requires
+    returns)
