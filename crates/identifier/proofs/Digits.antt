@@ -1,0 +1,178 @@
+-- Laws of hex digits: a digit and its character, a number and its digits, at every width.
+-- Assumes nothing.
+use mathlib.Core.Path.{_≡_, refl, _∙_}
+use Prim.Native.Nat.{ℕ, zero, suc, _+_, _-_, _*_, _/_, _%_, _^_, _≤_, _<_}
+use native.Mathlib.Nat.{pow-suc, pow-zero, div-add-mod', mul-one, mul-assoc, pow-succ', zero-add}
+use native.Mathlib.Omega.{arith}
+use mathlib.Core.Bool.{Bool, true, false, _&&_, false≢true}
+use mathlib.Core.List.{List, [], _∷_, _++_, append-assoc, append-nil}
+use lib.ListN.{length, length-append}
+use lib.Dec.{leb, ltb}
+use borrow.Author.Tests.{leb-true, le-leb, lt-leb, lt-ltb, le-ltb, ltb-true, ltb-false}
+use Rattle.octets.specs.Octets.{all, Bytes}
+use Rattle.octets.proofs.If.{ifb-true, ifb-false, on-bool}
+use Rattle.identifier.specs.Identifier.{digit, digits, isDecimal, isLetter, isDigit, digitOf, fromDigitsAfter}
+
+-- ---- tests
+
+pub both : (a b : Bool) → (a && b) ≡ true → (a ≡ true) × (b ≡ true)
+both true b e = (refl, e)
+both false b e = absurd (false≢true e)
+
+between : (l c h : ℕ) → (leb l c && leb c h) ≡ true → (l ≤ c) × (c ≤ h)
+between l c h e =
+    let t = both (leb l c) (leb c h) e in
+    (leb-true l c (t .0), leb-true c h (t .1))
+
+pub above : (l c h : ℕ) → l ≤ c → leb c h ≡ false → (leb l c && leb c h) ≡ false
+above l c h p e = rw (le-leb l c p) e
+
+pub below : (l c h : ℕ) → c < l → (leb l c && leb c h) ≡ false
+below l c h p = rw (lt-leb l c p)
+
+-- ---- one digit
+
+-- c is the character of the digit d
+pub record Spells (c d : ℕ) : Type 0 where
+  pub is : isDigit c ≡ true
+  pub back : digitOf c ≡ d
+  pub there : digit d ≡ c
+  pub low : d < 16
+  pub lowest : 0x30 ≤ c
+  pub highest : c ≤ 0x46
+
+pub decimal-spells : (c : ℕ) → 0x30 ≤ c → c ≤ 0x39 → Spells c (c - 0x30)
+decimal-spells c l h =
+    let t : isDecimal c ≡ true = rw (le-leb 0x30 c l, le-leb c 0x39 h) in
+    let d : c - 0x30 < 10 = omega arith in
+    record {
+      is = rw t;
+      back = ifb-true (isDecimal c) (c - 0x30) (c - 0x37) t;
+      there = ifb-true _ _ _ (lt-ltb (c - 0x30) 10 d) ∙ omega arith;
+      low = omega arith;
+      lowest = l;
+      highest = omega arith;
+    }
+
+pub letter-spells : (c : ℕ) → 0x41 ≤ c → c ≤ 0x46 → Spells c (c - 0x37)
+letter-spells c l h =
+    let n : isDecimal c ≡ false = rw (le-leb 0x30 c (omega arith), lt-leb c 0x39 (omega arith)) in
+    let t : isLetter c ≡ true = rw (le-leb 0x41 c l, le-leb c 0x46 h) in
+    let d : 10 ≤ c - 0x37 = omega arith in
+    record {
+      is = rw (n, t);
+      back = ifb-false (isDecimal c) (c - 0x30) (c - 0x37) n;
+      there = ifb-false _ _ _ (le-ltb (c - 0x37) 10 d) ∙ omega arith;
+      low = omega arith;
+      lowest = omega arith;
+      highest = h;
+    }
+
+-- each digit character spells its digit
+pub character-spells : (c : ℕ) → isDigit c ≡ true → Spells c (digitOf c)
+character-spells c e = on-bool (isDecimal c) decimal letter
+  where
+    decimal : isDecimal c ≡ true → Spells c (digitOf c)
+    decimal t =
+        let b = between 0x30 c 0x39 t in
+        rw (ifb-true (isDecimal c) (c - 0x30) (c - 0x37) t) (decimal-spells c (b .0) (b .1))
+
+    letter : isDecimal c ≡ false → Spells c (digitOf c)
+    letter n =
+        let b = between 0x41 c 0x46 (rw n at e) in
+        rw (ifb-false (isDecimal c) (c - 0x30) (c - 0x37) n) (letter-spells c (b .0) (b .1))
+
+-- each digit is spelled by its character
+pub digit-spells : (d : ℕ) → d < 16 → Spells (digit d) d
+digit-spells d h = on-bool (ltb d 10) decimal letter
+  where
+    decimal : ltb d 10 ≡ true → Spells (digit d) d
+    decimal t =
+        let l : d < 10 = ltb-true d 10 t in
+        let m : 0x30 + d - 0x30 ≡ d = omega arith in
+        rw (ifb-true (ltb d 10) (0x30 + d) (0x37 + d) t) (rw m at (decimal-spells (0x30 + d) (omega arith) (omega arith)))
+
+    letter : ltb d 10 ≡ false → Spells (digit d) d
+    letter n =
+        let l : 10 ≤ d = ltb-false d 10 n in
+        let m : 0x37 + d - 0x37 ≡ d = omega arith in
+        rw (ifb-false (ltb d 10) (0x30 + d) (0x37 + d) n) (rw m at (letter-spells (0x37 + d) (omega arith) (omega arith)))
+
+-- a digit character is a character of text
+pub digit-text : (c : ℕ) → isDigit c ≡ true → (leb 0x20 c && leb c 0x7E) ≡ true
+digit-text c e =
+    let s = character-spells c e in
+    rw (le-leb 0x20 c (omega arith), le-leb c 0x7E (omega arith))
+
+-- ---- digits
+
+pub length-digits : (w n : ℕ) → length (digits w n) ≡ w
+unfolding digits
+length-digits zero n = refl
+length-digits (suc w) n = rw (length-append, length-digits w (n / 16)) (omega arith)
+
+all-append : {A : Type 0} (test : A → Bool) (xs ys : List A) → all test xs ≡ true → all test ys ≡ true → all test (xs ++ ys) ≡ true
+unfolding all
+all-append test [] ys h g = g
+all-append test (x ∷ xs) ys h g =
+    let t = both (test x) (all test xs) h in
+    rw (t .0) (all-append test xs ys (t .1) g)
+
+-- what passes a test passes one that asks less
+pub all-weaker : {A : Type 0} (test less : A → Bool) → ((x : A) → test x ≡ true → less x ≡ true) → (xs : List A) → all test xs ≡ true → all less xs ≡ true
+unfolding all
+all-weaker test less f [] h = refl
+all-weaker test less f (x ∷ xs) h =
+    let t = both (test x) (all test xs) h in
+    rw (f x (t .0)) (all-weaker test less f xs (t .1))
+
+pub digits-all : (w n : ℕ) → all isDigit (digits w n) ≡ true
+unfolding digits all
+digits-all zero n = refl
+digits-all (suc w) n =
+    all-append isDigit (digits w (n / 16)) (digit (n % 16) ∷ []) (digits-all w (n / 16))
+    (rw (digit-spells (n % 16) (omega arith) .is))
+
+pub all-bytes : (xs : List ℕ) → all isDigit xs ≡ true → Bytes xs
+unfolding all
+all-bytes [] h = tt
+all-bytes (x ∷ xs) h =
+    let t = both (isDigit x) (all isDigit xs) h in
+    let s = character-spells x (t .0) in
+    (omega arith, all-bytes xs (t .1))
+
+after-snoc : (a : ℕ) (xs : List ℕ) (y : ℕ) → fromDigitsAfter a (xs ++ (y ∷ [])) ≡ fromDigitsAfter a xs * 16 + digitOf y
+unfolding fromDigitsAfter
+after-snoc a [] y = refl
+after-snoc a (x ∷ xs) y = after-snoc (a * 16 + digitOf x) xs y
+
+-- a number that fits w digits is read back
+pub digits-back : (w n : ℕ) → n < 16 ^ w → fromDigitsAfter 0 (digits w n) ≡ n
+unfolding digits fromDigitsAfter
+digits-back zero n h = omega (arith, pow-zero 16)
+digits-back (suc w) n h =
+    let h′ : n / 16 < 16 ^ w = omega (arith, pow-suc 16 w) in
+    after-snoc 0 (digits w (n / 16)) (digit (n % 16))
+    ∙ rw (digits-back w (n / 16) h′, digit-spells (n % 16) (omega arith) .back) (div-add-mod' n 16)
+
+-- digit characters are written back as they were read
+pub digits-after : (xs : List ℕ) (k a : ℕ) → all isDigit xs ≡ true → digits (length xs + k) (fromDigitsAfter a xs) ≡ digits k a ++ xs
+unfolding digits fromDigitsAfter all
+digits-after [] k a h = simp (zero-add, append-nil)
+digits-after (x ∷ xs) k a h =
+    let t = both (isDigit x) (all isDigit xs) h in
+    let s = character-spells x (t .0) in
+    let q : (a * 16 + digitOf x) / 16 ≡ a = omega arith in
+    let r : (a * 16 + digitOf x) % 16 ≡ digitOf x = omega arith in
+    let e : suc (length xs) + k ≡ length xs + suc k = omega arith in
+    rw e (digits-after xs (suc k) (a * 16 + digitOf x) (t .1) ∙ rw (q, r, s .there, append-assoc))
+
+-- w digits spell a number below 16 ^ w
+pub after-lt : (xs : List ℕ) (a b : ℕ) → a < b → all isDigit xs ≡ true → fromDigitsAfter a xs < b * 16 ^ length xs
+unfolding fromDigitsAfter all
+after-lt [] a b h g = rw (pow-zero, mul-one) h
+after-lt (x ∷ xs) a b h g =
+    let t = both (isDigit x) (all isDigit xs) g in
+    let s = character-spells x (t .0) in
+    let l : fromDigitsAfter (a * 16 + digitOf x) xs < (b * 16) * 16 ^ length xs = after-lt xs (a * 16 + digitOf x) (b * 16) (omega arith) (t .1) in
+    rw (pow-succ', ← mul-assoc) l
