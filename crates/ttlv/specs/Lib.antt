@@ -3,4 +3,5 @@
 pub mod Types
 pub mod Items
 pub mod Parse
+pub mod Tree
 pub mod Fields

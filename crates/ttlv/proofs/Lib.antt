@@ -1,0 +1,12 @@
+-- The laws of TTLV.
+-- Assumes nothing.
+pub mod View
+pub mod Put
+pub mod Turns
+pub mod Spells
+pub mod Fine
+pub mod Back
+pub mod Deeper
+pub mod Well
+pub mod Tree
+pub mod Message
