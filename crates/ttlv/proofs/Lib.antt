@@ -1,5 +1,6 @@
 -- The laws of TTLV.
 -- Assumes nothing.
+pub mod Bools
 pub mod View
 pub mod Put
 pub mod Turns
@@ -10,3 +11,5 @@ pub mod Deeper
 pub mod Well
 pub mod Tree
 pub mod Message
+pub mod Small
+pub mod Eight

@@ -3,11 +3,11 @@
 use mathlib.Core.Path.{_≡_, refl, sym, ap, _∙_}
 use Prim.Native.Nat.{ℕ, zero, suc, _+_, _-_, _*_, _/_, _%_, _≤_, _<_}
 use native.Mathlib.Omega.{arith}
-use mathlib.Core.Bool.{Bool, true, false, _&&_, false≢true}
+use mathlib.Core.Bool.{Bool, true, false, _&&_}
 use mathlib.Core.List.{List, [], _∷_, _++_}
 use lib.ListN.{length, take, drop, getD}
 use lib.Dec.{leb, eqb}
-use borrow.Author.Tests.{leb-true, eqb-true, eqb-false, le-leb, eq-eqb, ne-eqb}
+use borrow.Author.Tests.{leb-true, eqb-true, eqb-false, le-leb, lt-leb, eq-eqb, ne-eqb}
 use Rattle.octets.specs.If.{ifb}
 use Rattle.octets.proofs.If.{ifb-true, ifb-false, on-if}
 use Rattle.octets.specs.Octets.{fromBe, part, allZero}
@@ -15,22 +15,13 @@ use Rattle.ttlv.specs.Types.{structure, tagLead, padded, lengthOk, value
 use Rattle.ttlv.specs.Parse.{headed, firstOf}
 use Rattle.ttlv.specs.declared.First.{First}
 use Rattle.ttlv.specs.declared.First.the-variants.{End, Bad, Value, Group}
+use Rattle.ttlv.proofs.Bools.{both, and-i, and-second, and-no}
 
--- ---- tests joined by `&&`, and the empty list
-
-pub both : (a b : Bool) → (a && b) ≡ true → (a ≡ true) × (b ≡ true)
-both true b h = (refl, h)
-both false b h = absurd (false≢true h)
-
-pub and-i : (a b : Bool) → a ≡ true → b ≡ true → (a && b) ≡ true
-and-i true b h g = g
-and-i false b h g = absurd (false≢true h)
+-- ---- the view
 
 pub empty : (s : List ℕ) → length s ≡ 0 → s ≡ []
 empty [] h = refl
 empty (x ∷ s) h = absurd (omega arith)
-
--- ---- the view
 
 -- the head of an item at the front of s, which ends within s
 pub record Head (s : List ℕ) (tag kind n : ℕ) : Type 0 where
@@ -72,28 +63,68 @@ view s =
     (λ h. view-headed s _ _ _ (eqb-true (getD s 0 0) tagLead (both (leb 8 (length s)) (eqb (getD s 0 0) tagLead) h .1)) refl refl refl)
     (λ h. bad))
 
--- ---- and back: the facts give the answer
+-- ---- and back: the facts give the answer, test by test
 
-first-headed : (s : List ℕ) (tag kind n : ℕ) → Head s tag kind n → firstOf s ≡ headed s tag kind n
-unfolding firstOf
-first-headed s tag kind n hd =
-    let l : 8 ≤ length s = omega (arith, hd .room) in
-    ifb-false _ _ _ (ne-eqb (length s) 0 (λ e. omega arith))
-    ∙ ifb-true _ _ _ (and-i _ _ (le-leb 8 (length s) l) (eq-eqb (getD s 0 0) tagLead (hd .lead)))
-    ∙ rw (hd .tagged, hd .kinded, hd .counted)
+module _ (s : List ℕ) (tag kind n : ℕ) where
+  pub no-length : lengthOk kind n ≡ false → headed s tag kind n ≡ Bad
+  unfolding headed
+  no-length a = ifb-false _ _ _ (and-no (lengthOk kind n) (leb (8 + padded n) (length s)) a)
+
+  module _ (a : lengthOk kind n ≡ true) where
+    pub no-room : length s < 8 + padded n → headed s tag kind n ≡ Bad
+    unfolding headed
+    no-room r = ifb-false _ _ _ (and-second (lengthOk kind n) (leb (8 + padded n) (length s)) a ∙ lt-leb (8 + padded n) (length s) r)
+
+    module _ (r : 8 + padded n ≤ length s) where
+      there : (lengthOk kind n && leb (8 + padded n) (length s)) ≡ true
+      there = and-i _ _ a (le-leb (8 + padded n) (length s) r)
+
+      pub group-headed : kind ≡ structure → headed s tag kind n ≡ Group tag (8 + n)
+      unfolding headed
+      group-headed e = ifb-true _ _ _ there ∙ ifb-true _ _ _ (eq-eqb kind structure e)
+
+      module _ (k : kind ≡ structure → ⊥) where
+        pub no-value : valueOk kind (part s 8 n) ≡ false → headed s tag kind n ≡ Bad
+        unfolding headed
+        no-value v = ifb-true _ _ _ there ∙ ifb-false _ _ _ (ne-eqb kind structure k) ∙ ifb-false _ _ _ (and-no (valueOk kind (part s 8 n)) _ v)
+
+        module _ (v : valueOk kind (part s 8 n) ≡ true) where
+          pub no-zeros : allZero (part s (8 + n) (padded n - n)) ≡ false → headed s tag kind n ≡ Bad
+          unfolding headed
+          no-zeros z = ifb-true _ _ _ there ∙ ifb-false _ _ _ (ne-eqb kind structure k) ∙ ifb-false _ _ _ (and-second (valueOk kind (part s 8 n)) _ v ∙ z)
+
+          pub value-headed : allZero (part s (8 + n) (padded n - n)) ≡ true → headed s tag kind n ≡ Value tag kind n (8 + padded n)
+          unfolding headed
+          value-headed z = ifb-true _ _ _ there ∙ ifb-false _ _ _ (ne-eqb kind structure k) ∙ ifb-true _ _ _ (and-i _ _ v z)
+
+module _ (s : List ℕ) where
+  pub first-end : length s ≡ 0 → firstOf s ≡ End
+  unfolding firstOf
+  first-end e = ifb-true _ _ _ (eq-eqb (length s) 0 e)
+
+  pub first-short : (length s ≡ 0 → ⊥) → length s < 8 → firstOf s ≡ Bad
+  unfolding firstOf
+  first-short n l = ifb-false _ _ _ (ne-eqb (length s) 0 n) ∙ ifb-false _ _ _ (and-no (leb 8 (length s)) _ (lt-leb 8 (length s) l))
+
+  module _ (l : 8 ≤ length s) where
+    pub no-lead : (getD s 0 0 ≡ tagLead → ⊥) → firstOf s ≡ Bad
+    unfolding firstOf
+    no-lead n =
+        ifb-false _ _ _ (ne-eqb (length s) 0 (λ e. omega arith))
+        ∙ ifb-false _ _ _ (and-second (leb 8 (length s)) _ (le-leb 8 (length s) l) ∙ ne-eqb (getD s 0 0) tagLead n)
+
+    pub first-headed : getD s 0 0 ≡ tagLead → firstOf s ≡ headed s (fromBe (part s 0 3)) (getD s 3 0) (fromBe (part s 4 4))
+    unfolding firstOf
+    first-headed e =
+        ifb-false _ _ _ (ne-eqb (length s) 0 (λ e. omega arith))
+        ∙ ifb-true _ _ _ (and-i _ _ (le-leb 8 (length s) l) (eq-eqb (getD s 0 0) tagLead e))
+
+by-head : (s : List ℕ) (tag kind n : ℕ) → Head s tag kind n → firstOf s ≡ headed s tag kind n
+by-head s tag kind n hd = first-headed s (omega (arith, hd .room)) (hd .lead) ∙ rw (hd .tagged, hd .kinded, hd .counted)
 
 pub first-value : (s : List ℕ) (tag kind n : ℕ) → Head s tag kind n → (kind ≡ structure → ⊥) → valueOk kind (part s 8 n) ≡ true
     → allZero (part s (8 + n) (padded n - n)) ≡ true → firstOf s ≡ Value tag kind n (8 + padded n)
-unfolding headed
-first-value s tag kind n hd k v z =
-    first-headed s tag kind n hd
-    ∙ ifb-true _ _ _ (and-i _ _ (hd .allowed) (le-leb (8 + padded n) (length s) (hd .room)))
-    ∙ ifb-false _ _ _ (ne-eqb kind structure k)
-    ∙ ifb-true _ _ _ (and-i _ _ v z)
+first-value s tag kind n hd k v z = by-head s tag kind n hd ∙ value-headed s tag kind n (hd .allowed) (hd .room) k v z
 
 pub first-group : (s : List ℕ) (tag n : ℕ) → Head s tag structure n → firstOf s ≡ Group tag (8 + n)
-unfolding headed
-first-group s tag n hd =
-    first-headed s tag structure n hd
-    ∙ ifb-true _ _ _ (and-i _ _ (hd .allowed) (le-leb (8 + padded n) (length s) (hd .room)))
-    ∙ ifb-true _ _ _ (eq-eqb structure structure refl)
+first-group s tag n hd = by-head s tag structure n hd ∙ group-headed s tag structure n (hd .allowed) (hd .room) refl

@@ -5,3 +5,4 @@ pub mod Items
 pub mod Parse
 pub mod Tree
 pub mod Fields
+pub mod Found

@@ -1,5 +1,44 @@
-// The TTLV reader: what stands at the front of some bytes. It knows nothing of keys.
-// Assumes nothing.
+// The TTLV reader: what stands at the front of some bytes, whether bytes are items by the rules, and the fields of a run. It knows nothing of keys.
+// Assumes nothing: no public function asks anything of its bytes.
+ghost use mathlib.Core.Path.{_≡_};
+ghost use Prim.Native.Nat.{ℕ, _+_, _^_, _≤_, _<_};
+ghost use lib.ListN.{length};
+ghost use lib.Dec.{leb};
+ghost use mathlib.Core.Bool.{true, false};
+ghost use Rattle.octets.specs.Maybe.{isSome};
+ghost use Rattle.octets.specs.Octets.{fromBe};
+ghost use Rattle.ttlv.specs.Types.{isWord, isLong, text, lengthOk, valueOk};
+ghost use Rattle.ttlv.specs.Parse.{headed, firstOf, parse, message};
+ghost use Rattle.ttlv.specs.Found.{startsAt, bytesAt, numberAt, bodyAt};
+
+// The types.
+pub const STRUCTURE: u8 = 0x01;
+
+pub const INTEGER: u8 = 0x02;
+
+pub const LONG_INTEGER: u8 = 0x03;
+
+pub const BIG_INTEGER: u8 = 0x04;
+
+pub const ENUMERATION: u8 = 0x05;
+
+pub const BOOLEAN: u8 = 0x06;
+
+pub const TEXT_STRING: u8 = 0x07;
+
+pub const BYTE_STRING: u8 = 0x08;
+
+pub const DATE_TIME: u8 = 0x09;
+
+pub const INTERVAL: u8 = 0x0A;
+
+pub const DATE_TIME_EXTENDED: u8 = 0x0B;
+
+// The first byte of every tag.
+const TAG_LEAD: u8 = 0x42;
+
+// The depth at which an item's body may still hold items: "an item at depth 9 is malformed".
+const DEPTH_MOST: usize = 8;
 
 // What stands at the front of some bytes.
 pub enum First {
@@ -19,4 +58,148 @@ pub enum First {
         tag: u32,
         next: usize,
     },
+}
+
+// The value of a wanted item at the front: len bytes, which start at 8, with the rest of the run from next on. Or no such item stands there.
+pub enum BytesField {
+    Span { len: usize, next: usize },
+    NoSpan,
+}
+
+// The number that the value of a wanted item at the front spells, with the rest of the run from next on. Or no such item stands there.
+pub enum NumberField {
+    Number { value: u64, next: usize },
+    NoNumber,
+}
+
+// The items of a wanted structure at the front, from 8 to next, with the rest of the run from next on. Or no such structure stands there.
+pub enum BodyField {
+    Body { next: usize },
+    NoBody,
+}
+
+// Whether the bytes of a whole Text String are text.
+pub fn text_ok(s: &[u8]) -> bool
+    ensures { λ r. ⌜ r ≡ text (now (s .entry)) ⌝ }
+{
+    let mut i: usize = 0;
+    while i < s.len() {
+        let b = s[i];
+        if b < 0x20 {
+            return false;
+        }
+        if 0x7E < b {
+            return false;
+        }
+        i += 1;
+    }
+    true
+}
+
+// Whether values of a type have 4 bytes.
+fn is_word(kind: u8) -> bool
+    ensures { λ r. ⌜ r ≡ isWord kind ⌝ }
+{
+    kind == INTEGER || kind == ENUMERATION || kind == INTERVAL
+}
+
+// Whether values of a type have 8 bytes.
+fn is_long(kind: u8) -> bool
+    ensures { λ r. ⌜ r ≡ isLong kind ⌝ }
+{
+    kind == LONG_INTEGER || kind == BOOLEAN || kind == DATE_TIME || kind == DATE_TIME_EXTENDED
+}
+
+// Whether a type allows a length.
+pub fn length_ok(kind: u8, n: usize) -> bool
+    ensures { λ r. ⌜ r ≡ lengthOk kind n ⌝ }
+{
+    if is_word(kind) {
+        return n == 4;
+    }
+    if is_long(kind) {
+        return n == 8;
+    }
+    if kind == STRUCTURE {
+        return n % 8 == 0;
+    }
+    if kind == BIG_INTEGER {
+        return 8 <= n && n % 8 == 0;
+    }
+    kind == TEXT_STRING || kind == BYTE_STRING
+}
+
+// Whether bytes spell 0 or 1, however many they are.
+fn at_most_one(v: &[u8]) -> bool
+    ensures { λ r. ⌜ r ≡ leb (fromBe (now (v .entry))) 1 ⌝ }
+{
+    if v.len() == 0 {
+        return true;
+    }
+    let last = v.len() - 1;
+    if !octets::all_zero(&v[..last]) {
+        return false;
+    }
+    v[last] <= 1
+}
+
+// Whether a type allows a value.
+pub fn value_ok(kind: u8, v: &[u8]) -> bool
+    ensures { λ r. ⌜ r ≡ valueOk kind (now (v .entry)) ⌝ }
+{
+    if kind == BOOLEAN {
+        return at_most_one(v);
+    }
+    if kind == TEXT_STRING {
+        return text_ok(v);
+    }
+    true
+}
+
+// The item whose head says tag, kind and n. `read_first` shows the eight bytes of the head and the bound of n.
+fn head_first(s: &[u8], tag: u32, kind: u8, n: usize) -> First
+    requires { ⌜ (8 ≤ length (now s)) × (n < 256 ^ 4) ⌝ }
+    ensures { λ r. ⌜ r ≡ headed (now (s .entry)) tag kind n ⌝ }
+{
+    if !length_ok(kind, n) {
+        return First::Bad;
+    }
+    let next = 8 + (n + 7) / 8 * 8;
+    if s.len() < next {
+        return First::Bad;
+    }
+    if kind == STRUCTURE {
+        return First::Group { tag, next };
+    }
+    let stop = 8 + n;
+    if !value_ok(kind, &s[8..stop]) {
+        return First::Bad;
+    }
+    if !octets::all_zero(&s[stop..next]) {
+        return First::Bad;
+    }
+    First::Value {
+        tag,
+        kind,
+        len: n,
+        next,
+    }
+}
+
+// The item at the front of s.
+pub fn read_first(s: &[u8]) -> First
+    ensures { λ r. ⌜ r ≡ firstOf (now (s .entry)) ⌝ }
+{
+    if s.len() == 0 {
+        return First::End;
+    }
+    if s.len() < 8 {
+        return First::Bad;
+    }
+    if s[0] != TAG_LEAD {
+        return First::Bad;
+    }
+    let tag = octets::number(&s[0..3]) as u32;
+    let n = octets::number(&s[4..8]) as usize;
+    head_first(s, tag, s[3], n)
 }
