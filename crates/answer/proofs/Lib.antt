@@ -1,3 +1,9 @@
--- Worked cases of responses.
+-- Worked cases of responses, and the laws of responses.
 -- Assumes nothing.
 pub mod Worked
+pub mod Maybe
+pub mod Fields
+pub mod Links
+pub mod Payloads
+pub mod Outcomes
+pub mod Answers

@@ -1,0 +1,145 @@
+-- Outcomes read back: the payload of a success, the reason of a failure.
+-- Assumes nothing.
+use mathlib.Core.Path.{_≡_, refl, sym, ap, _∙_}
+use Prim.Native.Nat.{ℕ, _^_, _≤_, _<_}
+use native.Mathlib.Omega.{arith}
+use mathlib.Core.Bool.{Bool, true, false, _&&_, _||_, false≢true}
+use mathlib.Core.Option.{Option, none, some}
+use mathlib.Core.List.{List, [], _∷_}
+use lib.Dec.{leb, eqb}
+use borrow.Author.Tests.{eqb-true}
+use Rattle.octets.specs.If.{ifb}
+use Rattle.octets.specs.Maybe.{_>>=_, _>>_}
+use Rattle.octets.specs.Octets.{be}
+use Rattle.octets.proofs.If.{ifb-true, ifb-false, on-if, on-bool}
+use Rattle.ttlv.specs.Types.{enumeration}
+use Rattle.ttlv.specs.Items.{Items, nil, value, group}
+use Rattle.ttlv.specs.Fields.{ended, bodyOf}
+use Rattle.ttlv.proofs.Bools.{both, and-i}
+use Rattle.answer.specs.Tags.{responsePayload, resultReason, resultStatus}
+use Rattle.rules.specs.declared.Reason.{Reason}
+use Rattle.rules.specs.declared.Reason.the-variants.{OperationNotSupported, InvalidField, ObjectNotFound, ObjectDestroyed, PermissionDenied, WrongKeyLifecycleState, UsageLimitExceeded, ServerLimitExceeded}
+use Rattle.rules.specs.Numbers.{reasonNumber, create, rekey, getAttributes, getUsageAllocation, activate, revoke, destroy}
+use Rattle.act.specs.declared.Shown.{Shown}
+use Rattle.act.specs.declared.Outcome.{Outcome}
+use Rattle.act.specs.declared.Outcome.the-variants.{Failed, Created, Done, Showed}
+use Rattle.answer.specs.Respond.{word, success, operationFailed, succeeded, outcomeItems}
+use Rattle.answer.specs.Read.{createdIn, doneIn, showedIn, answersDone, payloadIn, reasons, reasonAmong, failureIn, successIn, outcomeIn, serialOk, shownOk, outcomeOk}
+use Rattle.answer.proofs.Maybe.{not-some, some-is, on-bind, on-test}
+use Rattle.answer.proofs.Fields.{ended-is, body-spells, spelled-back, spelled-spells}
+use Rattle.answer.proofs.Links.{or-cases}
+use Rattle.answer.proofs.Payloads.{created-back, created-spells, done-back, done-spells, showed-back, showed-spells}
+
+-- ---- reasons
+
+pub reason-short : (r : Reason) → reasonNumber r < 256 ^ 4
+unfolding reasonNumber
+reason-short OperationNotSupported = omega arith
+reason-short InvalidField = omega arith
+reason-short ObjectNotFound = omega arith
+reason-short ObjectDestroyed = omega arith
+reason-short PermissionDenied = omega arith
+reason-short WrongKeyLifecycleState = omega arith
+reason-short UsageLimitExceeded = omega arith
+reason-short ServerLimitExceeded = omega arith
+
+-- each reason is the one that has its number
+pub reason-back : (r : Reason) → reasonAmong (reasonNumber r) reasons ≡ some r
+unfolding reasonAmong reasonNumber ifb
+reason-back OperationNotSupported = refl
+reason-back InvalidField = refl
+reason-back ObjectNotFound = refl
+reason-back ObjectDestroyed = refl
+reason-back PermissionDenied = refl
+reason-back WrongKeyLifecycleState = refl
+reason-back UsageLimitExceeded = refl
+reason-back ServerLimitExceeded = refl
+
+pub reason-spells : (n : ℕ) (rs : List Reason) {r : Reason} → reasonAmong n rs ≡ some r → n ≡ reasonNumber r
+unfolding reasonAmong
+reason-spells n [] h = absurd (not-some h)
+reason-spells n (q ∷ rs) {r} h =
+    on-if (λ (o : Option Reason). o ≡ some r → n ≡ reasonNumber r) {b = eqb n (reasonNumber q)}
+    (λ e g. eqb-true n (reasonNumber q) e ∙ ap reasonNumber (some-is g))
+    (λ e g. reason-spells n rs g)
+    h
+
+-- ---- outcomes
+
+failed-back : (operation : ℕ) (reason : Reason) → outcomeIn operation (outcomeItems (Failed reason)) ≡ some (Failed reason)
+unfolding outcomeIn outcomeItems failureIn ifb ended _>>=_ _>>_
+failed-back operation reason =
+    rw (spelled-back 4 resultStatus enumeration operationFailed _ (omega arith), spelled-back 4 resultReason enumeration (reasonNumber reason) nil (reason-short reason), reason-back reason)
+
+succeeded-back : (operation : ℕ) (payload : Items) → outcomeIn operation (succeeded payload) ≡ payloadIn operation payload
+unfolding outcomeIn successIn bodyOf ifb ended _>>=_ _>>_
+succeeded-back operation payload = rw (spelled-back 4 resultStatus enumeration success _ (omega arith))
+
+-- the operations that answer an identifier alone do not create
+not-create : (operation : ℕ) → answersDone operation ≡ true → eqb operation create ≡ false
+not-create operation h =
+    on-bool (eqb operation create) (λ e. absurd (false≢true (ap answersDone (sym (eqb-true operation create e)) ∙ h))) (λ e. e)
+
+pub outcome-back : (operation : ℕ) (o : Outcome) → outcomeOk operation o ≡ true → outcomeIn operation (outcomeItems o) ≡ some o
+unfolding outcomeOk outcomeItems payloadIn
+outcome-back operation (Failed reason) h = failed-back operation reason
+outcome-back operation (Created serial) h =
+    let p = both (eqb operation create) (serialOk serial) h in
+    succeeded-back operation _ ∙ ifb-true _ _ _ (p .0) ∙ created-back serial (p .1)
+outcome-back operation (Done serial) h =
+    let p = both (answersDone operation) (serialOk serial) h in
+    succeeded-back operation _ ∙ ifb-false _ _ _ (not-create operation (p .0)) ∙ ifb-true _ _ _ (p .0) ∙ done-back serial (p .1)
+outcome-back operation (Showed shown) h =
+    let p = both (eqb operation getAttributes) (shownOk shown) h in
+    let e = eqb-true operation getAttributes (p .0) in
+    succeeded-back operation _ ∙ rw e (unfold ifb in showed-back shown (p .1))
+
+-- what is read as a success's payload was written as one
+payload-spells : (operation : ℕ) (t : Items) {o : Outcome} → payloadIn operation t ≡ some o → succeeded t ≡ outcomeItems o
+unfolding payloadIn outcomeItems
+payload-spells operation t {o} h = create-first h
+  where
+    Spelled : Option Outcome → Type 0
+    Spelled q = q ≡ some o → succeeded t ≡ outcomeItems o
+
+    last : Spelled (ifb (eqb operation getAttributes) (showedIn t) none)
+    last = on-if Spelled (λ e g. let p = showed-spells t g in ap succeeded (p .2) ∙ sym (ap outcomeItems (p .1))) (λ e g. absurd (not-some g))
+
+    done-next : Spelled (ifb (answersDone operation) (doneIn t) (ifb (eqb operation getAttributes) (showedIn t) none))
+    done-next = on-if Spelled (λ e g. let p = done-spells t g in ap succeeded (p .2) ∙ sym (ap outcomeItems (p .1))) (λ e. last)
+
+    create-first : Spelled (payloadIn operation t)
+    create-first = on-if Spelled (λ e g. let p = created-spells t g in ap succeeded (p .2) ∙ sym (ap outcomeItems (p .1))) (λ e. done-next)
+
+failure-spells : (t : Items) {o : Outcome} → failureIn t ≡ some o → word resultStatus enumeration operationFailed t ≡ outcomeItems o
+unfolding failureIn outcomeItems
+failure-spells t h =
+    on-bind _ _ h (λ n e1 h1. on-test _ _ h1 (λ u h2. on-bind _ _ h2 (λ r e3 w.
+    let t1 = spelled-spells 4 resultReason enumeration t e1 in
+    let t2 = ended-is (n .1) u in
+    let t3 = reason-spells (n .0) reasons e3 in
+    rw (← (some-is w), t1, t2, t3))))
+
+success-spells : (operation : ℕ) (t : Items) {o : Outcome} → successIn operation t ≡ some o → word resultStatus enumeration success t ≡ outcomeItems o
+unfolding successIn
+success-spells operation t h =
+    on-bind _ _ h (λ p e1 h1. on-test _ _ h1 (λ u w.
+    let t1 = body-spells responsePayload t e1 in
+    let t2 = ended-is (p .1) u in
+    rw (t1, t2) (payload-spells operation (p .0) w)))
+
+pub outcome-spells : (operation : ℕ) (t : Items) {o : Outcome} → outcomeIn operation t ≡ some o → t ≡ outcomeItems o
+unfolding outcomeIn
+outcome-spells operation t {o} h =
+    on-bind _ _ h (λ s e g. spelled-spells 4 resultStatus enumeration t e ∙ by-status (s .0) (s .1) g)
+  where
+    Spelled : ℕ → Items → Option Outcome → Type 0
+    Spelled status rest q = q ≡ some o → word resultStatus enumeration status rest ≡ outcomeItems o
+
+    failed-next : (status : ℕ) (rest : Items) → Spelled status rest (ifb (eqb status operationFailed) (failureIn rest) none)
+    failed-next status rest =
+        on-if (Spelled status rest) (λ e g. rw (eqb-true status operationFailed e) (failure-spells rest g)) (λ e g. absurd (not-some g))
+
+    by-status : (status : ℕ) (rest : Items) → Spelled status rest (ifb (eqb status success) (successIn operation rest) (ifb (eqb status operationFailed) (failureIn rest) none))
+    by-status status rest =
+        on-if (Spelled status rest) (λ e g. rw (eqb-true status success e) (success-spells operation rest g)) (λ e. failed-next status rest)
