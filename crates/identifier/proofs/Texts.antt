@@ -4,7 +4,7 @@ use mathlib.Core.Path.{_≡_, sym, _∙_}
 use Prim.Native.Nat.{ℕ, _+_, _^_, _<_}
 use native.Mathlib.Nat.{one-mul}
 use native.Mathlib.Omega.{arith}
-use mathlib.Core.Bool.{true, _&&_}
+use mathlib.Core.Bool.{true, false, _&&_, and-false}
 use mathlib.Core.List.{List}
 use lib.ListN.{length}
 use lib.Dec.{leb, eqb}
@@ -50,10 +50,14 @@ pub serial-spelled : (v : List ℕ) → length v ≡ 8 → all isDigit v ≡ tru
 unfolding serialOf
 serial-spelled v l h = ifb-true _ _ _ (rw (eq-eqb (length v) 8 l, h))
 
--- any other text names none
+-- any other text names none: one of another length, and one with another character
 pub serial-length : (v : List ℕ) → (length v ≡ 8 → ⊥) → serialOf v ≡ 0
 unfolding serialOf
 serial-length v l = ifb-false _ _ _ (rw (ne-eqb (length v) 8 l))
+
+pub serial-character : (v : List ℕ) → all isDigit v ≡ false → serialOf v ≡ 0
+unfolding serialOf
+serial-character v h = ifb-false _ _ _ (rw h (and-false (eqb (length v) 8)))
 
 -- each serial is read back from its text
 pub serial-back : (s : ℕ) → s < 256 ^ 4 → serialOf (identifier s) ≡ s

@@ -62,11 +62,11 @@ module _ (v : List ℕ) (k a : ℕ) where
   unfolding fromDigitsAfter
   reading-ends h = ifb-true _ _ _ (all-end isDigit v k h) ∙ rw (drop-of-length-le v h)
 
--- one digit more fits w digits more by one
+-- a number of k digits and one digit more are a number of k + 1 digits
 pub more-lt : (a k d : ℕ) → a < 16 ^ k → d < 16 → a * 16 + d < 16 ^ (k + 1)
 more-lt a k d h g = rw (add-one, pow-suc) (omega arith)
 
--- one digit more fits 32 bits, if fewer than 8 are in
+-- there is room for one digit more in 32 bits, if fewer than 8 are in
 pub more-fits : (a k : ℕ) → a < 16 ^ k → k < 8 → a < 2 ^ 28
 more-fits a k h g = omega (arith, pow-le-pow-right {n = 16} (omega arith) {i = k} {j = 7} (omega arith))
 

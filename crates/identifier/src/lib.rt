@@ -1,7 +1,7 @@
 // Identifier text: a serial as eight upper-case hex digits, and back.
 // Assumes nothing. The one `requires`, of a digit's character, is shown by `text_of`.
 ghost use mathlib.Core.Path.{_≡_};
-ghost use Prim.Native.Nat.{_<_};
+ghost use Prim.Native.Nat.{_≤_, _<_};
 ghost use Rattle.octets.specs.If.{ifb};
 ghost use Rattle.identifier.specs.Identifier.{digit, isDigit, digitOf, identifier, serialOf};
 
@@ -13,7 +13,7 @@ fn wide(x: u8) -> u32
 
 // The digit of a character; 16 for a character that is no digit.
 fn digit_of(c: u8) -> u32
-    ensures { λ r. ⌜ r ≡ ifb (isDigit c) (digitOf c) 16 ⌝ }
+    ensures { λ r. ⌜ (r ≡ ifb (isDigit c) (digitOf c) 16) × (r ≤ 16) ⌝ }
 {
     if 0x30 <= c && c <= 0x39 {
         return wide(c) - 0x30;

@@ -1,7 +1,9 @@
 -- `identifier::character`. The test of the digit picks the character.
 -- Assumes nothing.
+use mathlib.Core.Path.{sym}
 use borrow.Author.Needs.{needs}
-use Rattle.octets.proofs.If.{chain}
+use borrow.Author.Tests.{lt-ltb, le-ltb}
+use Rattle.octets.proofs.If.{ifb-true, ifb-false}
 use Rattle.identifier.proofs.character.Statement.{statement}
 use Rattle.identifier.proofs.character.Tie as tie
 
@@ -12,7 +14,7 @@ cast-result : tie.Need-cast-result
 cast-result c = search needs
 
 returns : tie.Need-returns
-returns c = search (needs, chain)
+returns c = sym (ifb-true _ _ _ (lt-ltb (c .before .args .d) 10 (c .if1 .taken)))
 
 add-result-2 : tie.Need-add-result-2
 add-result-2 c = search needs
@@ -21,7 +23,7 @@ cast-result-2 : tie.Need-cast-result-2
 cast-result-2 c = search needs
 
 returns-2 : tie.Need-returns-2
-returns-2 c = search (needs, chain)
+returns-2 c = sym (ifb-false _ _ _ (le-ltb (c .before .args .d) 10 (c .if1 .left)))
 
 pub character-spec : {M : Type 1} → statement M
 character-spec =

@@ -2,6 +2,7 @@
 -- Assumes nothing.
 use mathlib.Core.Path.{_≡_}
 use Prim.Native.Nat.{_-_}
+use native.Mathlib.Omega.{arith}
 use mathlib.Core.Logic.{⊎-elim}
 use borrow.Author.Tests.{leb-true}
 use borrow.Author.Needs.{needs}
@@ -20,7 +21,7 @@ returns : tie.Need-returns
 returns c =
     let x = c .before .before .before .args .c in
     let e : c .wide .result ≡ x = c .wide .ensures .0 in
-    rw e (found-spells x (x - 0x30) (decimal-spells x (c .before .before .if1 .taken) (leb-true x 0x39 (c .before .if2 .taken))))
+    (rw e (found-spells x (x - 0x30) (decimal-spells x (omega arith) (omega (arith, leb-true)))), omega (arith, leb-true))
 
 wide-requires-2 : tie.Need-wide-requires-2
 wide-requires-2 c κs = search needs
@@ -32,14 +33,16 @@ returns-2 : tie.Need-returns-2
 returns-2 c =
     let x = c .before .before .before .before .args .c in
     let e : c .wide2 .result ≡ x = c .wide2 .ensures .0 in
-    rw e (found-spells x (x - 0x37) (letter-spells x (c .before .before .if3 .taken) (leb-true x 0x46 (c .before .if4 .taken))))
+    (rw e (found-spells x (x - 0x37) (letter-spells x (omega arith) (omega (arith, leb-true)))), omega (arith, leb-true))
 
 returns-3 : tie.Need-returns-3
 returns-3 c =
-    let x = c .before .before .args .c in
-    found-none x
-    (⊎-elim (λ w. above 0x30 x 0x39 (w .0 .taken) (w .1 .left)) (λ w. below 0x30 x 0x39 (w .left)) (c .before .if1 .came))
-    (⊎-elim (λ w. above 0x41 x 0x46 (w .0 .taken) (w .1 .left)) (λ w. below 0x41 x 0x46 (w .left)) (c .if3 .came))
+    let x = c .before .before .args .c in (
+      found-none x
+          (⊎-elim (λ w. above 0x30 x 0x39 (w .0 .taken) (w .1 .left)) (λ w. below 0x30 x 0x39 (w .left)) (c .before .if1 .came))
+          (⊎-elim (λ w. above 0x41 x 0x46 (w .0 .taken) (w .1 .left)) (λ w. below 0x41 x 0x46 (w .left)) (c .if3 .came)),
+      omega arith,
+    )
 
 pub digit-of-spec : {M : Type 1} → statement M
 digit-of-spec =

@@ -19,10 +19,10 @@ abbrev μ-loop : tie.MeasureT-loop
 μ-loop text serial₀ k₀ serial k = 8 - k
 
 returns : tie.Need-returns Inv-loop μ-loop
-returns c = sym (serial-length _ (c .if1 .taken))
+returns c = sym (serial-length (c .before .before .args .text .now) (λ e. omega arith))
 
 loop-holds : tie.Need-loop-holds Inv-loop μ-loop
-loop-holds c = (omega arith, (omega arith, reading-starts _ (c .if1 .left)))
+loop-holds c = (omega arith, (omega arith, reading-starts (c .before .before .args .text .now) (omega arith)))
 
 shared-slice-read-digit-of : tie.Need-shared-slice-read-digit-of Inv-loop μ-loop
 shared-slice-read-digit-of c = omega arith
@@ -35,7 +35,7 @@ returns-2 c =
     let l = c .before .before .before .before .loop in
     let v = c .before .before .before .before .before .before .before .args .text .now in
     let d = c .before .digit-of in
-    sym (l .inv .1 .1 ∙ reading-stops v (l .k) (l .serial) (omega arith) (none-found (getD v (l .k) 0) (d .result) (d .ensures) (c .if2 .taken)))
+    sym (l .inv .1 .1 ∙ reading-stops v (l .k) (l .serial) (omega arith) (none-found (getD v (l .k) 0) (d .result) (d .ensures .0) (c .if2 .taken)))
 
 mul-serial : tie.Need-mul-serial Inv-loop μ-loop
 mul-serial c =
@@ -45,9 +45,6 @@ mul-serial c =
 add-serial : tie.Need-add-serial Inv-loop μ-loop
 add-serial c =
     let l = c .before .before .before .before .loop in
-    let v = c .before .before .before .before .before .before .before .args .text .now in
-    let d = c .before .digit-of in
-    let s : Spells (getD v (l .k) 0) (d .result) = spells-found (getD v (l .k) 0) (d .result) (d .ensures) (c .if2 .left) in
     omega (arith, more-fits (l .serial) (l .k) (l .inv .1 .0) (omega arith))
 
 add-k : tie.Need-add-k Inv-loop μ-loop
@@ -61,8 +58,8 @@ loop-again c =
     let l = c .before .before .before .before .loop in
     let v = c .before .before .before .before .before .before .before .args .text .now in
     let d = c .before .digit-of in
-    let s : Spells (getD v (l .k) 0) (d .result) = spells-found (getD v (l .k) 0) (d .result) (d .ensures) (c .if2 .left) in
-    (omega arith, (more-lt (l .serial) (l .k) (d .result) (l .inv .1 .0) (s .low), l .inv .1 .1 ∙ reading-goes v (l .k) (l .serial) (d .result) (omega arith) s))
+    let s : Spells (getD v (l .k) 0) (d .result) = spells-found (getD v (l .k) 0) (d .result) (d .ensures .0) (c .if2 .left) in
+    (omega arith, (omega (arith, more-lt (l .serial) (l .k) (d .result) (l .inv .1 .0) (s .low)), l .inv .1 .1 ∙ reading-goes v (l .k) (l .serial) (d .result) (omega arith) s))
 
 returns-3 : tie.Need-returns-3 Inv-loop μ-loop
 returns-3 c =
