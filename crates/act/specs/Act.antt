@@ -34,16 +34,15 @@ use Rattle.act.specs.declared.Outcome.the-variants.{Failed, Created, Don
 
 -- ---- what an item meets
 
--- what stays through a request, and the item's position in it
+-- the number of places, the clock's 64 bits, and the part of the fresh strip that is the item's
 pub record Env : Type 0 where
   pub places : ℕ
   pub clock : ℕ
-  pub strip : List ℕ
-  pub index : ℕ
+  pub fresh : List ℕ
 
 -- "Item i, from 0, takes bytes 32i to 32i+31 of the fresh strip"
-unfoldable pub freshOf : Env → List ℕ
-freshOf env = part (env .strip) (materialSize * env .index) materialSize
+abbrev pub envAt : ℕ → ℕ → List ℕ → ℕ → Env
+envAt places clock strip i = record { places = places; clock = clock; fresh = part strip (materialSize * i) materialSize }
 
 -- the serial that an item is about: the one that it names, or the placeholder's; 0 is none
 unfoldable pub sought : ℕ → Target → ℕ
@@ -99,7 +98,7 @@ module _ (env : Env) (holder : ℕ) (t : List ℕ) where
     tests = isFull (env .places) t ⇒ ServerLimitExceeded ∷ [];
     did = record {
       outcome = Created (nextSerial t);
-      table = withBorn (env .places) t (newRecord (nextSerial t) wanted (freshOf env));
+      table = withBorn (env .places) t (newRecord (nextSerial t) wanted (env .fresh));
       holder = nextSerial t;
     };
   }
@@ -114,7 +113,7 @@ module _ (env : Env) (holder : ℕ) (t : List ℕ) where
         ∷ [];
     did = record {
       outcome = Done (nextSerial t);
-      table = withHeir (env .places) t i (heirOf (nextSerial t) r (freshOf env));
+      table = withHeir (env .places) t i (heirOf (nextSerial t) r (env .fresh));
       holder = nextSerial t;
     };
   }

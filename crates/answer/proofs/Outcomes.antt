@@ -33,7 +33,6 @@ use Rattle.answer.proofs.Payloads.{created-back, created-spells, done-b
 -- ---- reasons
 
 pub reason-short : (r : Reason) → reasonNumber r < 256 ^ 4
-unfolding reasonNumber
 reason-short OperationNotSupported = omega arith
 reason-short InvalidField = omega arith
 reason-short ObjectNotFound = omega arith
@@ -45,7 +44,7 @@ reason-short ServerLimitExceeded = omega arith
 
 -- each reason is the one that has its number
 pub reason-back : (r : Reason) → reasonAmong (reasonNumber r) reasons ≡ some r
-unfolding reasonAmong reasonNumber ifb
+unfolding reasonAmong ifb
 reason-back OperationNotSupported = refl
 reason-back InvalidField = refl
 reason-back ObjectNotFound = refl

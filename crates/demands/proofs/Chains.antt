@@ -13,10 +13,12 @@ use Rattle.rules.specs.declared.Reason.{Reason}
 use Rattle.rules.specs.Tests.{due}
 use Rattle.frame.specs.Frame.{Asked, continue}
 use Rattle.payload.specs.Payload.{command}
-use Rattle.act.specs.Act.{Env, Did, Plan, plan, carried, step, isFailed}
+use Rattle.act.specs.Act.{Env, Did, Plan, envAt, plan, carried, step, isFailed}
 use Rattle.answer.specs.Respond.{Answer}
-use Rattle.engine.specs.Batch.{Ran, answerTo, onward, lastly, firstly, endsBatch, batch}
-use Rattle.demands.specs.Demand2.{Link, Due, planOf, answerOf, following, Chain, none-left, stops, goes-on}
+use Rattle.engine.specs.Batch.{Ran, answerTo, lastly, firstly, endsBatch, batch}
+use Rattle.demands.specs.Demand2.{Link, Due, planOf, answerOf, linkAt, Chain, none-left, stops, goes-on}
+use Rattle.demands.specs.Box.{Call}
+use Rattle.table.specs.Layout.{placeCount}
 
 -- the link of an item that is carried out
 abbrev pub linkTo : Env → ℕ → List ℕ → Asked → Link
@@ -31,9 +33,9 @@ step-due env holder t asked = record {
 }
 
 -- the links of a run of items: a chain to the table that the batch leaves, whose answers are the batch's
-pub record Chained (option : ℕ) (env : Env) (holder : ℕ) (t : List ℕ) (items : List Asked) (ran : Ran) : Type 0 where
+pub record Chained (c : Call) (option i holder : ℕ) (t : List ℕ) (items : List Asked) (ran : Ran) : Type 0 where
   pub links : List Link
-  pub chain : Chain option env holder t items links (ran .table)
+  pub chain : Chain c option i holder t items links (ran .table)
   pub answers : map answerOf links ≡ ran .answers
 
 -- both halves of a conjunction
@@ -63,26 +65,30 @@ goes-continue option did e f = eqb-true option continue (go (eqb option continue
     go true h = refl
     go false h = absurd (true≢false h)
 
-pub batch-chain : (items : List Asked) (option : ℕ) (env : Env) (holder : ℕ) (t : List ℕ) → Chained option env holder t items (batch env option holder t items)
-unfolding batch answerOf
-batch-chain [] option env holder t = record { links = []; chain = none-left; answers = refl }
-batch-chain (asked ∷ later) option env holder t =
-    turn (batch-chain later option (onward env) (step env holder t asked .holder) (step env holder t asked .table))
-  where
-    turn : Chained option (onward env) (step env holder t asked .holder) (step env holder t asked .table) later
-        (batch (onward env) option (step env holder t asked .holder) (step env holder t asked .table) later)
-        → Chained option env holder t (asked ∷ later)
-        (ifb (endsBatch option (step env holder t asked)) (lastly (answerTo asked (step env holder t asked)) (step env holder t asked .table))
-        (firstly (answerTo asked (step env holder t asked)) (batch (onward env) option (step env holder t asked .holder) (step env holder t asked .table) later)))
-    turn rest =
-        on-if (Chained option env holder t (asked ∷ later))
-        (λ e. record {
-          links = linkTo env holder t asked ∷ [];
-          chain = stops asked (step env holder t asked) (step-due env holder t asked) (ends-failed option (step env holder t asked) e) (ends-stop option (step env holder t asked) e);
-          answers = refl;
-        })
-        (λ e. record {
-          links = linkTo env holder t asked ∷ rest .links;
-          chain = goes-on asked (step env holder t asked) (step-due env holder t asked) (goes-continue option (step env holder t asked) e) (rest .chain);
-          answers = ap {B = List Answer} (λ rs. answerTo asked (step env holder t asked) ∷ rs) (rest .answers);
-        })
+module _ (c : Call) (option : ℕ) where
+  -- the items of a call from number i on
+  abbrev pub ranFrom : ℕ → ℕ → List ℕ → List Asked → Ran
+  ranFrom i holder t items = batch placeCount (c .clock) (c .strip) option i holder t items
+
+  pub batch-chain : (items : List Asked) (i holder : ℕ) (t : List ℕ) → Chained c option i holder t items (ranFrom i holder t items)
+  unfolding batch answerOf
+  batch-chain [] i holder t = record { links = []; chain = none-left; answers = refl }
+  batch-chain (asked ∷ later) i holder t =
+      turn (step (envAt placeCount (c .clock) (c .strip) i) holder t asked) (step-due (envAt placeCount (c .clock) (c .strip) i) holder t asked)
+      (batch-chain later (i + 1) (step (envAt placeCount (c .clock) (c .strip) i) holder t asked .holder) (step (envAt placeCount (c .clock) (c .strip) i) holder t asked .table))
+    where
+      turn : (did : Did) → Due (linkAt c i holder t asked did) → Chained c option (i + 1) (did .holder) (did .table) later (ranFrom (i + 1) (did .holder) (did .table) later)
+          → Chained c option i holder t (asked ∷ later)
+          (ifb (endsBatch option did) (lastly (answerTo asked did) (did .table)) (firstly (answerTo asked did) (ranFrom (i + 1) (did .holder) (did .table) later)))
+      turn did d rest =
+          on-if (Chained c option i holder t (asked ∷ later))
+          (λ e. record {
+            links = linkAt c i holder t asked did ∷ [];
+            chain = stops asked did d (ends-failed option did e) (ends-stop option did e);
+            answers = refl;
+          })
+          (λ e. record {
+            links = linkAt c i holder t asked did ∷ rest .links;
+            chain = goes-on asked did d (goes-continue option did e) (rest .chain);
+            answers = ap {B = List Answer} (λ rs. answerTo asked did ∷ rs) (rest .answers);
+          })

@@ -19,7 +19,7 @@ use Rattle.frame.specs.Frame.{Asked, Frame, frameIn, versionOk, countOk, option
 use Rattle.payload.specs.Payload.{command}
 use Rattle.act.specs.declared.Outcome.{Outcome}
 use Rattle.act.specs.declared.Outcome.the-variants.{Failed}
-use Rattle.act.specs.Act.{Env, Did, Plan, plan, isFailed}
+use Rattle.act.specs.Act.{Env, Did, Plan, envAt, plan, isFailed}
 use Rattle.answer.specs.Respond.{Answer, Response, respond}
 use Rattle.answer.specs.Read.{answersIn, allowed}
 use Rattle.engine.specs.Serving.{Effect, roomLeast, stripSize, requestMost}
@@ -79,28 +79,24 @@ pub record Due (l : Link) : Type 0 where
 unfoldable pub answerOf : Link → Answer
 answerOf l = record { operation = l .asked .operation; id = l .asked .id; outcome = l .did .outcome }
 
--- an env at the next item
-abbrev pub following : Env → Env
-following env = record { places = env .places; clock = env .clock; strip = env .strip; index = env .index + 1 }
+-- what item i of a call meets, with a placeholder and a table
+abbrev pub linkAt : Call → ℕ → ℕ → List ℕ → Asked → Did → Link
+linkAt c i holder t asked did = record { env = envAt placeCount (c .clock) (c .strip) i; holder = holder; table = t; asked = asked; did = did }
 
--- (c), (f): the links of a batch under an option, from a placeholder and a table on: one link for each answered item and none more.
+-- (c), (f): the links of a batch under an option, from item i on, with a placeholder and a table: one link for each answered item and none more.
 -- The first item is answered; each later one if the option is Continue or the one before it succeeded
-pub data Chain (option : ℕ) : Env → ℕ → List ℕ → List Asked → List Link → List ℕ → Type 0 where
-  none-left : {env : Env} {holder : ℕ} {t : List ℕ} → Chain option env holder t [] [] t
-  stops : {env : Env} {holder : ℕ} {t : List ℕ} {later : List Asked} (asked : Asked) (did : Did)
-      → Due (record { env = env; holder = holder; table = t; asked = asked; did = did })
+pub data Chain (c : Call) (option : ℕ) : ℕ → ℕ → List ℕ → List Asked → List Link → List ℕ → Type 0 where
+  none-left : {i holder : ℕ} {t : List ℕ} → Chain c option i holder t [] [] t
+  stops : {i holder : ℕ} {t : List ℕ} {later : List Asked} (asked : Asked) (did : Did)
+      → Due (linkAt c i holder t asked did)
       → isFailed (did .outcome) ≡ true
       → (option ≡ continue → ⊥)
-      → Chain option env holder t (asked ∷ later) (record { env = env; holder = holder; table = t; asked = asked; did = did } ∷ []) (did .table)
-  goes-on : {env : Env} {holder : ℕ} {t u : List ℕ} {later : List Asked} {links : List Link} (asked : Asked) (did : Did)
-      → Due (record { env = env; holder = holder; table = t; asked = asked; did = did })
+      → Chain c option i holder t (asked ∷ later) (linkAt c i holder t asked did ∷ []) (did .table)
+  goes-on : {i holder : ℕ} {t u : List ℕ} {later : List Asked} {links : List Link} (asked : Asked) (did : Did)
+      → Due (linkAt c i holder t asked did)
       → (isFailed (did .outcome) ≡ true → option ≡ continue)
-      → Chain option (following env) (did .holder) (did .table) later links u
-      → Chain option env holder t (asked ∷ later) (record { env = env; holder = holder; table = t; asked = asked; did = did } ∷ links) u
-
--- the first item of a request: index 0
-abbrev pub firstEnv : Call → Env
-firstEnv c = record { places = placeCount; clock = c .clock; strip = c .strip; index = 0 }
+      → Chain c option (i + 1) (did .holder) (did .table) later links u
+      → Chain c option i holder t (asked ∷ later) (linkAt c i holder t asked did ∷ links) u
 
 -- ---- the whole
 
@@ -114,7 +110,7 @@ pub record Answered (c : Call) (e : Effect) : Type 0 where
   pub framed : frameIn items ≡ some frame
   -- (c) to (f) the chain, from the table before, with an empty placeholder, to the table after
   pub links : List Link
-  pub chain : Chain (optionOf (frame .header .option)) (firstEnv c) 0 (c .table) (frame .items) links (e .table)
+  pub chain : Chain c (optionOf (frame .header .option)) 0 0 (c .table) (frame .items) links (e .table)
   -- (g) the response bytes read back to the clock and these answers
   pub response : Items
   pub readable : message (take (e .length) (e .output)) ≡ some response

@@ -23,7 +23,7 @@ use Rattle.payload.specs.Payload.{command}
 use Rattle.act.specs.Act.{sought, isFailed}
 use Rattle.engine.specs.Serving.{Effect}
 use Rattle.demands.specs.Box.{Call, Box, Lent}
-use Rattle.demands.specs.Demand2.{Link, Chain, frameOf, firstEnv}
+use Rattle.demands.specs.Demand2.{Link, Chain, frameOf}
 use Rattle.demands.specs.Log.{Event, logged, issued, granted, limit}
 
 -- ---- runs
@@ -140,7 +140,7 @@ pub record Demand3 (B : Box) : Type 0 where
   pub known : (log : List Event) (t : List ℕ) → Run B log t → (x i : ℕ) → (x ≡ 0 → ⊥) → Stands x t i → issued x log ≡ 1
   -- "no state changes but by the listed transitions", and untouched records stay: along the chain of each accepted call
   pub tame : (log : List Event) (t : List ℕ) → Run B log t → (c : Call) (e : Effect) → c .table ≡ t → Lent c → B c e → e .number ≡ 0
-      → (f : Frame) → frameOf c ≡ some f → (links : List Link) → Chain (optionOf (f .header .option)) (firstEnv c) 0 t (f .items) links (e .table) → Every Tame links
+      → (f : Frame) → frameOf c ≡ some f → (links : List Link) → Chain c (optionOf (f .header .option)) 0 0 t (f .items) links (e .table) → Every Tame links
   -- "a record in a destroyed state holds no key byte"
   pub wiped : (log : List Event) (t : List ℕ) → Run B log t → (i : ℕ) → i < placeCount → isDestroyed (placeAt placeCount t i .state) ≡ true → placeAt placeCount t i .material ≡ replicate materialSize 0
   -- the table stays sound, so that no call of a run is refused with 3

@@ -6,7 +6,7 @@ use mathlib.Core.List.{List, [], _∷_}
 use lib.Dec.{eqb}
 use Rattle.octets.specs.If.{ifb}
 use Rattle.frame.specs.Frame.{Asked, Request, continue}
-use Rattle.act.specs.Act.{Env, Did, step, isFailed}
+use Rattle.act.specs.Act.{Did, envAt, step, isFailed}
 use Rattle.answer.specs.Respond.{Answer}
 
 -- the answers in order, and the table behind them
@@ -17,10 +17,6 @@ pub record Ran : Type 0 where
 -- "Operation as given, the ID if given", and what became of the item
 abbrev pub answerTo : Asked → Did → Answer
 answerTo asked did = record { operation = asked .operation; id = asked .id; outcome = did .outcome }
-
--- the same for the next item
-abbrev pub onward : Env → Env
-onward env = record { places = env .places; clock = env .clock; strip = env .strip; index = env .index + 1 }
 
 -- nothing after this item
 abbrev pub lastly : Answer → List ℕ → Ran
@@ -34,15 +30,15 @@ firstly answer ran = record { answers = answer ∷ ran .answers; table = ran .ta
 unfoldable pub endsBatch : ℕ → Did → Bool
 endsBatch option did = isFailed (did .outcome) && not (eqb option continue)
 
--- the items from here on, with the placeholder and the table that they meet
-unfoldable pub batch : Env → ℕ → ℕ → List ℕ → List Asked → Ran
-batch env option holder t [] = record { answers = []; table = t }
-batch env option holder t (asked ∷ later) =
-    let did = step env holder t asked in
-    let rest = batch (onward env) option (did .holder) (did .table) later in
-    ifb (endsBatch option did) (lastly (answerTo asked did) (did .table)) (firstly (answerTo asked did) rest)
+module _ (places clock : ℕ) (strip : List ℕ) (option : ℕ) where
+  -- the items from number i on, with the placeholder and the table that they meet
+  unfoldable pub batch : ℕ → ℕ → List ℕ → List Asked → Ran
+  batch i holder t [] = record { answers = []; table = t }
+  batch i holder t (asked ∷ later) =
+      let did = step (envAt places clock strip i) holder t asked in
+      let rest = batch (i + 1) (did .holder) (did .table) later in
+      ifb (endsBatch option did) (lastly (answerTo asked did) (did .table)) (firstly (answerTo asked did) rest)
 
 -- "It is empty when a request begins": the whole batch
 unfoldable pub running : ℕ → ℕ → List ℕ → List ℕ → Request → Ran
-running places clock strip t request =
-    batch (record { places = places; clock = clock; strip = strip; index = 0 }) (request .option) 0 t (request .items)
+running places clock strip t request = batch places clock strip (request .option) 0 0 t (request .items)
