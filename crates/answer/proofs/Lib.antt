@@ -7,3 +7,6 @@ pub mod Links
 pub mod Payloads
 pub mod Outcomes
 pub mod Answers
+pub mod Sizes
+pub mod Well
+pub mod One
