@@ -2,12 +2,12 @@
 -- Assumes nothing.
 use mathlib.Core.Path.{_≡_, refl, sym, ap, _∙_}
 use Prim.Native.Nat.{ℕ}
-use mathlib.Core.Bool.{Bool, true, false}
-use mathlib.Core.Option.{Option, none, some}
+use mathlib.Core.Bool.{true}
+use mathlib.Core.Option.{some}
 use mathlib.Core.List.{List}
 use Rattle.octets.specs.Maybe.{_>>=_}
 use Rattle.octets.specs.Octets.{Bytes}
-use Rattle.ttlv.specs.Items.{Items, nil, group, encode}
+use Rattle.ttlv.specs.Items.{encode}
 use Rattle.ttlv.specs.Parse.{parse, depthMost, isOne, message}
 use Rattle.ttlv.proofs.Back.{parse-back}
 use Rattle.ttlv.proofs.Well.{encode-one}
@@ -36,7 +36,7 @@ module _ (r : Response) (h : allowed r ≡ true) where
 -- bytes that are read as a response are those that it is written as, and it is allowed
 pub response-spells : (s : List ℕ) (r : Response) → Bytes s → (message s >>= answersIn) ≡ some r → (s ≡ encode (respond r)) × (allowed r ≡ true)
 response-spells s r b h =
-    on-bind _ _ h (λ t e g.
+    on-bind h (λ t e g.
     let p = answers-spell t r g in
     (sym (message-spells s t b e) ∙ ap encode (p .0), p .1))
 

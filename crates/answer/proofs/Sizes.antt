@@ -1,32 +1,30 @@
--- How long the parts of a response are, and the response by its front and its batch items.
+-- How long the parts of a response are.
 -- Assumes nothing.
-use mathlib.Core.Path.{_≡_, refl, sym, ap, _∙_}
-use Prim.Native.Nat.{ℕ, suc, _+_, _-_, _*_, _/_, _^_, _≤_, _<_}
+use mathlib.Core.Path.{_≡_, refl, _∙_}
+use Prim.Native.Nat.{ℕ, _+_, _*_, _≤_}
 use native.Mathlib.Omega.{arith}
-use mathlib.Core.Bool.{Bool, true, false, _&&_}
-use mathlib.Core.List.{List, [], _∷_, _++_, append-assoc, append-nil}
-use lib.ListN.{length, replicate, length-append, length-replicate}
-use lib.Dec.{leb, eqb}
-use borrow.Author.Tests.{leb-true}
-use Rattle.octets.specs.If.{ifb}
+use mathlib.Core.Bool.{true}
+use mathlib.Core.List.{List, [], _∷_}
+use lib.ListN.{length, length-append, length-replicate}
+use lib.Dec.{eqb}
 use Rattle.octets.specs.Octets.{be, all}
 use Rattle.octets.proofs.If.{on-if}
 use Rattle.octets.proofs.Numbers.{length-be}
-use Rattle.ttlv.specs.Types.{structure, padded, longInteger, enumeration}
-use Rattle.ttlv.specs.Items.{Items, nil, value, group, head, padding, encode}
+use Rattle.ttlv.specs.Types.{padded}
+use Rattle.ttlv.specs.Items.{Items, nil, value, group, encode}
 use Rattle.ttlv.proofs.Bools.{both}
 use Rattle.identifier.specs.Identifier.{identifier}
 use Rattle.identifier.proofs.Texts.{length-identifier}
 use Rattle.frame.specs.Tags.{batchItem}
-use Rattle.frame.specs.Frame.{idMost, batchMost}
-use Rattle.answer.specs.Tags.{responseHeader, responseMessage, replacedObjectLink, replacementObjectLink}
+use Rattle.frame.specs.Frame.{idMost}
+use Rattle.answer.specs.Tags.{replacedObjectLink, replacementObjectLink}
 use Rattle.act.specs.declared.Shown.{Shown}
 use Rattle.act.specs.declared.Outcome.{Outcome}
 use Rattle.act.specs.declared.Outcome.the-variants.{Failed, Created, Done, Showed}
-use Rattle.answer.specs.Respond.{Answer, Response, word, long, named, limitItems, linkItems, attributeItems, outcomeItems, idItems, answerItems, batchItems, versionItems, headerItems, respond}
-use Rattle.answer.specs.Read.{answerOk, allowed}
-use Rattle.answer.specs.Front.{headerSize, frameSize, longestItem, responseMost, front}
-use Rattle.answer.proofs.Answers.{answer-facts, allowed-facts}
+use Rattle.answer.specs.Respond.{Answer, word, long, named, limitItems, linkItems, attributeItems, outcomeItems, idItems, answerItems, batchItems}
+use Rattle.answer.specs.Read.{answerOk}
+use Rattle.answer.specs.Front.{longestItem}
+use Rattle.answer.proofs.Answers.{answer-facts}
 
 -- the bytes of some items
 abbrev pub size : Items → ℕ
@@ -57,15 +55,6 @@ unfolding encode
 size-nil = refl
 
 pub ruleset sizes = (size-word, size-long, size-named, size-group, size-nil)
-
--- a structure alone, and a structure in front of others
-encode-alone : (tag : ℕ) (body : Items) → encode (group tag body nil) ≡ head tag structure (length (encode body)) ++ encode body
-unfolding encode
-encode-alone tag body = rw append-nil
-
-encode-first : (tag : ℕ) (body rest : Items) → encode (group tag body rest) ≡ encode (group tag body nil) ++ encode rest
-unfolding encode
-encode-first tag body rest = simp (append-assoc, append-nil)
 
 -- ---- answers
 
@@ -102,39 +91,13 @@ pub answer-items-size : (a : Answer) → length (a .id) ≤ idMost → size (ans
 unfolding answerItems
 answer-items-size a h = rw size-word (omega (arith, id-size (a .id) (outcomeItems (a .outcome)) h, outcome-size (a .outcome)))
 
-pub id-short : (a : Answer) → answerOk a ≡ true → length (a .id) ≤ idMost
-id-short a h = leb-true (length (a .id)) idMost (answer-facts a h .id-ok)
-
 -- each batch item fits the longest
 pub answer-size : (a : Answer) → answerOk a ≡ true → length (encode (group batchItem (answerItems a) nil)) ≤ longestItem
-answer-size a h = simp sizes (omega (arith, answer-items-size a (id-short a h)))
+answer-size a h = simp sizes (omega (arith, answer-items-size a (answer-facts a h .id-short)))
 
 pub batch-size : (answers : List Answer) → all answerOk answers ≡ true → length (encode (batchItems answers)) ≤ length answers * longestItem
 unfolding batchItems all
 batch-size [] h = rw size-nil (omega arith)
 batch-size (a ∷ answers) h =
     let p = both (answerOk a) (all answerOk answers) h in
-    rw size-group (omega (arith, answer-items-size a (id-short a (p .0)), batch-size answers (p .1)))
-
--- ---- the front
-
-pub header-size : (clock count : ℕ) (rest : Items) → size (group responseHeader (headerItems clock count) rest) ≡ headerSize + size rest
-unfolding headerItems versionItems
-header-size clock count rest = simp sizes (omega arith)
-
-pub frame-size : (clock count n : ℕ) → length (front clock count n) ≡ frameSize
-unfolding front
-frame-size clock count n = simp (length-append, length-be, header-size, size-nil) (omega arith)
-
--- a response is its front, and then its batch items
-pub respond-splits : (r : Response)
-    → encode (respond r) ≡ front (r .clock) (length (r .answers)) (length (encode (batchItems (r .answers)))) ++ encode (batchItems (r .answers))
-unfolding respond front
-respond-splits r = encode-alone _ _ ∙ rw (header-size, encode-first) (simp append-assoc)
-
--- each response fits the longest
-pub response-size : (r : Response) → allowed r ≡ true → length (encode (respond r)) ≤ responseMost
-unfolding respond
-response-size r h =
-    let f = allowed-facts r h in
-    simp (header-size, sizes) (omega (arith, batch-size (r .answers) (f .answers-ok), f .few-answers))
+    rw size-group (omega (arith, answer-items-size a (answer-facts a (p .0) .id-short), batch-size answers (p .1)))

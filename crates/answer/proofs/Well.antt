@@ -1,22 +1,21 @@
 -- The items of a response are well-formed: within the depth that is read, every length short, every value of its type.
 -- Assumes nothing.
-use mathlib.Core.Path.{_≡_, refl, sym, ap, _∙_}
-use Prim.Native.Nat.{ℕ, suc, _+_, _-_, _*_, _/_, _^_, _≤_, _<_}
+use mathlib.Core.Path.{_≡_, refl}
+use Prim.Native.Nat.{ℕ, suc, _+_, _-_, _^_, _≤_, _<_}
 use native.Mathlib.Omega.{arith}
-use mathlib.Core.Bool.{Bool, true, false, not, _&&_}
+use mathlib.Core.Bool.{Bool, true, not, _&&_}
 use mathlib.Core.List.{List, [], _∷_}
 use lib.ListN.{length}
 use lib.Dec.{ltb, eqb}
-use borrow.Author.Tests.{lt-ltb, leb-true}
+use borrow.Author.Tests.{lt-ltb}
 use Rattle.octets.specs.If.{ifb}
 use Rattle.octets.specs.Octets.{be, all}
 use Rattle.octets.proofs.If.{on-if}
 use Rattle.octets.proofs.Numbers.{length-be}
-use Rattle.ttlv.specs.Types.{structure, tagLead, integer, longInteger, enumeration, textString, byteString, dateTime, lengthOk, text, valueOk}
-use Rattle.ttlv.specs.Items.{Items, nil, value, group, encode, tagOk, itemOk, wellFormed}
+use Rattle.ttlv.specs.Types.{structure, integer, longInteger, enumeration, textString, byteString, dateTime, lengthOk, text, valueOk}
+use Rattle.ttlv.specs.Items.{Items, nil, value, group, tagOk, itemOk, wellFormed}
 use Rattle.ttlv.specs.Parse.{depthMost}
 use Rattle.ttlv.proofs.Bools.{both, and-i}
-use Rattle.ttlv.proofs.Fine.{FineGroup, group-well}
 use Rattle.identifier.specs.Identifier.{identifier}
 use Rattle.identifier.proofs.Texts.{length-identifier, identifier-text}
 use Rattle.frame.specs.Tags.{batchCount, batchItem, operationTag, protocolVersion, protocolVersionMajor, protocolVersionMinor, uniqueBatchItemId}
@@ -28,10 +27,13 @@ use Rattle.act.specs.declared.Shown.{Shown}
 use Rattle.act.specs.declared.Outcome.{Outcome}
 use Rattle.act.specs.declared.Outcome.the-variants.{Failed, Created, Done, Showed}
 use Rattle.answer.specs.Respond.{Answer, Response, word, long, named, limitItems, linkItems, attributeItems, success, operationFailed, succeeded, outcomeItems, idItems, answerItems, batchItems, versionItems, headerItems, respond}
-use Rattle.answer.specs.Read.{answerOk, allowed}
+use Rattle.answer.specs.Read.{Limits, answerOk, allowed}
 use Rattle.answer.specs.Front.{responseMost}
+use Rattle.answer.proofs.Links.{linked}
+use Rattle.answer.proofs.Limits.{limited, limitsOf}
 use Rattle.answer.proofs.Answers.{answer-facts, allowed-facts}
-use Rattle.answer.proofs.Sizes.{size, sizes, size-group, attributes-size, id-short, answer-items-size, batch-size, header-size}
+use Rattle.answer.proofs.Sizes.{size, sizes, size-group, attributes-size, answer-items-size, batch-size}
+use Rattle.answer.proofs.Front.{header-size}
 
 -- a run that is well-formed with structures at most d deep
 abbrev Well : ℕ → Items → Type 0
@@ -51,10 +53,12 @@ field-well d tag kind k v rest l h g w =
     let p1 = both (tagOk tag && not (eqb kind structure)) (lengthOk kind k) (p2 .0) in
     rw l (and-i _ _ (and-i _ _ (and-i _ _ (and-i _ _ (p1 .0) (p1 .1)) g) (p2 .1)) w)
 
-word-well : (d tag kind n : ℕ) (rest : Items) → shapeOk tag kind 4 ≡ true → valueOk kind (be 4 n) ≡ true → Well (suc d) rest → Well (suc d) (word tag kind n rest)
+word-well : (d tag kind n : ℕ) (rest : Items) → shapeOk tag kind 4 ≡ true → valueOk kind (be 4 n) ≡ true → Well (suc d) rest
+    → Well (suc d) (word tag kind n rest)
 word-well d tag kind n rest = field-well d tag kind 4 (be 4 n) rest (length-be 4 n)
 
-long-well : (d tag kind n : ℕ) (rest : Items) → shapeOk tag kind 8 ≡ true → valueOk kind (be 8 n) ≡ true → Well (suc d) rest → Well (suc d) (long tag kind n rest)
+long-well : (d tag kind n : ℕ) (rest : Items) → shapeOk tag kind 8 ≡ true → valueOk kind (be 8 n) ≡ true → Well (suc d) rest
+    → Well (suc d) (long tag kind n rest)
 long-well d tag kind n rest = field-well d tag kind 8 (be 8 n) rest (length-be 8 n)
 
 named-well : (d tag serial : ℕ) (rest : Items) → shapeOk tag textString 8 ≡ true → Well (suc d) rest → Well (suc d) (named tag serial rest)
@@ -71,7 +75,7 @@ nil-well d = refl
 
 -- ---- payloads. The message is at depth 8, its batch items at 7, their fields at 6, those of a payload at 5, attributes at 4, their parts at 3
 
-linked-well : (kind serial : ℕ) (rest : Items) → Well 4 rest → Well 4 (group link (word linkType enumeration kind (named linkedObjectIdentifier serial nil)) rest)
+linked-well : (kind serial : ℕ) (rest : Items) → Well 4 rest → Well 4 (linked kind serial rest)
 unfolding lengthOk valueOk ifb
 linked-well kind serial rest w =
     body-well 3 link _ rest refl (simp sizes (omega arith))
@@ -79,14 +83,13 @@ linked-well kind serial rest w =
     (named-well 2 linkedObjectIdentifier serial nil refl (nil-well 3)))
     w
 
-limited-well : (total count unit : ℕ) (rest : Items) → Well 4 rest
-    → Well 4 (group usageLimits (long usageLimitsTotal longInteger total (long usageLimitsCount longInteger count (word usageLimitsUnit enumeration unit nil))) rest)
+limited-well : (l : Limits) (rest : Items) → Well 4 rest → Well 4 (limited l rest)
 unfolding lengthOk valueOk ifb
-limited-well total count unit rest w =
+limited-well l rest w =
     body-well 3 usageLimits _ rest refl (simp sizes (omega arith))
-    (long-well 2 usageLimitsTotal longInteger total _ refl refl
-    (long-well 2 usageLimitsCount longInteger count _ refl refl
-    (word-well 2 usageLimitsUnit enumeration unit nil refl refl (nil-well 3))))
+    (long-well 2 usageLimitsTotal longInteger (l .total) _ refl refl
+    (long-well 2 usageLimitsCount longInteger (l .count) _ refl refl
+    (word-well 2 usageLimitsUnit enumeration (l .unit) nil refl refl (nil-well 3))))
     w
 
 link-well : (kind serial : ℕ) (rest : Items) → Well 4 rest → Well 4 (linkItems kind serial rest)
@@ -95,7 +98,7 @@ link-well kind serial rest w = on-if (Well 4) {b = eqb serial 0} (λ e. w) (λ e
 
 limit-well : (s : Shown) (rest : Items) → Well 4 rest → Well 4 (limitItems s rest)
 unfolding limitItems
-limit-well s rest w = on-if (Well 4) {b = eqb (s .unit) 0} (λ e. w) (λ e. limited-well (s .total) (s .count) (s .unit) rest w)
+limit-well s rest w = on-if (Well 4) {b = eqb (s .unit) 0} (λ e. w) (λ e. limited-well (limitsOf s) rest w)
 
 attributes-well : (s : Shown) → Well 4 (attributeItems s)
 unfolding attributeItems lengthOk valueOk ifb
@@ -148,7 +151,7 @@ unfolding batchItems all
 batch-well [] h = nil-well 7
 batch-well (a ∷ answers) h =
     let p = both (answerOk a) (all answerOk answers) h in
-    let i = id-short a (p .0) in
+    let i = answer-facts a (p .0) .id-short in
     body-well 6 batchItem (answerItems a) (batchItems answers) refl (omega (arith, answer-items-size a i)) (answer-well a i) (batch-well answers (p .1))
 
 -- ---- the message
