@@ -61,7 +61,8 @@ id-back (x ∷ id) rest n h =
       means = refl;
     }
 
-id-spells : (t : Items) {a : Option (List ℕ) × Items} → optional uniqueBatchItemId idFirst t ≡ some a → idOk (a .0) ≡ true → t ≡ idItems (idBytes (a .0)) (a .1)
+id-spells : (t : Items) {a : Option (List ℕ) × Items} → optional uniqueBatchItemId idFirst t ≡ some a → idOk (a .0) ≡ true
+    → t ≡ idItems (idBytes (a .0)) (a .1)
 unfolding idOk idBytes idItems
 id-spells t h =
     on-optional uniqueBatchItemId idFirst t (λ a. idOk (a .0) ≡ true → t ≡ idItems (idBytes (a .0)) (a .1)) h

@@ -1,9 +1,9 @@
 -- Usage limits read back, present or absent.
 -- Assumes nothing.
 use mathlib.Core.Path.{_≡_, refl, sym, ap, _∙_}
-use Prim.Native.Nat.{ℕ, _^_, _≤_, _<_}
+use Prim.Native.Nat.{_^_, _<_}
 use native.Mathlib.Omega.{arith}
-use mathlib.Core.Bool.{Bool, true, false, _&&_}
+use mathlib.Core.Bool.{Bool, true, false, _&&_, false≢true}
 use mathlib.Core.Option.{Option, none, some}
 use lib.Dec.{leb, eqb}
 use borrow.Author.Tests.{eqb-true, not-true, leb-true}
@@ -38,34 +38,47 @@ limited l rest =
     (word usageLimitsUnit enumeration (l .unit) nil)))
     rest
 
--- "unit 0 with total and count zero, or unit 1 or 2 with total 1 to 1,000,000,000,000 and count at most total"
-abbrev pub limitsOk : ℕ → ℕ → ℕ → Bool
-limitsOk unit total count = ifb (eqb unit 0) (eqb total 0 && eqb count 0) (unitOk unit && totalOk total && leb count total)
+-- what a usage limit that is shown keeps to
+pub record LimitsFacts (l : Limits) : Type 0 where
+  pub zeros : eqb (l .unit) 0 ≡ true → (l .total ≡ 0) × (l .count ≡ 0)
+  pub unit-short : l .unit < 256 ^ 4
+  pub total-short : l .total < 256 ^ 8
+  pub count-short : l .count < 256 ^ 8
 
-limits-none : (unit total count : ℕ) → eqb unit 0 ≡ true → limitsOk unit total count ≡ true → (total ≡ 0) × (count ≡ 0)
-limits-none unit total count e h =
-    let p = both (eqb total 0) (eqb count 0) (sym (ifb-true _ _ _ e) ∙ h) in
-    (eqb-true total 0 (p .0), eqb-true count 0 (p .1))
+-- the test of `shownOk`
+abbrev pub limitsOk : Limits → Bool
+limitsOk l = ifb (eqb (l .unit) 0) (eqb (l .total) 0 && eqb (l .count) 0) (unitOk (l .unit) && totalOk (l .total) && leb (l .count) (l .total))
 
-limits-some : (unit total count : ℕ) → eqb unit 0 ≡ false → limitsOk unit total count ≡ true
-    → (unit < 256 ^ 4) × (total < 256 ^ 8) × (count < 256 ^ 8)
-limits-some unit total count e h =
-    let p = both (unitOk unit && totalOk total) (leb count total) (sym (ifb-false _ _ _ e) ∙ h) in
-    let q = both (unitOk unit) (totalOk total) (p .0) in
-    let r = both (leb 1 total) (leb total 1_000_000_000_000) (q .1) in
-    let t : total ≤ 1_000_000_000_000 = leb-true _ _ (r .1) in
-    let c : count ≤ total = leb-true _ _ (p .1) in
-    let u : unit ≤ 2 = on-or (eqb unit 1) (eqb unit 2) (q .0) (λ i. omega (arith, eqb-true unit 1 i)) (λ i. omega (arith, eqb-true unit 2 i)) in
-    (omega arith, omega arith, omega arith)
+pub limits-facts : (l : Limits) → limitsOk l ≡ true → LimitsFacts l
+limits-facts l h = on-bool (eqb (l .unit) 0) absent present
+  where
+    absent : eqb (l .unit) 0 ≡ true → LimitsFacts l
+    absent e =
+        let u = eqb-true (l .unit) 0 e in
+        let p = both (eqb (l .total) 0) (eqb (l .count) 0) (sym (ifb-true _ _ _ e) ∙ h) in
+        let t = eqb-true (l .total) 0 (p .0) in
+        let c = eqb-true (l .count) 0 (p .1) in
+        record { zeros = λ _. (t, c); unit-short = omega arith; total-short = omega arith; count-short = omega arith }
 
-limits-first-back : (l : Limits) (rest : Items) → eqb (l .unit) 0 ≡ false → l .unit < 256 ^ 4 → l .total < 256 ^ 8 → l .count < 256 ^ 8
-    → limitsFirst (limited l rest) ≡ some (l, rest)
+    present : eqb (l .unit) 0 ≡ false → LimitsFacts l
+    present e =
+        let p = both _ (leb (l .count) (l .total)) (sym (ifb-false _ _ _ e) ∙ h) in
+        let q = both (unitOk (l .unit)) (totalOk (l .total)) (p .0) in
+        let r = both (leb 1 (l .total)) _ (q .1) in
+        record {
+          zeros = λ z. absurd (false≢true (sym e ∙ z));
+          unit-short = on-or (eqb (l .unit) 1) (eqb (l .unit) 2) (q .0) (λ i. omega (arith, eqb-true)) (λ i. omega (arith, eqb-true));
+          total-short = omega (arith, leb-true);
+          count-short = omega (arith, leb-true);
+        }
+
+limits-first-back : (l : Limits) (rest : Items) → eqb (l .unit) 0 ≡ false → LimitsFacts l → limitsFirst (limited l rest) ≡ some (l, rest)
 unfolding limitsFirst bodyOf ifb ended _>>=_ _>>_
-limits-first-back l rest e u t c =
+limits-first-back l rest e f =
     rw (
-      spelled-back 8 usageLimitsTotal longInteger (l .total),
-      spelled-back 8 usageLimitsCount longInteger (l .count),
-      spelled-back 4 usageLimitsUnit enumeration (l .unit),
+      spelled-back 8 usageLimitsTotal longInteger (l .total) _ (f .total-short),
+      spelled-back 8 usageLimitsCount longInteger (l .count) _ (f .count-short),
+      spelled-back 4 usageLimitsUnit enumeration (l .unit) nil (f .unit-short),
       e,
     )
 
@@ -88,13 +101,13 @@ pub record LimitsRead (s : Shown) (rest : Items) : Type 0 where
   pub read : optional usageLimits limitsFirst (limitItems s rest) ≡ some (given, rest)
   pub means : orNoLimits given ≡ limitsOf s
 
-pub limits-back : (s : Shown) (rest : Items) → limitsOk (s .unit) (s .total) (s .count) ≡ true → startsWith usageLimits rest ≡ false → LimitsRead s rest
+pub limits-back : (s : Shown) (rest : Items) → LimitsFacts (limitsOf s) → startsWith usageLimits rest ≡ false → LimitsRead s rest
 unfolding limitItems orNoLimits
-limits-back s rest h n = on-bool (eqb (s .unit) 0) absent present
+limits-back s rest f n = on-bool (eqb (s .unit) 0) absent present
   where
     absent : eqb (s .unit) 0 ≡ true → LimitsRead s rest
     absent e =
-        let p = limits-none (s .unit) (s .total) (s .count) e h in
+        let p = f .zeros e in
         let u : s .unit ≡ 0 = eqb-true (s .unit) 0 e in
         record {
           given = none;
@@ -104,9 +117,8 @@ limits-back s rest h n = on-bool (eqb (s .unit) 0) absent present
 
     present : eqb (s .unit) 0 ≡ false → LimitsRead s rest
     present e =
-        let p = limits-some (s .unit) (s .total) (s .count) e h in
         let t = limited (limitsOf s) rest in
-        let r : limitsFirst t ≡ some (limitsOf s, rest) = limits-first-back (limitsOf s) rest e (p .0) (p .1) (p .2) in
+        let r : limitsFirst t ≡ some (limitsOf s, rest) = limits-first-back (limitsOf s) rest e f in
         record {
           given = some (limitsOf s);
           read = rw (ifb-false (eqb (s .unit) 0) rest t e) (given-back usageLimits limitsFirst t (unfold startsWith in refl) r);

@@ -141,6 +141,7 @@ outcome-spells operation t {o} h =
     failed-next status rest =
         on-if (Spelled status rest) (λ e g. rw (eqb-true status operationFailed e) (failure-spells rest g)) (λ e g. absurd (not-some g))
 
-    by-status : (status : ℕ) (rest : Items) → Spelled status rest (ifb (eqb status success) (successIn operation rest) (ifb (eqb status operationFailed) (failureIn rest) none))
+    by-status : (status : ℕ) (rest : Items)
+        → Spelled status rest (ifb (eqb status success) (successIn operation rest) (ifb (eqb status operationFailed) (failureIn rest) none))
     by-status status rest =
         on-if (Spelled status rest) (λ e g. rw (eqb-true status success e) (success-spells operation rest g)) (λ e. failed-next status rest)

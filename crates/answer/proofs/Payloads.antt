@@ -1,7 +1,7 @@
 -- Response payloads read back: what Get Attributes shows, and the payload of each operation.
 -- Assumes nothing.
 use mathlib.Core.Path.{_≡_, refl, sym, ap}
-use Prim.Native.Nat.{ℕ, _^_, _≤_, _<_}
+use Prim.Native.Nat.{ℕ, _^_, _<_}
 use native.Mathlib.Omega.{arith}
 use mathlib.Core.Bool.{true, false, _&&_, _||_}
 use mathlib.Core.Option.{none, some}
@@ -25,7 +25,7 @@ use Rattle.answer.proofs.Maybe.{some-is, on-bind, on-test}
 use Rattle.answer.proofs.Fields.{ended-is, body-spells, spelled-back, spelled-spells, fixed-back, fixed-spells, serial-in-back, serial-in-spells}
 use Rattle.answer.proofs.Tests.{on-or}
 use Rattle.answer.proofs.Links.{link-in-back, link-in-spells, not-replaced, no-limits}
-use Rattle.answer.proofs.Limits.{limitsOf, limitsOk, limits-back, limits-spells}
+use Rattle.answer.proofs.Limits.{limitsOf, LimitsFacts, limitsOk, limits-facts, limits-back, limits-spells}
 
 -- ---- what is shown
 
@@ -35,32 +35,32 @@ pub record ShownFacts (s : Shown) : Type 0 where
   pub bits-short : s .bits < 256 ^ 4
   pub mask-short : s .mask < 256 ^ 4
   pub state-short : s .state < 256 ^ 4
-  pub limits-ok : limitsOk (s .unit) (s .total) (s .count) ≡ true
+  pub limits-ok : LimitsFacts (limitsOf s)
   pub replaced-ok : linkOk (s .replaced) ≡ true
   pub replacement-ok : linkOk (s .replacement) ≡ true
 
-bits-most : (bits : ℕ) → bitsOk bits ≡ true → bits ≤ 256
-bits-most bits h =
+bits-facts : (bits : ℕ) → bitsOk bits ≡ true → bits < 256 ^ 4
+bits-facts bits h =
     on-or (eqb bits 128 || eqb bits 192) (eqb bits 256) h
-    (λ g. on-or (eqb bits 128) (eqb bits 192) g (λ e. omega (arith, eqb-true bits 128 e)) (λ e. omega (arith, eqb-true bits 192 e)))
-    (λ e. omega (arith, eqb-true bits 256 e))
+    (λ g. on-or (eqb bits 128) (eqb bits 192) g (λ e. omega (arith, eqb-true)) (λ e. omega (arith, eqb-true)))
+    (λ e. omega (arith, eqb-true))
 
 pub shown-facts : (s : Shown) → shownOk s ≡ true → ShownFacts s
 unfolding shownOk
 shown-facts s h =
     let p6 = both _ (linkOk (s .replacement)) h in
     let p5 = both _ (linkOk (s .replaced)) (p6 .0) in
-    let p4 = both _ (limitsOk (s .unit) (s .total) (s .count)) (p5 .0) in
+    let p4 = both _ (limitsOk (limitsOf s)) (p5 .0) in
     let p3 = both _ (leb 1 (s .state) && leb (s .state) 6) (p4 .0) in
     let p2 = both _ (maskOk (s .mask)) (p3 .0) in
     let p1 = both (serialOk (s .serial)) (bitsOk (s .bits)) (p2 .0) in
     let state = both (leb 1 (s .state)) (leb (s .state) 6) (p3 .1) in
     record {
       serial-ok = p1 .0;
-      bits-short = omega (arith, bits-most (s .bits) (p1 .1));
-      mask-short = omega (arith, leb-true (s .mask) 0x00FFFFFF (p2 .1));
-      state-short = omega (arith, leb-true (s .state) 6 (state .1));
-      limits-ok = p4 .1;
+      bits-short = bits-facts (s .bits) (p1 .1);
+      mask-short = omega (arith, leb-true);
+      state-short = omega (arith, leb-true);
+      limits-ok = limits-facts (limitsOf s) (p4 .1);
       replaced-ok = p5 .1;
       replacement-ok = p6 .1;
     }

@@ -1,7 +1,7 @@
 -- The items of a response are well-formed: within the depth that is read, every length short, every value of its type.
 -- Assumes nothing.
 use mathlib.Core.Path.{_≡_, refl}
-use Prim.Native.Nat.{ℕ, suc, _+_, _-_, _^_, _≤_, _<_}
+use Prim.Native.Nat.{ℕ, suc, _+_, _-_, _/_, _^_, _≤_, _<_}
 use native.Mathlib.Omega.{arith}
 use mathlib.Core.Bool.{Bool, true, not, _&&_}
 use mathlib.Core.List.{List, [], _∷_}
@@ -12,10 +12,11 @@ use Rattle.octets.specs.If.{ifb}
 use Rattle.octets.specs.Octets.{be, all}
 use Rattle.octets.proofs.If.{on-if}
 use Rattle.octets.proofs.Numbers.{length-be}
-use Rattle.ttlv.specs.Types.{structure, integer, longInteger, enumeration, textString, byteString, dateTime, lengthOk, text, valueOk}
+use Rattle.ttlv.specs.Types.{structure, tagLead, integer, longInteger, enumeration, textString, byteString, dateTime, lengthOk, text, valueOk}
 use Rattle.ttlv.specs.Items.{Items, nil, value, group, tagOk, itemOk, wellFormed}
 use Rattle.ttlv.specs.Parse.{depthMost}
 use Rattle.ttlv.proofs.Bools.{both, and-i}
+use Rattle.ttlv.proofs.Fine.{group-well}
 use Rattle.identifier.specs.Identifier.{identifier}
 use Rattle.identifier.proofs.Texts.{length-identifier, identifier-text}
 use Rattle.frame.specs.Tags.{batchCount, batchItem, operationTag, protocolVersion, protocolVersionMajor, protocolVersionMinor, uniqueBatchItemId}
@@ -65,9 +66,8 @@ named-well : (d tag serial : ℕ) (rest : Items) → shapeOk tag textString 8 �
 unfolding valueOk ifb text
 named-well d tag serial rest h w = field-well d tag textString 8 (identifier serial) rest (length-identifier serial) h (identifier-text serial) w
 
-body-well : (d tag : ℕ) (body rest : Items) → tagOk tag ≡ true → size body < 256 ^ 4 → Well d body → Well (suc d) rest → Well (suc d) (group tag body rest)
-unfolding wellFormed
-body-well d tag body rest h s b w = and-i _ _ (and-i _ _ (and-i _ _ h (lt-ltb (size body) (256 ^ 4) s)) b) w
+body-well : (d tag : ℕ) (body rest : Items) → tag / 65536 ≡ tagLead → size body < 256 ^ 4 → Well d body → Well (suc d) rest → Well (suc d) (group tag body rest)
+body-well d tag body rest l s b w = group-well d tag body rest (record { lead = l; short = s }) b w
 
 nil-well : (d : ℕ) → Well d nil
 unfolding wellFormed
