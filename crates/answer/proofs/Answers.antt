@@ -1,17 +1,17 @@
 -- Responses read back: what is written is read as it was meant, and only what is written is read.
 -- Assumes nothing.
 use mathlib.Core.Path.{_≡_, refl, sym, ap, _∙_}
-use Prim.Native.Nat.{ℕ, suc, _+_, _^_, _≤_, _<_}
+use Prim.Native.Nat.{ℕ, suc, _^_, _≤_, _<_}
 use native.Mathlib.Omega.{arith}
-use mathlib.Core.Bool.{Bool, true, false, not, _&&_, false≢true}
+use mathlib.Core.Bool.{true, false, false≢true}
 use mathlib.Core.Option.{Option, none, some}
 use mathlib.Core.List.{List, [], _∷_}
 use lib.ListN.{length}
-use lib.Dec.{leb, ltb, eqb}
+use lib.Dec.{leb, ltb}
 use borrow.Author.Tests.{eqb-true, leb-true, ltb-true, eq-eqb, le-leb}
 use Rattle.octets.specs.If.{ifb}
 use Rattle.octets.specs.Maybe.{_>>=_, _>>_}
-use Rattle.octets.specs.Octets.{be, all}
+use Rattle.octets.specs.Octets.{all}
 use Rattle.ttlv.specs.Types.{integer, enumeration, byteString, dateTime}
 use Rattle.ttlv.specs.Items.{Items, nil, value, group}
 use Rattle.ttlv.specs.Fields.{startsWith, ended, bytesOf, bodyOf, optional}
@@ -22,12 +22,16 @@ use Rattle.answer.specs.Tags.{responseHeader, responseMessage, timeStamp
 use Rattle.act.specs.declared.Outcome.{Outcome}
 use Rattle.act.specs.declared.Outcome.the-variants.{Failed, Created, Done, Showed}
 use Rattle.answer.specs.Respond.{Answer, Response, outcomeItems, idItems, answerItems, batchItems, versionItems, headerItems, respond}
-use Rattle.answer.specs.Read.{outcomeIn, answerIn, answersOf, headIn, outcomeOk, answerOk, allowed, ifAllowed, answersIn}
+use Rattle.answer.specs.Read.{answerIn, answersOf, headIn, outcomeOk, answerOk, allowed, ifAllowed, answersIn}
 use Rattle.answer.proofs.Maybe.{not-some, some-is, on-bind, on-test}
 use Rattle.answer.proofs.Fields.{ended-is, body-spells, bytes-back, bytes-spells, spelled-back, spelled-spells, fixed-back, fixed-spells, absent-back, given-back, on-optional}
 use Rattle.answer.proofs.Outcomes.{outcome-back, outcome-spells}
 
 -- ---- the ID
+
+-- the reader of an ID that is there
+abbrev idFirst : Items → Option (List ℕ × Items)
+idFirst t = bytesOf uniqueBatchItemId byteString t
 
 -- an outcome starts with its status
 no-id : (o : Outcome) → startsWith uniqueBatchItemId (outcomeItems o) ≡ false
@@ -37,23 +41,31 @@ no-id (Created serial) = refl
 no-id (Done serial) = refl
 no-id (Showed shown) = refl
 
-id-back : (id : List ℕ) (rest : Items) → startsWith uniqueBatchItemId rest ≡ false → leb (length id) idMost ≡ true
-    → (given : Option (List ℕ)) × (optional uniqueBatchItemId (bytesOf uniqueBatchItemId byteString) (idItems id rest) ≡ some (given, rest))
-    × (idOk given ≡ true) × (idBytes given ≡ id)
-unfolding idItems idOk idBytes
-id-back [] rest n h = (none, absent-back uniqueBatchItemId (bytesOf uniqueBatchItemId byteString) rest n, refl, refl)
-id-back (x ∷ id) rest n h = (
-  some (x ∷ id),
-  given-back uniqueBatchItemId (bytesOf uniqueBatchItemId byteString) (value uniqueBatchItemId byteString (x ∷ id) rest) (unfold startsWith in refl) (bytes-back uniqueBatchItemId byteString (x ∷ id) rest),
-  and-i (leb 1 (length (x ∷ id))) (leb (length (x ∷ id)) idMost) (le-leb 1 (suc (length id)) (omega arith)) h,
-  refl,
-)
+-- an ID, as it is read in front of the rest
+record IdRead (id : List ℕ) (rest : Items) : Type 0 where
+  given : Option (List ℕ)
+  read : optional uniqueBatchItemId idFirst (idItems id rest) ≡ some (given, rest)
+  ok : idOk given ≡ true
+  means : idBytes given ≡ id
 
-id-spells : (t : Items) {a : Option (List ℕ) × Items} → optional uniqueBatchItemId (bytesOf uniqueBatchItemId byteString) t ≡ some a → idOk (a .0) ≡ true
+id-back : (id : List ℕ) (rest : Items) → startsWith uniqueBatchItemId rest ≡ false → length id ≤ idMost → IdRead id rest
+unfolding idItems idOk idBytes
+id-back [] rest n h = record { given = none; read = absent-back uniqueBatchItemId idFirst rest n; ok = refl; means = refl }
+id-back (x ∷ id) rest n h =
+    let t = value uniqueBatchItemId byteString (x ∷ id) rest in
+    let e : idFirst t ≡ some (x ∷ id, rest) = bytes-back uniqueBatchItemId byteString (x ∷ id) rest in
+    record {
+      given = some (x ∷ id);
+      read = given-back uniqueBatchItemId idFirst t (unfold startsWith in refl) e;
+      ok = and-i _ _ (le-leb 1 (suc (length id)) (omega arith)) (le-leb (suc (length id)) idMost h);
+      means = refl;
+    }
+
+id-spells : (t : Items) {a : Option (List ℕ) × Items} → optional uniqueBatchItemId idFirst t ≡ some a → idOk (a .0) ≡ true
     → t ≡ idItems (idBytes (a .0)) (a .1)
 unfolding idOk idBytes idItems
 id-spells t h =
-    on-optional uniqueBatchItemId (bytesOf uniqueBatchItemId byteString) t (λ a. idOk (a .0) ≡ true → t ≡ idItems (idBytes (a .0)) (a .1)) h
+    on-optional uniqueBatchItemId idFirst t (λ a. idOk (a .0) ≡ true → t ≡ idItems (idBytes (a .0)) (a .1)) h
     (λ o. refl)
     (λ v rest e o. bytes-spells uniqueBatchItemId byteString t e ∙ written v rest o)
   where
@@ -66,7 +78,7 @@ id-spells t h =
 -- what `answerOk` says, fact by fact
 pub record AnswerFacts (a : Answer) : Type 0 where
   pub operation-short : a .operation < 256 ^ 4
-  pub id-ok : leb (length (a .id)) idMost ≡ true
+  pub id-short : length (a .id) ≤ idMost
   pub outcome-ok : outcomeOk (a .operation) (a .outcome) ≡ true
 
 pub answer-facts : (a : Answer) → answerOk a ≡ true → AnswerFacts a
@@ -74,19 +86,29 @@ unfolding answerOk
 answer-facts a h =
     let p2 = both _ (outcomeOk (a .operation) (a .outcome)) h in
     let p1 = both (ltb (a .operation) (2 ^ 32)) (leb (length (a .id)) idMost) (p2 .0) in
-    record { operation-short = ltb-true (a .operation) (2 ^ 32) (p1 .0); id-ok = p1 .1; outcome-ok = p2 .1 }
+    record {
+      operation-short = ltb-true (a .operation) (2 ^ 32) (p1 .0);
+      id-short = leb-true (length (a .id)) idMost (p1 .1);
+      outcome-ok = p2 .1;
+    }
 
 pub answer-back : (a : Answer) → answerOk a ≡ true → answerIn (answerItems a) ≡ some a
 unfolding answerIn answerItems _>>=_ _>>_
 answer-back a h =
     let f = answer-facts a h in
-    let i = id-back (a .id) (outcomeItems (a .outcome)) (no-id (a .outcome)) (f .id-ok) in
-    rw (spelled-back 4 operationTag enumeration (a .operation) _ (f .operation-short), i .1, i .2, outcome-back (a .operation) (a .outcome) (f .outcome-ok), i .3)
+    let i = id-back (a .id) (outcomeItems (a .outcome)) (no-id (a .outcome)) (f .id-short) in
+    rw (
+      spelled-back 4 operationTag enumeration (a .operation) _ (f .operation-short),
+      i .read,
+      i .ok,
+      outcome-back (a .operation) (a .outcome) (f .outcome-ok),
+      i .means,
+    )
 
 pub answer-spells : (t : Items) {a : Answer} → answerIn t ≡ some a → t ≡ answerItems a
 unfolding answerIn answerItems
 answer-spells t {a} h =
-    on-bind _ _ h (λ n e1 h1. on-bind _ _ h1 (λ id e2 h2. on-test _ _ h2 (λ o h3. on-bind _ _ h3 (λ q e4 w.
+    on-bind h (λ n e1 h1. on-bind h1 (λ id e2 h2. on-test h2 (λ o h3. on-bind h3 (λ q e4 w.
     let t1 = spelled-spells 4 operationTag enumeration t e1 in
     let t2 = id-spells (n .1) e2 o in
     let t3 = outcome-spells (n .0) (id .1) e4 in
@@ -107,7 +129,7 @@ unfolding answersOf batchItems
 batch-spells nil h = rw (← (some-is h))
 batch-spells (value tag kind v rest) h = absurd (not-some h)
 batch-spells (group tag body rest) h =
-    on-test _ _ h (λ u h1. on-bind _ _ h1 (λ a e2 h2. on-bind _ _ h2 (λ later e3 w.
+    on-test h (λ u h1. on-bind h1 (λ a e2 h2. on-bind h2 (λ later e3 w.
     let t1 = eqb-true tag batchItem u in
     let t2 = answer-spells body e2 in
     let t3 = batch-spells rest e3 in
@@ -148,8 +170,8 @@ header-back clock count h g =
 pub header-spells : (t : Items) {a : ℕ × ℕ} → headIn t ≡ some a → t ≡ headerItems (a .0) (a .1)
 unfolding headIn headerItems versionItems
 header-spells t h =
-    on-bind _ _ h (λ version e1 h1. on-bind _ _ h1 (λ minor e2 h2. on-bind _ _ h2 (λ after e3 h3. on-test _ _ h3 (λ o h4. on-bind _ _ h4 (λ clock e5 h5.
-    on-bind _ _ h5 (λ count e6 h6. on-test _ _ h6 (λ u w.
+    on-bind h (λ version e1 h1. on-bind h1 (λ minor e2 h2. on-bind h2 (λ after e3 h3. on-test h3 (λ o h4. on-bind h4 (λ clock e5 h5.
+    on-bind h5 (λ count e6 h6. on-test h6 (λ u w.
     let t1 = body-spells protocolVersion t e1 in
     let t2 = fixed-spells protocolVersionMajor integer 2 (version .0) e2 in
     let t3 = fixed-spells protocolVersionMinor integer 1 minor e3 in
@@ -164,15 +186,16 @@ pub answers-back : (r : Response) → allowed r ≡ true → answersIn (respond 
 unfolding answersIn respond ifAllowed bodyOf ifb ended _>>=_ _>>_
 answers-back r h =
     let f = allowed-facts r h in
-    let few = f .few-answers in
-    rw (header-back (r .clock) (length (r .answers)) (f .clock-short) (omega arith), batch-back (r .answers) (f .answers-ok), eq-eqb (length (r .answers)) (length (r .answers)) refl, h)
+    let n = length (r .answers) in
+    let few : n < 256 ^ 4 = omega (arith, f .few-answers) in
+    rw (header-back (r .clock) n (f .clock-short) few, batch-back (r .answers) (f .answers-ok), eq-eqb n n refl, h)
 
 -- and in one spelling: items that are read as a response are those that it is written as
 pub answers-spell : (t : Items) (r : Response) → answersIn t ≡ some r → (t ≡ respond r) × (allowed r ≡ true)
 unfolding answersIn respond ifAllowed
 answers-spell t r h =
-    on-bind _ _ h (λ message e1 h1. on-test _ _ h1 (λ o h2. on-bind _ _ h2 (λ head e3 h3. on-bind _ _ h3 (λ front e4 h4. on-bind _ _ h4 (λ answers e5 h5.
-    on-test _ _ h5 (λ c h6. on-test _ _ h6 (λ ok w.
+    on-bind h (λ message e1 h1. on-test h1 (λ o h2. on-bind h2 (λ head e3 h3. on-bind h3 (λ front e4 h4. on-bind h4 (λ answers e5 h5.
+    on-test h5 (λ c h6. on-test h6 (λ ok w.
     let t1 = body-spells responseMessage t e1 in
     let t2 = ended-is (message .1) o in
     let t3 = body-spells responseHeader (message .0) e3 in

@@ -1,45 +1,28 @@
 -- Fields read back: each reader of a field gives what its writer put there, and reads nothing else.
--- Assumes nothing. The laws of reading say of a first step what stood there, and what the steps behind it made of the rest.
-use mathlib.Core.Path.{_≡_, refl, sym, ap, _∙_}
+-- Assumes nothing. The laws named -back say that a field is read as it was written, those named -spells that what is read was written so.
+use mathlib.Core.Path.{_≡_, refl, ap}
 use Prim.Native.Nat.{ℕ, _^_, _≤_, _<_}
 use native.Mathlib.Omega.{arith}
-use mathlib.Core.Bool.{Bool, true, false, not, _&&_, false≢true}
+use mathlib.Core.Bool.{true, false, false≢true}
 use mathlib.Core.Option.{Option, none, some}
-use mathlib.Core.List.{List, [], _∷_}
+use mathlib.Core.List.{List}
 use lib.Dec.{leb, eqb}
 use borrow.Author.Tests.{eqb-true, eqb-false, not-true, leb-true, eq-eqb, ne-eqb}
 use Rattle.octets.specs.If.{ifb}
 use Rattle.octets.specs.Maybe.{_>>=_, _>>_}
-use Rattle.octets.specs.Octets.{be, fromBe, same}
+use Rattle.octets.specs.Octets.{be, fromBe}
 use Rattle.octets.proofs.If.{on-if}
 use Rattle.octets.proofs.Numbers.{fromBe-be}
 use Rattle.ttlv.specs.Types.{textString}
 use Rattle.ttlv.specs.Items.{Items, nil, value, group}
 use Rattle.ttlv.specs.Fields.{startsWith, ended, bytesOf, bodyOf, optional}
-use Rattle.ttlv.proofs.Bools.{both, and-i}
+use Rattle.ttlv.proofs.Bools.{both}
 use Rattle.identifier.specs.Identifier.{identifier, serialOf}
 use Rattle.identifier.proofs.Texts.{serial-back, serial-spells}
 use Rattle.rules.specs.Changes.{serialMost}
 use Rattle.answer.specs.Read.{spelled, fixed, serialIn, serialOk}
-use Rattle.answer.proofs.Maybe.{not-some, some-is, on-bind, on-test}
-
--- ---- the same bytes
-
-pub same-is : (v w : List ℕ) → same v w ≡ true → v ≡ w
-unfolding same
-same-is [] [] h = refl
-same-is [] (y ∷ ys) h = absurd (false≢true h)
-same-is (x ∷ xs) [] h = absurd (false≢true h)
-same-is (x ∷ xs) (y ∷ ys) h =
-    let p = both (eqb x y) (same xs ys) h in
-    let e : x ≡ y = eqb-true x y (p .0) in
-    let es : xs ≡ ys = same-is xs ys (p .1) in
-    cc
-
-pub same-self : (v : List ℕ) → same v v ≡ true
-unfolding same
-same-self [] = refl
-same-self (x ∷ xs) = and-i (eqb x x) (same xs xs) (eq-eqb x x refl) (same-self xs)
+use Rattle.answer.proofs.Tests.{same-is, same-self}
+use Rattle.answer.proofs.Maybe.{not-some, some-is, on-bind, on-test, if-some}
 
 -- ---- one item
 
@@ -57,16 +40,11 @@ pub body-back : (tag : ℕ) (body rest : Items) → bodyOf tag (group tag body r
 unfolding bodyOf ifb
 body-back tag body rest = rw (eq-eqb tag tag refl)
 
-pub if-some : {A : Type 0} (t : Bool) {a b : A} → ifb t (some a) none ≡ some b → (t ≡ true) × (a ≡ b)
-unfolding ifb
-if-some true h = (refl, some-is h)
-if-some false h = absurd (not-some h)
-
 pub bytes-spells : (tag kind : ℕ) (t : Items) {a : List ℕ × Items} → bytesOf tag kind t ≡ some a → t ≡ value tag kind (a .0) (a .1)
 unfolding bytesOf
 bytes-spells tag kind nil h = absurd (not-some h)
 bytes-spells tag kind (value tag2 kind2 v rest) h =
-    let p = if-some (eqb tag2 tag && eqb kind2 kind) h in
+    let p = if-some h in
     let q = both (eqb tag2 tag) (eqb kind2 kind) (p .0) in
     rw (eqb-true tag2 tag (q .0), eqb-true kind2 kind (q .1), ← (p .1))
 bytes-spells tag kind (group tag2 body rest) h = absurd (not-some h)
@@ -76,7 +54,7 @@ unfolding bodyOf
 body-spells tag nil h = absurd (not-some h)
 body-spells tag (value tag2 kind v rest) h = absurd (not-some h)
 body-spells tag (group tag2 body rest) h =
-    let p = if-some (eqb tag2 tag) h in
+    let p = if-some h in
     rw (eqb-true tag2 tag (p .0), ← (p .1))
 
 -- ---- a number in its w bytes
@@ -88,7 +66,7 @@ spelled-back w tag kind n rest h = rw (bytes-back, fromBe-be w n h, same-self)
 pub spelled-spells : (w tag kind : ℕ) (t : Items) {a : ℕ × Items} → spelled w tag kind t ≡ some a → t ≡ value tag kind (be w (a .0)) (a .1)
 unfolding spelled
 spelled-spells w tag kind t h =
-    on-bind _ _ h (λ a e g. on-test _ _ g (λ u f.
+    on-bind h (λ a e g. on-test g (λ u f.
     let v : a .0 ≡ be w (fromBe (a .0)) = same-is _ _ u in
     rw (bytes-spells tag kind t e, ← (some-is f)) (ap (λ (x : List ℕ). value tag kind x (a .1)) v)))
 
@@ -105,7 +83,7 @@ fixed-other tag kind n other rest h e = rw (spelled-back 4 tag kind other rest h
 pub fixed-spells : (tag kind n : ℕ) (t : Items) {rest : Items} → fixed tag kind n t ≡ some rest → t ≡ value tag kind (be 4 n) rest
 unfolding fixed
 fixed-spells tag kind n t h =
-    on-bind _ _ h (λ a e g. on-test _ _ g (λ u f.
+    on-bind h (λ a e g. on-test g (λ u f.
     rw (spelled-spells 4 tag kind t e, eqb-true (a .0) n u, ← (some-is f))))
 
 -- ---- the identifier of a record
@@ -115,7 +93,8 @@ serial-range serial h =
     let p = both (leb 1 serial) (leb serial serialMost) h in
     (leb-true 1 serial (p .0), leb-true serial serialMost (p .1))
 
-pub serial-in-back : (tag serial : ℕ) (rest : Items) → serialOk serial ≡ true → serialIn tag (value tag textString (identifier serial) rest) ≡ some (serial, rest)
+pub serial-in-back : (tag serial : ℕ) (rest : Items) → serialOk serial ≡ true
+    → serialIn tag (value tag textString (identifier serial) rest) ≡ some (serial, rest)
 unfolding serialIn _>>=_ _>>_
 serial-in-back tag serial rest h =
     let p = serial-range serial h in
@@ -125,7 +104,7 @@ pub serial-in-spells : (tag : ℕ) (t : Items) {a : ℕ × Items} → serialIn t
     → (t ≡ value tag textString (identifier (a .0)) (a .1)) × (eqb (a .0) 0 ≡ false)
 unfolding serialIn
 serial-in-spells tag t h =
-    on-bind _ _ h (λ a e g. on-test _ _ g (λ u f.
+    on-bind h (λ a e g. on-test g (λ u f.
     let n : eqb (serialOf (a .0)) 0 ≡ false = not-true _ u in
     rw (bytes-spells tag textString t e, ← (some-is f))
     (ap (λ (x : List ℕ). value tag textString x (a .1)) (serial-spells (a .0) (serialOf (a .0)) refl (eqb-false (serialOf (a .0)) 0 n)), n)))
@@ -148,7 +127,7 @@ module _ {A : Type 0} (tag : ℕ) (read : Items → Option (A × Items)) (t : It
   on-optional P {a} h absent given = on-if (λ (o : Option (Option A × Items)). o ≡ some a → P a) {b = startsWith tag t} taken left h
     where
       taken : startsWith tag t ≡ true → (read t >>= λ (x, rest). some (some x, rest)) ≡ some a → P a
-      taken b g = on-bind _ _ g (λ x e f. rw (← (some-is f)) (given (x .0) (x .1) e))
+      taken b g = on-bind g (λ x e f. rw (← (some-is f)) (given (x .0) (x .1) e))
 
       left : startsWith tag t ≡ false → some (none, t) ≡ some a → P a
       left b g = rw (← (some-is g)) absent

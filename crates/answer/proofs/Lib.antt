@@ -2,8 +2,14 @@
 -- Assumes nothing.
 pub mod Worked
 pub mod Maybe
+pub mod Tests
 pub mod Fields
 pub mod Links
+pub mod Limits
 pub mod Payloads
 pub mod Outcomes
 pub mod Answers
+pub mod Sizes
+pub mod Front
+pub mod Well
+pub mod One

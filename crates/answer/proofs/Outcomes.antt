@@ -1,33 +1,30 @@
 -- Outcomes read back: the payload of a success, the reason of a failure.
 -- Assumes nothing.
 use mathlib.Core.Path.{_≡_, refl, sym, ap, _∙_}
-use Prim.Native.Nat.{ℕ, _^_, _≤_, _<_}
+use Prim.Native.Nat.{ℕ, _^_, _<_}
 use native.Mathlib.Omega.{arith}
-use mathlib.Core.Bool.{Bool, true, false, _&&_, _||_, false≢true}
+use mathlib.Core.Bool.{true, false, false≢true}
 use mathlib.Core.Option.{Option, none, some}
 use mathlib.Core.List.{List, [], _∷_}
-use lib.Dec.{leb, eqb}
+use lib.Dec.{eqb}
 use borrow.Author.Tests.{eqb-true}
 use Rattle.octets.specs.If.{ifb}
 use Rattle.octets.specs.Maybe.{_>>=_, _>>_}
-use Rattle.octets.specs.Octets.{be}
 use Rattle.octets.proofs.If.{ifb-true, ifb-false, on-if, on-bool}
 use Rattle.ttlv.specs.Types.{enumeration}
-use Rattle.ttlv.specs.Items.{Items, nil, value, group}
+use Rattle.ttlv.specs.Items.{Items, nil}
 use Rattle.ttlv.specs.Fields.{ended, bodyOf}
-use Rattle.ttlv.proofs.Bools.{both, and-i}
+use Rattle.ttlv.proofs.Bools.{both}
 use Rattle.answer.specs.Tags.{responsePayload, resultReason, resultStatus}
 use Rattle.rules.specs.declared.Reason.{Reason}
 use Rattle.rules.specs.declared.Reason.the-variants.{OperationNotSupported, InvalidField, ObjectNotFound, ObjectDestroyed, PermissionDenied, WrongKeyLifecycleState, UsageLimitExceeded, ServerLimitExceeded}
-use Rattle.rules.specs.Numbers.{reasonNumber, create, rekey, getAttributes, getUsageAllocation, activate, revoke, destroy}
-use Rattle.act.specs.declared.Shown.{Shown}
+use Rattle.rules.specs.Numbers.{reasonNumber, create, getAttributes}
 use Rattle.act.specs.declared.Outcome.{Outcome}
 use Rattle.act.specs.declared.Outcome.the-variants.{Failed, Created, Done, Showed}
 use Rattle.answer.specs.Respond.{word, success, operationFailed, succeeded, outcomeItems}
-use Rattle.answer.specs.Read.{createdIn, doneIn, showedIn, answersDone, payloadIn, reasons, reasonAmong, failureIn, successIn, outcomeIn, serialOk, shownOk, outcomeOk}
+use Rattle.answer.specs.Read.{doneIn, showedIn, answersDone, payloadIn, reasons, reasonAmong, failureIn, successIn, outcomeIn, serialOk, shownOk, outcomeOk}
 use Rattle.answer.proofs.Maybe.{not-some, some-is, on-bind, on-test}
 use Rattle.answer.proofs.Fields.{ended-is, body-spells, spelled-back, spelled-spells}
-use Rattle.answer.proofs.Links.{or-cases}
 use Rattle.answer.proofs.Payloads.{created-back, created-spells, done-back, done-spells, showed-back, showed-spells}
 
 -- ---- reasons
@@ -68,7 +65,11 @@ reason-spells n (q ∷ rs) {r} h =
 failed-back : (operation : ℕ) (reason : Reason) → outcomeIn operation (outcomeItems (Failed reason)) ≡ some (Failed reason)
 unfolding outcomeIn outcomeItems failureIn ifb ended _>>=_ _>>_
 failed-back operation reason =
-    rw (spelled-back 4 resultStatus enumeration operationFailed _ (omega arith), spelled-back 4 resultReason enumeration (reasonNumber reason) nil (reason-short reason), reason-back reason)
+    rw (
+      spelled-back 4 resultStatus enumeration operationFailed _ (omega arith),
+      spelled-back 4 resultReason enumeration (reasonNumber reason) nil (reason-short reason),
+      reason-back reason,
+    )
 
 succeeded-back : (operation : ℕ) (payload : Items) → outcomeIn operation (succeeded payload) ≡ payloadIn operation payload
 unfolding outcomeIn successIn bodyOf ifb ended _>>=_ _>>_
@@ -113,7 +114,7 @@ payload-spells operation t {o} h = create-first h
 failure-spells : (t : Items) {o : Outcome} → failureIn t ≡ some o → word resultStatus enumeration operationFailed t ≡ outcomeItems o
 unfolding failureIn outcomeItems
 failure-spells t h =
-    on-bind _ _ h (λ n e1 h1. on-test _ _ h1 (λ u h2. on-bind _ _ h2 (λ r e3 w.
+    on-bind h (λ n e1 h1. on-test h1 (λ u h2. on-bind h2 (λ r e3 w.
     let t1 = spelled-spells 4 resultReason enumeration t e1 in
     let t2 = ended-is (n .1) u in
     let t3 = reason-spells (n .0) reasons e3 in
@@ -122,7 +123,7 @@ failure-spells t h =
 success-spells : (operation : ℕ) (t : Items) {o : Outcome} → successIn operation t ≡ some o → word resultStatus enumeration success t ≡ outcomeItems o
 unfolding successIn
 success-spells operation t h =
-    on-bind _ _ h (λ p e1 h1. on-test _ _ h1 (λ u w.
+    on-bind h (λ p e1 h1. on-test h1 (λ u w.
     let t1 = body-spells responsePayload t e1 in
     let t2 = ended-is (p .1) u in
     rw (t1, t2) (payload-spells operation (p .0) w)))
@@ -130,7 +131,7 @@ success-spells operation t h =
 pub outcome-spells : (operation : ℕ) (t : Items) {o : Outcome} → outcomeIn operation t ≡ some o → t ≡ outcomeItems o
 unfolding outcomeIn
 outcome-spells operation t {o} h =
-    on-bind _ _ h (λ s e g. spelled-spells 4 resultStatus enumeration t e ∙ by-status (s .0) (s .1) g)
+    on-bind h (λ s e g. spelled-spells 4 resultStatus enumeration t e ∙ by-status (s .0) (s .1) g)
   where
     Spelled : ℕ → Items → Option Outcome → Type 0
     Spelled status rest q = q ≡ some o → word resultStatus enumeration status rest ≡ outcomeItems o
@@ -139,6 +140,7 @@ outcome-spells operation t {o} h =
     failed-next status rest =
         on-if (Spelled status rest) (λ e g. rw (eqb-true status operationFailed e) (failure-spells rest g)) (λ e g. absurd (not-some g))
 
-    by-status : (status : ℕ) (rest : Items) → Spelled status rest (ifb (eqb status success) (successIn operation rest) (ifb (eqb status operationFailed) (failureIn rest) none))
+    by-status : (status : ℕ) (rest : Items)
+        → Spelled status rest (ifb (eqb status success) (successIn operation rest) (ifb (eqb status operationFailed) (failureIn rest) none))
     by-status status rest =
         on-if (Spelled status rest) (λ e g. rw (eqb-true status success e) (success-spells operation rest g)) (λ e. failed-next status rest)

@@ -1,31 +1,31 @@
 -- Response payloads read back: what Get Attributes shows, and the payload of each operation.
 -- Assumes nothing.
-use mathlib.Core.Path.{_≡_, refl, sym, ap, _∙_}
-use Prim.Native.Nat.{ℕ, _^_, _≤_, _<_}
+use mathlib.Core.Path.{_≡_, refl, sym, ap}
+use Prim.Native.Nat.{ℕ, _^_, _<_}
 use native.Mathlib.Omega.{arith}
-use mathlib.Core.Bool.{Bool, true, false, _&&_, _||_}
-use mathlib.Core.Option.{Option, none, some}
-use mathlib.Core.List.{List, [], _∷_}
+use mathlib.Core.Bool.{true, false, _&&_, _||_}
+use mathlib.Core.Option.{none, some}
 use lib.Dec.{leb, eqb}
 use borrow.Author.Tests.{eqb-true, leb-true}
 use Rattle.octets.specs.If.{ifb}
 use Rattle.octets.specs.Maybe.{_>>=_, _>>_}
-use Rattle.octets.specs.Octets.{be}
 use Rattle.ttlv.specs.Types.{integer, enumeration}
-use Rattle.ttlv.specs.Items.{Items, nil, value, group}
-use Rattle.ttlv.specs.Fields.{startsWith, ended, bodyOf, optional}
-use Rattle.ttlv.proofs.Bools.{both, and-i}
+use Rattle.ttlv.specs.Items.{Items, nil, group}
+use Rattle.ttlv.specs.Fields.{startsWith, ended, bodyOf}
+use Rattle.ttlv.proofs.Bools.{both}
 use Rattle.payload.specs.Tags.{attributes, cryptographicAlgorithm, cryptographicLength, cryptographicUsageMask, objectType, uniqueIdentifier, usageLimits, symmetricKey, aes}
 use Rattle.answer.specs.Tags.{stateTag, replacedObjectLink, replacementObjectLink}
 use Rattle.soundness.specs.Sound.{bitsOk, maskOk}
 use Rattle.act.specs.declared.Shown.{Shown}
 use Rattle.act.specs.declared.Outcome.{Outcome}
-use Rattle.act.specs.declared.Outcome.the-variants.{Failed, Created, Done, Showed}
+use Rattle.act.specs.declared.Outcome.the-variants.{Created, Done, Showed}
 use Rattle.answer.specs.Respond.{word, named, limitItems, linkItems, attributeItems}
-use Rattle.answer.specs.Read.{limitsFirst, orNoLimits, linkFirst, linkIn, shownIn, createdIn, doneIn, showedIn, linkOk, serialOk, shownOk}
+use Rattle.answer.specs.Read.{linkFirst, shownIn, createdIn, doneIn, showedIn, linkOk, serialOk, shownOk}
 use Rattle.answer.proofs.Maybe.{some-is, on-bind, on-test}
 use Rattle.answer.proofs.Fields.{ended-is, body-spells, spelled-back, spelled-spells, fixed-back, fixed-spells, serial-in-back, serial-in-spells}
-use Rattle.answer.proofs.Links.{or-cases, link-in-back, link-in-spells, not-replaced, no-limits, limitsOf, limitsOk, limits-back, limits-spells}
+use Rattle.answer.proofs.Tests.{on-or}
+use Rattle.answer.proofs.Links.{link-in-back, link-in-spells, not-replaced, no-limits}
+use Rattle.answer.proofs.Limits.{limitsOf, LimitsFacts, limitsOk, limits-facts, limits-back, limits-spells}
 
 -- ---- what is shown
 
@@ -35,32 +35,32 @@ pub record ShownFacts (s : Shown) : Type 0 where
   pub bits-short : s .bits < 256 ^ 4
   pub mask-short : s .mask < 256 ^ 4
   pub state-short : s .state < 256 ^ 4
-  pub limits-ok : limitsOk (s .unit) (s .total) (s .count) ≡ true
+  pub limits-ok : LimitsFacts (limitsOf s)
   pub replaced-ok : linkOk (s .replaced) ≡ true
   pub replacement-ok : linkOk (s .replacement) ≡ true
 
-bits-most : (bits : ℕ) → bitsOk bits ≡ true → bits ≤ 256
-bits-most bits h =
-    or-cases (eqb bits 128 || eqb bits 192) (eqb bits 256) h
-    (λ g. or-cases (eqb bits 128) (eqb bits 192) g (λ e. omega (arith, eqb-true bits 128 e)) (λ e. omega (arith, eqb-true bits 192 e)))
-    (λ e. omega (arith, eqb-true bits 256 e))
+bits-facts : (bits : ℕ) → bitsOk bits ≡ true → bits < 256 ^ 4
+bits-facts bits h =
+    on-or (eqb bits 128 || eqb bits 192) (eqb bits 256) h
+    (λ g. on-or (eqb bits 128) (eqb bits 192) g (λ e. omega (arith, eqb-true)) (λ e. omega (arith, eqb-true)))
+    (λ e. omega (arith, eqb-true))
 
 pub shown-facts : (s : Shown) → shownOk s ≡ true → ShownFacts s
 unfolding shownOk
 shown-facts s h =
     let p6 = both _ (linkOk (s .replacement)) h in
     let p5 = both _ (linkOk (s .replaced)) (p6 .0) in
-    let p4 = both _ (limitsOk (s .unit) (s .total) (s .count)) (p5 .0) in
+    let p4 = both _ (limitsOk (limitsOf s)) (p5 .0) in
     let p3 = both _ (leb 1 (s .state) && leb (s .state) 6) (p4 .0) in
     let p2 = both _ (maskOk (s .mask)) (p3 .0) in
     let p1 = both (serialOk (s .serial)) (bitsOk (s .bits)) (p2 .0) in
     let state = both (leb 1 (s .state)) (leb (s .state) 6) (p3 .1) in
     record {
       serial-ok = p1 .0;
-      bits-short = omega (arith, bits-most (s .bits) (p1 .1));
-      mask-short = omega (arith, leb-true (s .mask) 0x00FFFFFF (p2 .1));
-      state-short = omega (arith, leb-true (s .state) 6 (state .1));
-      limits-ok = p4 .1;
+      bits-short = bits-facts (s .bits) (p1 .1);
+      mask-short = omega (arith, leb-true);
+      state-short = omega (arith, leb-true);
+      limits-ok = limits-facts (limitsOf s) (p4 .1);
       replaced-ok = p5 .1;
       replacement-ok = p6 .1;
     }
@@ -68,19 +68,27 @@ shown-facts s h =
 pub shown-back : (s : Shown) → ShownFacts s → shownIn (s .serial) (attributeItems s) ≡ some s
 unfolding shownIn attributeItems ended _>>=_ _>>_
 shown-back s f =
-    let links = linkItems replacedObjectLink (s .replaced) (linkItems replacementObjectLink (s .replacement) nil) in
-    let no : startsWith usageLimits links ≡ false = no-limits replacedObjectLink (s .replaced) (linkItems replacementObjectLink (s .replacement) nil) (no-limits replacementObjectLink (s .replacement) nil (unfold startsWith in refl)) in
-    let l = limits-back s links (f .limits-ok) no in
-    let a = f .bits-short in
-    let b = f .mask-short in
-    let c = f .state-short in
-    rw (fixed-back cryptographicAlgorithm enumeration aes _ (omega arith), spelled-back 4 cryptographicLength integer (s .bits), spelled-back 4 cryptographicUsageMask integer (s .mask), spelled-back 4 stateTag enumeration (s .state), l .1, link-in-back replacedObjectLink (s .replaced) _ (omega arith) (f .replaced-ok) (not-replaced (s .replacement)), link-in-back replacementObjectLink (s .replacement) nil (omega arith) (f .replacement-ok) (unfold linkFirst bodyOf in refl), l .2)
+    let second = linkItems replacementObjectLink (s .replacement) nil in
+    let first = linkItems replacedObjectLink (s .replaced) second in
+    let no : startsWith usageLimits nil ≡ false = unfold startsWith in refl in
+    let l = limits-back s first (f .limits-ok) (no-limits replacedObjectLink (s .replaced) second (no-limits replacementObjectLink (s .replacement) nil no)) in
+    let none-left : linkFirst replacementObjectLink nil ≡ none = unfold linkFirst bodyOf in refl in
+    rw (
+      fixed-back cryptographicAlgorithm enumeration aes _ (omega arith),
+      spelled-back 4 cryptographicLength integer (s .bits) _ (f .bits-short),
+      spelled-back 4 cryptographicUsageMask integer (s .mask) _ (f .mask-short),
+      spelled-back 4 stateTag enumeration (s .state) _ (f .state-short),
+      l .read,
+      link-in-back replacedObjectLink (s .replaced) second (omega arith) (f .replaced-ok) (not-replaced (s .replacement)),
+      link-in-back replacementObjectLink (s .replacement) nil (omega arith) (f .replacement-ok) none-left,
+      l .means,
+    )
 
 pub shown-spells : (serial : ℕ) (t : Items) {s : Shown} → shownIn serial t ≡ some s → (s .serial ≡ serial) × (t ≡ attributeItems s)
 unfolding shownIn attributeItems
 shown-spells serial t {s} h =
-    on-bind _ _ h (λ r e1 h1. on-bind _ _ h1 (λ bits e2 h2. on-bind _ _ h2 (λ mask e3 h3. on-bind _ _ h3 (λ state e4 h4. on-bind _ _ h4 (λ limits e5 h5.
-    on-bind _ _ h5 (λ replaced e6 h6. on-bind _ _ h6 (λ replacement e7 h7. on-test _ _ h7 (λ o w.
+    on-bind h (λ r e1 h1. on-bind h1 (λ bits e2 h2. on-bind h2 (λ mask e3 h3. on-bind h3 (λ state e4 h4. on-bind h4 (λ limits e5 h5.
+    on-bind h5 (λ replaced e6 h6. on-bind h6 (λ replacement e7 h7. on-test h7 (λ o w.
     let t1 = fixed-spells cryptographicAlgorithm enumeration aes t e1 in
     let t2 = spelled-spells 4 cryptographicLength integer r e2 in
     let t3 = spelled-spells 4 cryptographicUsageMask integer (bits .1) e3 in
@@ -94,7 +102,8 @@ shown-spells serial t {s} h =
 
 -- ---- the payload of each kind of success
 
-pub created-back : (serial : ℕ) → serialOk serial ≡ true → createdIn (word objectType enumeration symmetricKey (named uniqueIdentifier serial nil)) ≡ some (Created serial)
+pub created-back : (serial : ℕ) → serialOk serial ≡ true
+    → createdIn (word objectType enumeration symmetricKey (named uniqueIdentifier serial nil)) ≡ some (Created serial)
 unfolding createdIn ended _>>=_ _>>_
 created-back serial h = rw (fixed-back objectType enumeration symmetricKey _ (omega arith), serial-in-back)
 
@@ -102,7 +111,7 @@ pub created-spells : (t : Items) {o : Outcome} → createdIn t ≡ some o
     → (serial : ℕ) × (o ≡ Created serial) × (t ≡ word objectType enumeration symmetricKey (named uniqueIdentifier serial nil))
 unfolding createdIn
 created-spells t h =
-    on-bind _ _ h (λ r e1 h1. on-bind _ _ h1 (λ serial e2 h2. on-test _ _ h2 (λ o w.
+    on-bind h (λ r e1 h1. on-bind h1 (λ serial e2 h2. on-test h2 (λ o w.
     let t1 = fixed-spells objectType enumeration symmetricKey t e1 in
     let t2 = serial-in-spells uniqueIdentifier r e2 in
     let t3 = ended-is (serial .1) o in
@@ -115,7 +124,7 @@ done-back serial h = rw serial-in-back
 pub done-spells : (t : Items) {o : Outcome} → doneIn t ≡ some o → (serial : ℕ) × (o ≡ Done serial) × (t ≡ named uniqueIdentifier serial nil)
 unfolding doneIn
 done-spells t h =
-    on-bind _ _ h (λ serial e h1. on-test _ _ h1 (λ o w.
+    on-bind h (λ serial e h1. on-test h1 (λ o w.
     let t1 = serial-in-spells uniqueIdentifier t e in
     let t2 = ended-is (serial .1) o in
     (serial .0, sym (some-is w), cc)))
@@ -130,7 +139,7 @@ pub showed-spells : (t : Items) {o : Outcome} → showedIn t ≡ some o
     → (s : Shown) × (o ≡ Showed s) × (t ≡ named uniqueIdentifier (s .serial) (group attributes (attributeItems s) nil))
 unfolding showedIn
 showed-spells t h =
-    on-bind _ _ h (λ serial e1 h1. on-bind _ _ h1 (λ body e2 h2. on-test _ _ h2 (λ o h3. on-bind _ _ h3 (λ s e4 w.
+    on-bind h (λ serial e1 h1. on-bind h1 (λ body e2 h2. on-test h2 (λ o h3. on-bind h3 (λ s e4 w.
     let t1 = serial-in-spells uniqueIdentifier t e1 in
     let t2 = body-spells attributes (serial .1) e2 in
     let t3 = ended-is (body .1) o in

@@ -3,3 +3,4 @@
 pub mod Tags
 pub mod Respond
 pub mod Read
+pub mod Front

@@ -1,0 +1,103 @@
+-- How long the parts of a response are.
+-- Assumes nothing.
+use mathlib.Core.Path.{_≡_, refl, _∙_}
+use Prim.Native.Nat.{ℕ, _+_, _*_, _≤_}
+use native.Mathlib.Omega.{arith}
+use mathlib.Core.Bool.{true}
+use mathlib.Core.List.{List, [], _∷_}
+use lib.ListN.{length, length-append, length-replicate}
+use lib.Dec.{eqb}
+use Rattle.octets.specs.Octets.{be, all}
+use Rattle.octets.proofs.If.{on-if}
+use Rattle.octets.proofs.Numbers.{length-be}
+use Rattle.ttlv.specs.Types.{padded}
+use Rattle.ttlv.specs.Items.{Items, nil, value, group, encode}
+use Rattle.ttlv.proofs.Bools.{both}
+use Rattle.identifier.specs.Identifier.{identifier}
+use Rattle.identifier.proofs.Texts.{length-identifier}
+use Rattle.frame.specs.Tags.{batchItem}
+use Rattle.frame.specs.Frame.{idMost}
+use Rattle.answer.specs.Tags.{replacedObjectLink, replacementObjectLink}
+use Rattle.act.specs.declared.Shown.{Shown}
+use Rattle.act.specs.declared.Outcome.{Outcome}
+use Rattle.act.specs.declared.Outcome.the-variants.{Failed, Created, Done, Showed}
+use Rattle.answer.specs.Respond.{Answer, word, long, named, limitItems, linkItems, attributeItems, outcomeItems, idItems, answerItems, batchItems}
+use Rattle.answer.specs.Read.{answerOk}
+use Rattle.answer.specs.Front.{longestItem}
+use Rattle.answer.proofs.Answers.{answer-facts}
+
+-- the bytes of some items
+abbrev pub size : Items → ℕ
+size t = length (encode t)
+
+-- ---- one item
+
+pub size-value : (tag kind : ℕ) (v : List ℕ) (rest : Items) → size (value tag kind v rest) ≡ 8 + padded (length v) + size rest
+unfolding encode
+size-value tag kind v rest = simp (length-append, length-be, length-replicate) (omega arith)
+
+pub size-group : (tag : ℕ) (body rest : Items) → size (group tag body rest) ≡ 8 + size body + size rest
+unfolding encode
+size-group tag body rest = simp (length-append, length-be) (omega arith)
+
+module _ (tag kind n : ℕ) (rest : Items) where
+  pub size-word : size (word tag kind n rest) ≡ 16 + size rest
+  size-word = size-value tag kind (be 4 n) rest ∙ rw length-be
+
+  pub size-long : size (long tag kind n rest) ≡ 16 + size rest
+  size-long = size-value tag kind (be 8 n) rest ∙ rw length-be
+
+pub size-named : (tag serial : ℕ) (rest : Items) → size (named tag serial rest) ≡ 16 + size rest
+size-named tag serial rest = size-value tag _ (identifier serial) rest ∙ rw length-identifier
+
+pub size-nil : size nil ≡ 0
+unfolding encode
+size-nil = refl
+
+pub ruleset sizes = (size-word, size-long, size-named, size-group, size-nil)
+
+-- ---- answers
+
+link-size : (kind serial : ℕ) (rest : Items) → size (linkItems kind serial rest) ≤ 40 + size rest
+unfolding linkItems
+link-size kind serial rest =
+    on-if (λ (t : Items). size t ≤ 40 + size rest) {b = eqb serial 0} (λ e. omega arith) (λ e. simp sizes (omega arith))
+
+limit-size : (s : Shown) (rest : Items) → size (limitItems s rest) ≤ 56 + size rest
+unfolding limitItems
+limit-size s rest =
+    on-if (λ (t : Items). size t ≤ 56 + size rest) {b = eqb (s .unit) 0} (λ e. omega arith) (λ e. simp sizes (omega arith))
+
+pub attributes-size : (s : Shown) → size (attributeItems s) ≤ 200
+unfolding attributeItems
+attributes-size s =
+    let second = linkItems replacementObjectLink (s .replacement) nil in
+    let first = linkItems replacedObjectLink (s .replaced) second in
+    simp sizes (omega (arith, limit-size s first, link-size replacedObjectLink (s .replaced) second, link-size replacementObjectLink (s .replacement) nil, size-nil))
+
+pub outcome-size : (o : Outcome) → size (outcomeItems o) ≤ 248
+unfolding outcomeItems
+outcome-size (Failed reason) = simp sizes (omega arith)
+outcome-size (Created serial) = simp sizes (omega arith)
+outcome-size (Done serial) = simp sizes (omega arith)
+outcome-size (Showed shown) = simp sizes (omega (arith, attributes-size shown))
+
+pub id-size : (id : List ℕ) (rest : Items) → length id ≤ idMost → size (idItems id rest) ≤ 24 + size rest
+unfolding idItems
+id-size [] rest h = omega arith
+id-size (x ∷ id) rest h = rw size-value (omega arith)
+
+pub answer-items-size : (a : Answer) → length (a .id) ≤ idMost → size (answerItems a) ≤ 288
+unfolding answerItems
+answer-items-size a h = rw size-word (omega (arith, id-size (a .id) (outcomeItems (a .outcome)) h, outcome-size (a .outcome)))
+
+-- each batch item fits the longest
+pub answer-size : (a : Answer) → answerOk a ≡ true → length (encode (group batchItem (answerItems a) nil)) ≤ longestItem
+answer-size a h = simp sizes (omega (arith, answer-items-size a (answer-facts a h .id-short)))
+
+pub batch-size : (answers : List Answer) → all answerOk answers ≡ true → length (encode (batchItems answers)) ≤ length answers * longestItem
+unfolding batchItems all
+batch-size [] h = rw size-nil (omega arith)
+batch-size (a ∷ answers) h =
+    let p = both (answerOk a) (all answerOk answers) h in
+    rw size-group (omega (arith, answer-items-size a (answer-facts a (p .0) .id-short), batch-size answers (p .1)))

@@ -1,0 +1,182 @@
+-- The items of a response are well-formed: within the depth that is read, every length short, every value of its type.
+-- Assumes nothing.
+use mathlib.Core.Path.{_≡_, refl}
+use Prim.Native.Nat.{ℕ, suc, _+_, _-_, _/_, _^_, _≤_, _<_}
+use native.Mathlib.Omega.{arith}
+use mathlib.Core.Bool.{Bool, true, not, _&&_}
+use mathlib.Core.List.{List, [], _∷_}
+use lib.ListN.{length}
+use lib.Dec.{ltb, eqb}
+use borrow.Author.Tests.{lt-ltb}
+use Rattle.octets.specs.If.{ifb}
+use Rattle.octets.specs.Octets.{be, all}
+use Rattle.octets.proofs.If.{on-if}
+use Rattle.octets.proofs.Numbers.{length-be}
+use Rattle.ttlv.specs.Types.{structure, tagLead, integer, longInteger, enumeration, textString, byteString, dateTime, lengthOk, text, valueOk}
+use Rattle.ttlv.specs.Items.{Items, nil, value, group, tagOk, itemOk, wellFormed}
+use Rattle.ttlv.specs.Parse.{depthMost}
+use Rattle.ttlv.proofs.Bools.{both, and-i}
+use Rattle.ttlv.proofs.Fine.{group-well}
+use Rattle.identifier.specs.Identifier.{identifier}
+use Rattle.identifier.proofs.Texts.{length-identifier, identifier-text}
+use Rattle.frame.specs.Tags.{batchCount, batchItem, operationTag, protocolVersion, protocolVersionMajor, protocolVersionMinor, uniqueBatchItemId}
+use Rattle.frame.specs.Frame.{idMost}
+use Rattle.payload.specs.Tags.{attributes, cryptographicAlgorithm, cryptographicLength, cryptographicUsageMask, objectType, uniqueIdentifier, usageLimits, usageLimitsCount, usageLimitsTotal, usageLimitsUnit, symmetricKey, aes}
+use Rattle.answer.specs.Tags.{link, linkType, linkedObjectIdentifier, responseHeader, responseMessage, responsePayload, resultReason, resultStatus, stateTag, timeStamp, replacedObjectLink, replacementObjectLink}
+use Rattle.rules.specs.Numbers.{reasonNumber}
+use Rattle.act.specs.declared.Shown.{Shown}
+use Rattle.act.specs.declared.Outcome.{Outcome}
+use Rattle.act.specs.declared.Outcome.the-variants.{Failed, Created, Done, Showed}
+use Rattle.answer.specs.Respond.{Answer, Response, word, long, named, limitItems, linkItems, attributeItems, success, operationFailed, succeeded, outcomeItems, idItems, answerItems, batchItems, versionItems, headerItems, respond}
+use Rattle.answer.specs.Read.{Limits, answerOk, allowed}
+use Rattle.answer.specs.Front.{responseMost}
+use Rattle.answer.proofs.Links.{linked}
+use Rattle.answer.proofs.Limits.{limited, limitsOf}
+use Rattle.answer.proofs.Answers.{answer-facts, allowed-facts}
+use Rattle.answer.proofs.Sizes.{size, sizes, size-group, attributes-size, answer-items-size, batch-size}
+use Rattle.answer.proofs.Front.{header-size}
+
+-- a run that is well-formed with structures at most d deep
+abbrev Well : ℕ → Items → Type 0
+Well d t = wellFormed d t ≡ true
+
+-- ---- one item
+
+-- a tag, a type and a length of k that go together
+abbrev shapeOk : ℕ → ℕ → ℕ → Bool
+shapeOk tag kind k = tagOk tag && not (eqb kind structure) && lengthOk kind k && ltb k (256 ^ 4)
+
+field-well : (d tag kind k : ℕ) (v : List ℕ) (rest : Items) → length v ≡ k → shapeOk tag kind k ≡ true → valueOk kind v ≡ true → Well (suc d) rest
+    → Well (suc d) (value tag kind v rest)
+unfolding wellFormed itemOk
+field-well d tag kind k v rest l h g w =
+    let p2 = both _ (ltb k (256 ^ 4)) h in
+    let p1 = both (tagOk tag && not (eqb kind structure)) (lengthOk kind k) (p2 .0) in
+    rw l (and-i _ _ (and-i _ _ (and-i _ _ (and-i _ _ (p1 .0) (p1 .1)) g) (p2 .1)) w)
+
+word-well : (d tag kind n : ℕ) (rest : Items) → shapeOk tag kind 4 ≡ true → valueOk kind (be 4 n) ≡ true → Well (suc d) rest
+    → Well (suc d) (word tag kind n rest)
+word-well d tag kind n rest = field-well d tag kind 4 (be 4 n) rest (length-be 4 n)
+
+long-well : (d tag kind n : ℕ) (rest : Items) → shapeOk tag kind 8 ≡ true → valueOk kind (be 8 n) ≡ true → Well (suc d) rest
+    → Well (suc d) (long tag kind n rest)
+long-well d tag kind n rest = field-well d tag kind 8 (be 8 n) rest (length-be 8 n)
+
+named-well : (d tag serial : ℕ) (rest : Items) → shapeOk tag textString 8 ≡ true → Well (suc d) rest → Well (suc d) (named tag serial rest)
+unfolding valueOk ifb text
+named-well d tag serial rest h w = field-well d tag textString 8 (identifier serial) rest (length-identifier serial) h (identifier-text serial) w
+
+body-well : (d tag : ℕ) (body rest : Items) → tag / 65536 ≡ tagLead → size body < 256 ^ 4 → Well d body → Well (suc d) rest → Well (suc d) (group tag body rest)
+body-well d tag body rest l s b w = group-well d tag body rest (record { lead = l; short = s }) b w
+
+nil-well : (d : ℕ) → Well d nil
+unfolding wellFormed
+nil-well d = refl
+
+-- ---- payloads. The message is at depth 8, its batch items at 7, their fields at 6, those of a payload at 5, attributes at 4, their parts at 3
+
+linked-well : (kind serial : ℕ) (rest : Items) → Well 4 rest → Well 4 (linked kind serial rest)
+unfolding lengthOk valueOk ifb
+linked-well kind serial rest w =
+    body-well 3 link _ rest refl (simp sizes (omega arith))
+    (word-well 2 linkType enumeration kind _ refl refl
+    (named-well 2 linkedObjectIdentifier serial nil refl (nil-well 3)))
+    w
+
+limited-well : (l : Limits) (rest : Items) → Well 4 rest → Well 4 (limited l rest)
+unfolding lengthOk valueOk ifb
+limited-well l rest w =
+    body-well 3 usageLimits _ rest refl (simp sizes (omega arith))
+    (long-well 2 usageLimitsTotal longInteger (l .total) _ refl refl
+    (long-well 2 usageLimitsCount longInteger (l .count) _ refl refl
+    (word-well 2 usageLimitsUnit enumeration (l .unit) nil refl refl (nil-well 3))))
+    w
+
+link-well : (kind serial : ℕ) (rest : Items) → Well 4 rest → Well 4 (linkItems kind serial rest)
+unfolding linkItems
+link-well kind serial rest w = on-if (Well 4) {b = eqb serial 0} (λ e. w) (λ e. linked-well kind serial rest w)
+
+limit-well : (s : Shown) (rest : Items) → Well 4 rest → Well 4 (limitItems s rest)
+unfolding limitItems
+limit-well s rest w = on-if (Well 4) {b = eqb (s .unit) 0} (λ e. w) (λ e. limited-well (limitsOf s) rest w)
+
+attributes-well : (s : Shown) → Well 4 (attributeItems s)
+unfolding attributeItems lengthOk valueOk ifb
+attributes-well s =
+    word-well 3 cryptographicAlgorithm enumeration aes _ refl refl
+    (word-well 3 cryptographicLength integer (s .bits) _ refl refl
+    (word-well 3 cryptographicUsageMask integer (s .mask) _ refl refl
+    (word-well 3 stateTag enumeration (s .state) _ refl refl
+    (limit-well s _
+    (link-well replacedObjectLink (s .replaced) _
+    (link-well replacementObjectLink (s .replacement) nil (nil-well 4)))))))
+
+-- ---- answers
+
+succeeded-well : (payload : Items) → size payload < 256 ^ 4 → Well 5 payload → Well 6 (succeeded payload)
+unfolding lengthOk valueOk ifb
+succeeded-well payload h w =
+    word-well 5 resultStatus enumeration success _ refl refl (body-well 5 responsePayload payload nil refl h w (nil-well 6))
+
+outcome-well : (o : Outcome) → Well 6 (outcomeItems o)
+unfolding outcomeItems lengthOk valueOk ifb
+outcome-well (Failed reason) =
+    word-well 5 resultStatus enumeration operationFailed _ refl refl
+    (word-well 5 resultReason enumeration (reasonNumber reason) nil refl refl (nil-well 6))
+outcome-well (Created serial) =
+    succeeded-well _ (simp sizes (omega arith))
+    (word-well 4 objectType enumeration symmetricKey _ refl refl
+    (named-well 4 uniqueIdentifier serial nil refl (nil-well 5)))
+outcome-well (Done serial) =
+    succeeded-well _ (simp sizes (omega arith)) (named-well 4 uniqueIdentifier serial nil refl (nil-well 5))
+outcome-well (Showed shown) =
+    succeeded-well _ (simp sizes (omega (arith, attributes-size shown)))
+    (named-well 4 uniqueIdentifier (shown .serial) _ refl
+    (body-well 4 attributes (attributeItems shown) nil refl (omega (arith, attributes-size shown)) (attributes-well shown) (nil-well 5)))
+
+id-well : (id : List ℕ) (rest : Items) → length id ≤ idMost → Well 6 rest → Well 6 (idItems id rest)
+unfolding idItems lengthOk valueOk ifb
+id-well [] rest h w = w
+id-well (x ∷ id) rest h w =
+    field-well 5 uniqueBatchItemId byteString (length (x ∷ id)) (x ∷ id) rest refl (lt-ltb (suc (length id)) (256 ^ 4) (omega arith)) refl w
+
+answer-well : (a : Answer) → length (a .id) ≤ idMost → Well 6 (answerItems a)
+unfolding answerItems lengthOk valueOk ifb
+answer-well a h =
+    word-well 5 operationTag enumeration (a .operation) _ refl refl
+    (id-well (a .id) (outcomeItems (a .outcome)) h (outcome-well (a .outcome)))
+
+batch-well : (answers : List Answer) → all answerOk answers ≡ true → Well 7 (batchItems answers)
+unfolding batchItems all
+batch-well [] h = nil-well 7
+batch-well (a ∷ answers) h =
+    let p = both (answerOk a) (all answerOk answers) h in
+    let i = answer-facts a (p .0) .id-short in
+    body-well 6 batchItem (answerItems a) (batchItems answers) refl (omega (arith, answer-items-size a i)) (answer-well a i) (batch-well answers (p .1))
+
+-- ---- the message
+
+version-well : (rest : Items) → Well 6 rest → Well 6 (versionItems rest)
+unfolding versionItems lengthOk valueOk ifb
+version-well rest w =
+    body-well 5 protocolVersion _ rest refl (simp sizes (omega arith))
+    (word-well 4 protocolVersionMajor integer 2 _ refl refl (word-well 4 protocolVersionMinor integer 1 nil refl refl (nil-well 5)))
+    w
+
+header-well : (clock count : ℕ) → Well 6 (headerItems clock count)
+unfolding headerItems lengthOk valueOk ifb
+header-well clock count =
+    version-well _ (long-well 5 timeStamp dateTime clock _ refl refl (word-well 5 batchCount integer count nil refl refl (nil-well 6)))
+
+-- the items of a response are well-formed
+pub respond-well : (r : Response) → allowed r ≡ true → wellFormed depthMost (respond r) ≡ true
+unfolding respond
+respond-well r h =
+    let f = allowed-facts r h in
+    let header = headerItems (r .clock) (length (r .answers)) in
+    let batch = batchItems (r .answers) in
+    let most : size (group responseHeader header batch) ≤ responseMost - 8 = rw header-size (omega (arith, batch-size (r .answers) (f .answers-ok), f .few-answers)) in
+    let alone : size header + 8 ≤ size (group responseHeader header batch) = rw size-group (omega arith) in
+    body-well 7 responseMessage (group responseHeader header batch) nil refl (omega arith)
+    (body-well 6 responseHeader header batch refl (omega arith) (header-well (r .clock) (length (r .answers))) (batch-well (r .answers) (f .answers-ok)))
+    (nil-well 8)
