@@ -14,21 +14,14 @@ use Rattle.table.specs.Layout.{placeCount, materialSize}
 use Rattle.soundness.specs.Sound.{sound}
 use Rattle.frame.specs.Frame.{Request, Framed, refused, asked, framed, batchMost}
 use Rattle.answer.specs.Respond.{Response, respond}
+use Rattle.answer.specs.Front.{responseMost}
 use Rattle.engine.specs.Batch.{Ran, running}
 
 -- ---- sizes
 
--- the frame around the answers: message, header, version, Time Stamp, Batch Count
-abbrev pub frameSize : ℕ
-frameSize = 88
-
--- the longest answer: Get Attributes with a usage limit, both links and a 16-byte ID
-abbrev pub longestItem : ℕ
-longestItem = 296
-
--- "output room below 4,824 bytes"
+-- "output room below 4,824 bytes": the longest response has to fit
 abbrev pub roomLeast : ℕ
-roomLeast = frameSize + batchMost * longestItem
+roomLeast = responseMost
 
 -- "fresh strip not 512 bytes": 32 bytes for each of 16 items
 abbrev pub stripSize : ℕ
