@@ -3,3 +3,5 @@
 pub mod Stores
 pub mod Edits
 pub mod Births
+pub mod Begun
+pub mod Keeps
