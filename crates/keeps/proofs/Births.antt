@@ -1,21 +1,18 @@
 -- A new record with a serial past the last issued, and a replacement linked both ways: both keep the table sound.
 -- Assumes nothing. Whatever the new record's place held is gone; a link that named it names nothing that stands.
 use mathlib.Core.Path.{_≡_, refl, sym, ap, subst, _∙_}
-use mathlib.Core.Logic.{_⊎_, inl, inr, ⊎-elim}
-use Prim.Native.Nat.{ℕ, _+_, _^_, _≤_, _<_}
+use mathlib.Core.Logic.{inr, ⊎-elim}
+use Prim.Native.Nat.{ℕ, _^_, _≤_, _<_}
 use native.Mathlib.Omega.{arith}
-use mathlib.Core.Bool.{true}
 use mathlib.Core.List.{List}
-use lib.ListN.{length}
 use Rattle.table.specs.declared.Record.{Record}
-use Rattle.table.specs.Layout.{sizeOf}
 use Rattle.table.specs.Records.{placeAt, withPlace, serialAt, lastSerial, withLast}
 use Rattle.table.proofs.Lines.{InRange}
 use Rattle.table.proofs.Places.{serial-is, length-with, with-swap}
 use Rattle.table.proofs.Lead.{last-swap}
 use Rattle.soundness.proofs.SoundIs.{Stands, Fit, Sound}
 use Rattle.rules.specs.Records.{linkedTo}
-use Rattle.keeps.proofs.Stores.{Stored, stored, stored-last, Mutual, LinkedBut, LinkedAll, LinkedTo, Bare, bare, linked, joined, other, other-serial, each-standing, bare-stored, linked-stored}
+use Rattle.keeps.proofs.Stores.{Stored, stored, stored-last, Mutual, LinkedBut, LinkedAll, Bare, bare, linked, joined, other-serial, each-standing, bare-stored, linked-stored}
 use Rattle.keeps.proofs.Edits.{mutual-as, limit-as}
 
 -- a table with a record born at place k

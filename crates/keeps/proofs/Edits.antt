@@ -1,17 +1,16 @@
 -- A record that stays where it is: a store that keeps its serial and its links, and is right by itself, keeps the table sound.
 -- Assumes nothing.
-use mathlib.Core.Path.{_≡_, refl, sym, ap, _∙_}
-use mathlib.Core.Logic.{_⊎_, inl, inr, ⊎-elim}
+use mathlib.Core.Path.{_≡_, refl, sym, _∙_}
+use mathlib.Core.Logic.{_⊎_, inl, inr}
 use Prim.Native.Nat.{ℕ, _≤_, _<_}
 use native.Mathlib.Omega.{arith}
-use mathlib.Core.Bool.{true}
 use mathlib.Core.List.{List}
 use Rattle.table.specs.declared.Record.{Record}
 use Rattle.table.specs.Records.{placeAt, withPlace, serialAt, lastSerial}
 use Rattle.table.proofs.Lines.{InRange}
 use Rattle.table.proofs.Places.{serial-is}
 use Rattle.soundness.proofs.SoundIs.{Stands, Unlimited, Limited, Fit, Sound}
-use Rattle.keeps.proofs.Stores.{Stored, stored, Mutual, LinkedAll, LinkedTo, Bare, bare, linked, joined, bare-stored, linked-stored}
+use Rattle.keeps.proofs.Stores.{stored, Mutual, LinkedAll, Bare, bare, linked, joined, bare-stored, linked-stored}
 
 -- links by the fields that they are made of
 pub mutual-as : {p p′ q q′ : Record} → p′ .serial ≡ p .serial → p′ .replaced ≡ p .replaced → q′ .serial ≡ q .serial → q′ .replacement ≡ q .replacement

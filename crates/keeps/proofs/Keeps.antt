@@ -1,50 +1,55 @@
 -- Create, Re-key, Activate, Revoke, Destroy and Get Usage Allocation each keep a sound table sound, and its bytes bytes.
--- Assumes nothing.
-use mathlib.Core.Path.{_≡_, refl, sym, ap, subst, _∙_}
-use mathlib.Core.Logic.{_⊎_, inl, inr, ⊎-elim}
-use Prim.Native.Nat.{ℕ, _+_, _-_, _/_, _^_, _≤_, _<_}
+-- Assumes nothing. Each theorem asks what its operation has tested when it comes to change the table.
+use mathlib.Core.Path.{_≡_, refl, sym, ap, _∙_}
+use mathlib.Core.Logic.{inl, inr, ⊎-elim}
+use Prim.Native.Nat.{ℕ, _^_, _≤_, _<_}
 use native.Mathlib.Omega.{arith}
-use mathlib.Core.Bool.{Bool, true, false, _||_, true≢false, false≢true}
+use mathlib.Core.Bool.{Bool, true, false, _||_, true≢false}
 use mathlib.Core.List.{List}
-use lib.ListN.{length, drop, replicate, length-replicate}
-use lib.Dec.{eqb}
-use borrow.Author.Tests.{eq-eqb, ne-eqb, eqb-false}
-use Rattle.octets.specs.If.{ifb}
-use Rattle.octets.specs.Octets.{Bytes, part, fromBe, allZero}
-use Rattle.octets.proofs.If.{on-if}
+use lib.ListN.{length}
+use borrow.Author.Tests.{eqb-false}
+use Rattle.octets.specs.Octets.{Bytes, part}
 use Rattle.octets.proofs.Numbers.{fromBe-lt}
 use Rattle.octets.proofs.Stores.{length-part}
 use Rattle.table.specs.declared.Record.{Record}
-use Rattle.table.specs.declared.Found.{Found}
-use Rattle.table.specs.declared.Found.the-variants.{At, Nothing}
-use Rattle.table.specs.Layout.{materialSize, sizeOf}
-use Rattle.table.specs.Records.{placeAt, withPlace, serialAt, stateAt, lastSerial, withLast}
-use Rattle.table.specs.Search.{isNothing, isDestroyed, newPlace}
-use Rattle.table.proofs.Zeros.{zeros-pass, bytes-zeros, drop-zeros}
+use Rattle.table.specs.declared.Found.the-variants.{At}
+use Rattle.table.specs.Layout.{materialSize}
+use Rattle.table.specs.Records.{placeAt, withPlace, serialAt, stateAt, lastSerial, blank}
+use Rattle.table.specs.Search.{isNothing, find, isDestroyed, newPlace}
 use Rattle.table.proofs.Lines.{InRange, bytes-part}
 use Rattle.table.proofs.Places.{serial-is, state-is, place-range, bytes-with}
 use Rattle.table.proofs.Lead.{bytes-last}
 use Rattle.table.proofs.First.{on-found, isNothing-none}
-use Rattle.table.proofs.Finds.{new-below, new-at}
+use Rattle.table.proofs.Finds.{find-nonzero, find-serial, new-below, new-at}
+use Rattle.table.proofs.Blank.{bytes-blank}
 use Rattle.soundness.specs.Sound.{sound}
-use Rattle.soundness.proofs.SoundIs.{Stands, Unlimited, Limited, Fit, Sound, sound-is, sound-of}
+use Rattle.soundness.proofs.SoundIs.{Stands, Fit, Sound, sound-is, sound-of}
+use Rattle.soundness.proofs.Blank.{blank-sound}
 use Rattle.rules.specs.declared.Attributes.{Attributes}
 use Rattle.rules.specs.declared.Next.the-variants.{To}
 use Rattle.rules.specs.declared.Granted.the-variants.{Left}
-use Rattle.rules.specs.Numbers.{activate, revoke, destroy}
 use Rattle.rules.specs.States.{nextState, granting}
-use Rattle.rules.specs.Records.{newRecord, heirOf, linkedTo, inState, movedTo, withCount}
+use Rattle.rules.specs.Records.{newRecord, heirOf, movedTo, withCount}
 use Rattle.rules.specs.Changes.{serialMost, isFull, nextSerial, bornAt, withBorn, withHeir}
-use Rattle.rules.proofs.Moves.{Move, move, next-range, destroyed-by}
-use Rattle.rules.proofs.Grants.{Grant, grant-is}
-use Rattle.keeps.proofs.Edits.{Stays, edit-sound, limit-as}
-use Rattle.keeps.proofs.Begun.{Allowed, attributesOf, begun, new-begun, heir-begun, allowed-of, begun-range, begun-fit}
+use Rattle.rules.proofs.Moves.{move}
+use Rattle.rules.proofs.Grants.{grant-is}
+use Rattle.keeps.proofs.Edits.{Stays, edit-sound}
 use Rattle.keeps.proofs.Births.{linked-range, born-sound, heir-sound}
+use Rattle.keeps.proofs.Begun.{Allowed, attributesOf, begun, new-begun, heir-begun, allowed-of, begun-range, begun-fit}
+use Rattle.keeps.proofs.Moved.{moved-range, moved-fit, moved-stays, count-range, count-fit, count-stays}
 
 -- a sound table of bytes
 pub record Held (n : ℕ) (t : List ℕ) : Type 0 where
   pub right : sound n t ≡ true
   pub bytes : Bytes t
+
+-- the blank table is one
+pub held-blank : (n : ℕ) → n < 256 ^ 4 → Held n (blank n)
+held-blank n few = record { right = blank-sound n few; bytes = bytes-blank n }
+
+-- what a search finds stands
+pub found-stands : (n : ℕ) (t : List ℕ) (serial i : ℕ) → find n t serial ≡ At i → Stands t i
+found-stands n t serial i e z = find-nonzero n t serial i e (sym (find-serial n t serial i e) ∙ z)
 
 or-first : (a b : Bool) → (a || b) ≡ false → a ≡ false
 or-first true b e = e
@@ -54,114 +59,26 @@ or-second : (a b : Bool) → (a || b) ≡ false → b ≡ false
 or-second true b e = absurd (true≢false e)
 or-second false b e = e
 
--- ---- a record that moves
-
-module _ (next : ℕ) (m : List ℕ) (r : Record) where
-  in-state-range : next ≤ 6 → length m ≡ materialSize → Bytes m → InRange r → InRange (inState next m r)
-  unfolding inState
-  in-state-range h l b g = record {
-    serial = g .serial;
-    state = omega arith;
-    unit = g .unit;
-    bits = g .bits;
-    replaced = g .replaced;
-    replacement = g .replacement;
-    total = g .total;
-    count = g .count;
-    mask = g .mask;
-    long = l;
-    bytes = b;
-  }
-
-  in-state-fit : (last : ℕ) → 1 ≤ next → next ≤ 6 → allZero (drop (r .bits / 8) m) ≡ true → (isDestroyed next ≡ true → allZero m ≡ true) → Fit last r → Fit last (inState next m r)
-  unfolding inState
-  in-state-fit last low high tail wiped f = record {
-    low = low;
-    high = high;
-    bits = f .bits;
-    mask = f .mask;
-    limit = limit-as r (inState next m r) refl refl (omega arith) (f .limit);
-    tail = tail;
-    wiped = wiped;
-    replaced = f .replaced;
-    replacement = f .replacement;
-  }
-
-  in-state-stays : Stays (inState next m r) r
-  unfolding inState
-  in-state-stays = record { serial = refl; replaced = refl; replacement = refl }
-
-module _ (operation code next : ℕ) (r : Record) (is : Move operation code (r .state) next) where
-  moved-range : InRange r → InRange (movedTo operation next r)
-  unfolding movedTo
-  moved-range g =
-      in-state-range next _ r (next-range is .1)
-      (on-if (λ (m : List ℕ). length m ≡ materialSize) (λ e. length-replicate {A = ℕ} materialSize 0) (λ e. g .long))
-      (on-if Bytes (λ e. bytes-zeros materialSize) (λ e. g .bytes)) g
-
-  moved-fit : (last : ℕ) → Fit last r → Fit last (movedTo operation next r)
-  unfolding movedTo
-  moved-fit last f =
-      in-state-fit next _ r last (next-range is .0) (next-range is .1)
-      (on-if (λ (m : List ℕ). allZero (drop (r .bits / 8) m) ≡ true) (λ e. ap allZero (drop-zeros (r .bits / 8) materialSize) ∙ zeros-pass (materialSize - r .bits / 8)) (λ e. f .tail))
-      (λ d. on-if (λ (m : List ℕ). allZero m ≡ true) (λ e. zeros-pass materialSize)
-      (λ e. ⊎-elim (λ o. absurd (true≢false (sym (eq-eqb operation destroy o) ∙ e))) (f .wiped) (destroyed-by is d)))
-      f
-
-moved-stays : (operation next : ℕ) (r : Record) → Stays (movedTo operation next r) r
-unfolding movedTo
-moved-stays operation next r = in-state-stays next _ r
-
--- ---- a record of which something was taken off
-
-module _ (count : ℕ) (r : Record) (less : count ≤ r .count) where
-  count-range : InRange r → InRange (withCount count r)
-  unfolding withCount
-  count-range g = record {
-    serial = g .serial;
-    state = g .state;
-    unit = g .unit;
-    bits = g .bits;
-    replaced = g .replaced;
-    replacement = g .replacement;
-    total = g .total;
-    count = omega (arith, g .count);
-    mask = g .mask;
-    long = g .long;
-    bytes = g .bytes;
-  }
-
-  count-fit : (last : ℕ) → Fit last r → Fit last (withCount count r)
-  unfolding withCount
-  count-fit last f = record {
-    low = f .low;
-    high = f .high;
-    bits = f .bits;
-    mask = f .mask;
-    limit = limit-as r (withCount count r) refl refl less (f .limit);
-    tail = f .tail;
-    wiped = f .wiped;
-    replaced = f .replaced;
-    replacement = f .replacement;
-  }
-
-count-stays : (count : ℕ) (r : Record) → Stays (withCount count r) r
-unfolding withCount
-count-stays count r = record { serial = refl; replaced = refl; replacement = refl }
-
 -- ---- the theorems
 
 module _ (n : ℕ) (t : List ℕ) (held : Held n t) where
-  facts : Sound n t
+  pub facts : Sound n t
   facts = sound-is n t (held .right)
 
   -- a record that stays
   module _ (i : ℕ) (lo : i < n) (stands : Stands t i) where
-    range : InRange (placeAt n t i)
+    pub range : InRange (placeAt n t i)
     range = place-range n t i (facts .size) lo (held .bytes)
 
-    fit : Fit (lastSerial t) (placeAt n t i)
+    pub fit : Fit (lastSerial t) (placeAt n t i)
     fit = facts .fit i lo stands
+
+    -- a place that is due is another, where this record is not destroyed
+    pub not-here : isDestroyed (placeAt n t i .state) ≡ false → (k : ℕ) → newPlace n t ≡ At k → k ≡ i → ⊥
+    not-here alive k e q =
+        ⊎-elim (λ z. stands (ap (serialAt t) (sym q) ∙ z))
+        (λ d. true≢false (sym (d .1) ∙ ap (λ (j : ℕ). isDestroyed (stateAt t j)) q ∙ ap isDestroyed (state-is n t i) ∙ alive))
+        (new-at n t k e)
 
     edited : (r : Record) → InRange r → Fit (lastSerial t) r → Stays r (placeAt n t i) → Held n (withPlace n t i r)
     edited r g f same = record {
@@ -192,46 +109,40 @@ module _ (n : ℕ) (t : List ℕ) (held : Held n t) where
       let l : length (part t 0 4) ≡ 4 = length-part t 0 4 (omega (arith, facts .size)) in
       rw l at (fromBe-lt (part t 0 4) (bytes-part t 0 4 (held .bytes)))
 
-  module _ (room : isFull n t ≡ false) (fresh : List ℕ) (fresh-bytes : Bytes fresh) (long : materialSize ≤ length fresh) where
+  module _ (room : isFull n t ≡ false) where
     -- there is a place, and a serial
-    with-place : {P : Type 0} → ((k : ℕ) → newPlace n t ≡ At k → P) → P
+    pub with-place : {P : Type 0} → ((k : ℕ) → newPlace n t ≡ At k → P) → P
     unfolding isFull
     with-place f = on-found (newPlace n t) f (λ e. absurd (true≢false (sym (isNothing-none (newPlace n t) e) ∙ or-first _ _ room)))
 
-    next-fits : nextSerial t < 256 ^ 4
+    pub next-fits : nextSerial t < 256 ^ 4
     unfolding isFull
     next-fits = omega (arith, last-fits, eqb-false (lastSerial t) serialMost (or-second (isNothing (newPlace n t)) _ room))
 
-    -- Create
-    pub keeps-born : (wanted : Attributes) → Allowed wanted → Held n (withBorn n t (newRecord (nextSerial t) wanted fresh))
-    unfolding withBorn bornAt
-    keeps-born wanted a =
-        let r : Record = begun (nextSerial t) wanted 0 fresh in
-        let g : InRange r = begun-range (nextSerial t) wanted 0 fresh a next-fits (omega arith) fresh-bytes in
-        with-place (λ k e. rw (new-begun (nextSerial t) wanted fresh, e) (record {
-          right = sound-of n _ (born-sound n t k r facts (new-below n t k e) g (omega arith) (begun-fit (nextSerial t) wanted 0 fresh a long (inl refl)) refl refl);
-          bytes = bytes-last _ _ (bytes-with n t k r (held .bytes) (g .bytes));
-        }))
-
-    -- Re-key
-    module _ (i : ℕ) (lo : i < n) (stands : Stands t i) (alive : isDestroyed (placeAt n t i .state) ≡ false) (none : placeAt n t i .replacement ≡ 0) where
-      -- the place that is due is another: this one is neither free nor destroyed
-      not-here : (k : ℕ) → newPlace n t ≡ At k → k ≡ i → ⊥
-      not-here k e q =
-          ⊎-elim (λ z. stands (ap (serialAt t) (sym q) ∙ z))
-          (λ d. true≢false (sym (d .1) ∙ ap (λ (j : ℕ). isDestroyed (stateAt t j)) q ∙ ap isDestroyed (state-is n t i) ∙ alive))
-          (new-at n t k e)
-
-      pub keeps-heir : Held n (withHeir n t i (heirOf (nextSerial t) (placeAt n t i) fresh))
-      unfolding withHeir bornAt
-      keeps-heir =
-          let old : Record = placeAt n t i in
-          let a : Allowed (attributesOf old) = allowed-of (lastSerial t) old (fit i lo stands) in
-          let below : old .serial < nextSerial t = omega (arith, facts .issued i lo, serial-is n t i) in
-          let heir : Record = begun (nextSerial t) (attributesOf old) (old .serial) fresh in
-          let g : InRange heir = begun-range (nextSerial t) (attributesOf old) (old .serial) fresh a next-fits (range i lo stands .serial) fresh-bytes in
-          with-place (λ k e. rw (heir-begun (nextSerial t) old fresh, e) (record {
-            right = sound-of n _ (heir-sound n t i k heir facts lo stands (new-below n t k e) (not-here k e) (range i lo stands) none g (omega arith)
-                (begun-fit (nextSerial t) (attributesOf old) (old .serial) fresh a long (inr below)) refl refl);
-            bytes = bytes-last _ _ (bytes-with n _ k heir (bytes-with n t i _ (held .bytes) (linked-range (nextSerial t) old next-fits (range i lo stands) .bytes)) (g .bytes));
+    module _ (fresh : List ℕ) (fresh-bytes : Bytes fresh) (long : materialSize ≤ length fresh) where
+      -- Create
+      pub keeps-born : (wanted : Attributes) → Allowed wanted → Held n (withBorn n t (newRecord (nextSerial t) wanted fresh))
+      unfolding withBorn bornAt
+      keeps-born wanted a =
+          let r : Record = begun (nextSerial t) wanted 0 fresh in
+          let g : InRange r = begun-range (nextSerial t) wanted 0 fresh a next-fits (omega arith) fresh-bytes in
+          with-place (λ k e. rw (new-begun (nextSerial t) wanted fresh, e) (record {
+            right = sound-of n _ (born-sound n t k r facts (new-below n t k e) g (omega arith) (begun-fit (nextSerial t) wanted 0 fresh a long (inl refl)) refl refl);
+            bytes = bytes-last _ _ (bytes-with n t k r (held .bytes) (g .bytes));
           }))
+
+      -- Re-key
+      module _ (i : ℕ) (lo : i < n) (stands : Stands t i) (alive : isDestroyed (placeAt n t i .state) ≡ false) (none : placeAt n t i .replacement ≡ 0) where
+        pub keeps-heir : Held n (withHeir n t i (heirOf (nextSerial t) (placeAt n t i) fresh))
+        unfolding withHeir bornAt
+        keeps-heir =
+            let old : Record = placeAt n t i in
+            let a : Allowed (attributesOf old) = allowed-of (lastSerial t) old (fit i lo stands) in
+            let below : old .serial < nextSerial t = omega (arith, facts .issued i lo, serial-is n t i) in
+            let heir : Record = begun (nextSerial t) (attributesOf old) (old .serial) fresh in
+            let g : InRange heir = begun-range (nextSerial t) (attributesOf old) (old .serial) fresh a next-fits (range i lo stands .serial) fresh-bytes in
+            with-place (λ k e. rw (heir-begun (nextSerial t) old fresh, e) (record {
+              right = sound-of n _ (heir-sound n t i k heir facts lo stands (new-below n t k e) (not-here i lo stands alive k e) (range i lo stands) none g (omega arith)
+                  (begun-fit (nextSerial t) (attributesOf old) (old .serial) fresh a long (inr below)) refl refl);
+              bytes = bytes-last _ _ (bytes-with n _ k heir (bytes-with n t i _ (held .bytes) (linked-range (nextSerial t) old next-fits (range i lo stands) .bytes)) (g .bytes));
+            }))

@@ -4,4 +4,6 @@ pub mod Stores
 pub mod Edits
 pub mod Births
 pub mod Begun
+pub mod Moved
 pub mod Keeps
+pub mod Leaves

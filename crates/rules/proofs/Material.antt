@@ -1,13 +1,13 @@
 -- Laws of new material: the first bytes of a part of the fresh strip, then zeros, 32 in all.
 -- Assumes nothing.
-use mathlib.Core.Path.{_≡_, refl, sym, ap, _∙_}
-use Prim.Native.Nat.{ℕ, _+_, _-_, _/_, _≤_, _<_, min}
+use mathlib.Core.Path.{_≡_, sym, ap, _∙_}
+use Prim.Native.Nat.{ℕ, _+_, _-_, _/_, _≤_, min}
 use native.Mathlib.Omega.{arith}
 use native.Mathlib.Decide.{decLe}
 use mathlib.Core.Bool.{true}
 use mathlib.Core.List.{List, _++_}
 use lib.ListN.{length, take, drop, replicate, length-append, length-take, length-replicate}
-use lib.Seq.{sets, length-take-le, take-append-le, take-append-add, take-take, take-at, drop-at}
+use lib.Seq.{sets, length-take-le, take-append-le, take-append-add, take-take, drop-at}
 use Rattle.octets.specs.Octets.{Bytes, allZero, over}
 use Rattle.octets.proofs.Numbers.{bytes-append, bytes-take}
 use Rattle.octets.proofs.Stores.{take-there, sets-whole, sets-over}
