@@ -1,42 +1,22 @@
 -- Laws of new material: the first bytes of a part of the fresh strip, then zeros, 32 in all.
 -- Assumes nothing.
-use mathlib.Core.Path.{_≡_, refl, sym, ap, _∙_}
-use Prim.Native.Nat.{ℕ, zero, suc, _+_, _-_, _/_, _≤_, _<_, min}
+use mathlib.Core.Path.{_≡_, sym, ap, _∙_}
+use Prim.Native.Nat.{ℕ, _+_, _-_, _/_, _≤_, min}
 use native.Mathlib.Omega.{arith}
 use native.Mathlib.Decide.{decLe}
 use mathlib.Core.Bool.{true}
 use mathlib.Core.List.{List, _++_}
-use lib.ListN.{length, take, drop, replicate, length-append, length-take, length-replicate, replicate-append-replicate}
-use lib.Seq.{sets, length-take-le, take-append-le, take-append-add, take-take, take-at, drop-at}
-use Rattle.octets.specs.Octets.{Bytes, allZero, all, over}
+use lib.ListN.{length, take, drop, replicate, length-append, length-take, length-replicate}
+use lib.Seq.{sets, length-take-le, take-append-le, take-append-add, take-take, drop-at}
+use Rattle.octets.specs.Octets.{Bytes, allZero, over}
 use Rattle.octets.proofs.Numbers.{bytes-append, bytes-take}
 use Rattle.octets.proofs.Stores.{take-there, sets-whole, sets-over}
+use Rattle.table.proofs.Zeros.{zeros-pass, bytes-zeros, drop-zeros, part-zeros}
 use Rattle.table.specs.Layout.{materialSize}
 use Rattle.rules.specs.Records.{materialFrom}
 
--- ---- zeros
-
 abbrev pub zeros : ℕ → List ℕ
 zeros n = replicate n 0
-
-pub all-zeros : (n : ℕ) → allZero (zeros n) ≡ true
-unfolding all
-all-zeros zero = refl
-all-zeros (suc n) = all-zeros n
-
-pub bytes-zeros : (n : ℕ) → Bytes (zeros n)
-bytes-zeros zero = tt
-bytes-zeros (suc n) = (omega arith, bytes-zeros n)
-
-module _ (l m : ℕ) where
-  zeros-split : zeros (l + m) ≡ zeros l ++ zeros m
-  zeros-split = sym (replicate-append-replicate {A = ℕ} l m 0)
-
-  pub take-zeros : take l (zeros (l + m)) ≡ zeros l
-  take-zeros = ap (take l) zeros-split ∙ take-at (zeros l) (zeros m) l (length-replicate l 0)
-
-  pub drop-zeros : drop l (zeros (l + m)) ≡ zeros m
-  drop-zeros = ap (drop l) zeros-split ∙ drop-at (zeros l) (zeros m) l (length-replicate l 0)
 
 -- ---- what fits, with zeros up to 32
 
@@ -44,16 +24,12 @@ module _ (xs : List ℕ) (h : length xs ≤ materialSize) where
   pub padded : take materialSize (xs ++ zeros materialSize) ≡ xs ++ zeros (materialSize - length xs)
   padded =
       let a : materialSize ≡ length xs + (materialSize - length xs) = omega arith in
-      let b : materialSize ≡ materialSize - length xs + length xs = omega arith in
       ap (λ (n : ℕ). take n (xs ++ zeros materialSize)) a
       ∙ take-append-add xs (zeros materialSize) (materialSize - length xs)
-      ∙ ap (λ (n : ℕ). xs ++ take (materialSize - length xs) (zeros n)) b
-      ∙ ap (λ (s : List ℕ). xs ++ s) (take-zeros (materialSize - length xs) (length xs))
+      ∙ ap (λ (s : List ℕ). xs ++ s) (part-zeros materialSize 0 (materialSize - length xs) (omega arith))
 
   pub over-zeros : over xs (zeros materialSize) ≡ xs ++ zeros (materialSize - length xs)
-  over-zeros =
-      let a : materialSize ≡ length xs + (materialSize - length xs) = omega arith in
-      ap (λ (n : ℕ). xs ++ drop (length xs) (zeros n)) a ∙ ap (λ (s : List ℕ). xs ++ s) (drop-zeros (length xs) (materialSize - length xs))
+  over-zeros = ap (λ (s : List ℕ). xs ++ s) (drop-zeros (length xs) materialSize)
 
 -- ---- material
 
@@ -100,4 +76,4 @@ module _ (bits : ℕ) (fresh : List ℕ) where
   material-tail h k =
       ap (λ (s : List ℕ). allZero (drop (bits / 8) s)) (material-plain h k)
       ∙ ap allZero (drop-at (take (bits / 8) fresh) (zeros (materialSize - bits / 8)) (bits / 8) (length-take-le (bits / 8) fresh k))
-      ∙ all-zeros (materialSize - bits / 8)
+      ∙ zeros-pass (materialSize - bits / 8)

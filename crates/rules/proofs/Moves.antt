@@ -1,16 +1,16 @@
 -- The transitions as a list of cases: an operation moves a record exactly by one of them.
 -- Assumes nothing.
-use mathlib.Core.Path.{_≡_, refl, sym, ap, _∙_}
-use Prim.Native.Nat.{ℕ, _+_, _≤_, _<_}
+use mathlib.Core.Path.{_≡_, sym, ap, _∙_}
+use Prim.Native.Nat.{ℕ, _≤_}
 use native.Mathlib.Omega.{arith}
 use native.Mathlib.Decide.{decLe}
-use mathlib.Core.Bool.{Bool, true, false}
+use mathlib.Core.Bool.{true, false, false≢true}
 use mathlib.Core.Logic.{_⊎_, inl, inr}
 use lib.Dec.{eqb}
 use borrow.Author.Tests.{eqb-true, eqb-false}
 use Rattle.octets.proofs.If.{on-bool}
+use Rattle.table.specs.Search.{isDestroyed}
 use Rattle.rules.specs.declared.Reason.{Reason}
-use Rattle.rules.specs.declared.Reason.the-variants.{WrongKeyLifecycleState}
 use Rattle.rules.specs.declared.Next.{Next}
 use Rattle.rules.specs.declared.Next.the-variants.{To, Fails}
 use Rattle.rules.specs.Numbers.{activate, revoke, destroy, preActive, active, deactivated, compromised, destroyed, destroyedCompromised}
@@ -89,3 +89,23 @@ module _ (operation code state next : ℕ) (is : nextState operation code state 
       by-number operation activate when-activate (λ a.
       by-number operation revoke (λ o. on-bool (isCompromise code) (when-compromise o) (when-revoke o)) (λ b.
       by-number operation destroy when-destroy (λ c. not-both is (states.on-other operation code state a b c))))
+
+-- ---- what a move leads to
+
+module _ {operation code state next : ℕ} where
+  pub next-range : Move operation code state next → (1 ≤ next) × (next ≤ 6)
+  next-range (activates o s n) = (omega arith, omega arith)
+  next-range (compromises o c h k n) = (omega arith, omega arith)
+  next-range (compromises-destroyed o c s n) = (omega arith, omega arith)
+  next-range (deactivates o c s n) = (omega arith, omega arith)
+  next-range (destroys o s n) = (omega arith, omega arith)
+  next-range (destroys-compromised o s n) = (omega arith, omega arith)
+
+  -- what a move leaves destroyed, Destroy moved, or it was destroyed before
+  pub destroyed-by : Move operation code state next → isDestroyed next ≡ true → (operation ≡ destroy) ⊎ (isDestroyed state ≡ true)
+  destroyed-by (activates o s n) e = absurd (false≢true (rw n at e))
+  destroyed-by (compromises o c h k n) e = absurd (false≢true (rw n at e))
+  destroyed-by (compromises-destroyed o c s n) e = inr (rw s)
+  destroyed-by (deactivates o c s n) e = absurd (false≢true (rw n at e))
+  destroyed-by (destroys o s n) e = inl o
+  destroyed-by (destroys-compromised o s n) e = inl o

@@ -1,20 +1,14 @@
 -- Laws of the transitions: what each operation makes of each state.
 -- Assumes nothing.
-use mathlib.Core.Path.{_≡_, refl, sym, ap, _∙_}
-use Prim.Native.Nat.{ℕ, _+_, _≤_, _<_}
-use mathlib.Core.Bool.{Bool, true, false, not, _&&_, _||_}
-use mathlib.Core.Option.{Option, none, some}
-use mathlib.Core.List.{List, [], _∷_}
+use mathlib.Core.Path.{_≡_, _∙_}
+use Prim.Native.Nat.{ℕ, _+_, _≤_}
+use mathlib.Core.Bool.{true, false}
 use mathlib.Core.Logic.{_⊎_, inl, inr, ⊎-elim}
 use native.Mathlib.Omega.{arith}
 use native.Mathlib.Decide.{decLe}
-use lib.Dec.{eqb}
-use borrow.Author.Tests.{eq-eqb, ne-eqb}
+use borrow.Author.Tests.{ne-eqb}
 use Rattle.octets.specs.If.{ifb}
-use Rattle.octets.proofs.If.{ifb-true, ifb-false}
-use Rattle.table.specs.Search.{isDestroyed}
 use Rattle.rules.specs.declared.Reason.the-variants.{ObjectDestroyed, WrongKeyLifecycleState}
-use Rattle.rules.specs.declared.Next.{Next}
 use Rattle.rules.specs.declared.Next.the-variants.{To, Fails}
 use Rattle.rules.specs.Numbers.{activate, revoke, destroy, preActive, active, deactivated, compromised, destroyed, destroyedCompromised}
 use Rattle.rules.specs.Tests.{due}

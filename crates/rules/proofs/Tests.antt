@@ -1,16 +1,15 @@
 -- Laws of ordered tests: the first condition that holds gives the reason, and none is due exactly where none holds.
 -- Assumes nothing.
 use mathlib.Core.Path.{_≡_, refl, sym, ap, _∙_}
-use mathlib.Core.Bool.{Bool, true, false, not, _&&_, true≢false, false≢true}
-use mathlib.Core.Option.{Option, none, some}
+use mathlib.Core.Bool.{Bool, true, false, not, false≢true}
+use mathlib.Core.Option.{none, some}
 use mathlib.Core.List.{List, [], _∷_}
 use Prim.Native.Nat.{ℕ}
 use native.Mathlib.Omega.{arith}
-use Rattle.octets.specs.If.{ifb}
 use Rattle.octets.specs.Octets.{all}
 use Rattle.octets.proofs.If.{ifb-true, ifb-false, on-bool}
 use Rattle.rules.specs.declared.Reason.{Reason}
-use Rattle.rules.specs.Tests.{Test, _⇒_, due}
+use Rattle.rules.specs.Tests.{Test, due}
 
 -- its condition holds: the first test decides
 pub due-first : (test : Test) (tests : List Test) → test .holds ≡ true → due (test ∷ tests) ≡ some (test .reason)

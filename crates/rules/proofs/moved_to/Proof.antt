@@ -1,6 +1,5 @@
 -- `moved_to` meets its contract: Destroy takes the arm with the zeros, any other operation the one that keeps the material.
 -- Assumes nothing.
-use mathlib.Core.Path.{refl}
 use borrow.Author.Tests.{eq-eqb, ne-eqb}
 use Rattle.octets.specs.If.{ifb}
 use Rattle.rules.specs.Records.{movedTo, inState}

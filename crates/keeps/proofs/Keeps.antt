@@ -1,0 +1,148 @@
+-- Create, Re-key, Activate, Revoke, Destroy and Get Usage Allocation each keep a sound table sound, and its bytes bytes.
+-- Assumes nothing. Each theorem asks what its operation has tested when it comes to change the table.
+use mathlib.Core.Path.{_≡_, refl, sym, ap, _∙_}
+use mathlib.Core.Logic.{inl, inr, ⊎-elim}
+use Prim.Native.Nat.{ℕ, _^_, _≤_, _<_}
+use native.Mathlib.Omega.{arith}
+use mathlib.Core.Bool.{Bool, true, false, _||_, true≢false}
+use mathlib.Core.List.{List}
+use lib.ListN.{length}
+use borrow.Author.Tests.{eqb-false}
+use Rattle.octets.specs.Octets.{Bytes, part}
+use Rattle.octets.proofs.Numbers.{fromBe-lt}
+use Rattle.octets.proofs.Stores.{length-part}
+use Rattle.table.specs.declared.Record.{Record}
+use Rattle.table.specs.declared.Found.the-variants.{At}
+use Rattle.table.specs.Layout.{materialSize}
+use Rattle.table.specs.Records.{placeAt, withPlace, serialAt, stateAt, lastSerial, blank}
+use Rattle.table.specs.Search.{isNothing, find, isDestroyed, newPlace}
+use Rattle.table.proofs.Lines.{InRange, bytes-part}
+use Rattle.table.proofs.Places.{serial-is, state-is, place-range, bytes-with}
+use Rattle.table.proofs.Lead.{bytes-last}
+use Rattle.table.proofs.First.{on-found, isNothing-none}
+use Rattle.table.proofs.Finds.{find-nonzero, find-serial, new-below, new-at}
+use Rattle.table.proofs.Blank.{bytes-blank}
+use Rattle.soundness.specs.Sound.{sound}
+use Rattle.soundness.proofs.SoundIs.{Stands, Fit, Sound, sound-is, sound-of}
+use Rattle.soundness.proofs.Blank.{blank-sound}
+use Rattle.rules.specs.declared.Attributes.{Attributes}
+use Rattle.rules.specs.declared.Next.the-variants.{To}
+use Rattle.rules.specs.declared.Granted.the-variants.{Left}
+use Rattle.rules.specs.States.{nextState, granting}
+use Rattle.rules.specs.Records.{newRecord, heirOf, movedTo, withCount}
+use Rattle.rules.specs.Changes.{serialMost, isFull, nextSerial, bornAt, withBorn, withHeir}
+use Rattle.rules.proofs.Moves.{move}
+use Rattle.rules.proofs.Grants.{grant-is}
+use Rattle.keeps.proofs.Edits.{Stays, edit-sound}
+use Rattle.keeps.proofs.Births.{linked-range, born-sound, heir-sound}
+use Rattle.keeps.proofs.Begun.{Allowed, attributesOf, begun, new-begun, heir-begun, allowed-of, begun-range, begun-fit}
+use Rattle.keeps.proofs.Moved.{moved-range, moved-fit, moved-stays, count-range, count-fit, count-stays}
+
+-- a sound table of bytes
+pub record Held (n : ℕ) (t : List ℕ) : Type 0 where
+  pub right : sound n t ≡ true
+  pub bytes : Bytes t
+
+-- the blank table is one
+pub held-blank : (n : ℕ) → n < 256 ^ 4 → Held n (blank n)
+held-blank n few = record { right = blank-sound n few; bytes = bytes-blank n }
+
+-- what a search finds stands
+pub found-stands : (n : ℕ) (t : List ℕ) (serial i : ℕ) → find n t serial ≡ At i → Stands t i
+found-stands n t serial i e z = find-nonzero n t serial i e (sym (find-serial n t serial i e) ∙ z)
+
+or-first : (a b : Bool) → (a || b) ≡ false → a ≡ false
+or-first true b e = e
+or-first false b e = refl
+
+or-second : (a b : Bool) → (a || b) ≡ false → b ≡ false
+or-second true b e = absurd (true≢false e)
+or-second false b e = e
+
+-- ---- the theorems
+
+module _ (n : ℕ) (t : List ℕ) (held : Held n t) where
+  pub facts : Sound n t
+  facts = sound-is n t (held .right)
+
+  -- a record that stays
+  module _ (i : ℕ) (lo : i < n) (stands : Stands t i) where
+    pub range : InRange (placeAt n t i)
+    range = place-range n t i (facts .size) lo (held .bytes)
+
+    pub fit : Fit (lastSerial t) (placeAt n t i)
+    fit = facts .fit i lo stands
+
+    -- a place that is due is another, where this record is not destroyed
+    pub not-here : isDestroyed (placeAt n t i .state) ≡ false → (k : ℕ) → newPlace n t ≡ At k → k ≡ i → ⊥
+    not-here alive k e q =
+        ⊎-elim (λ z. stands (ap (serialAt t) (sym q) ∙ z))
+        (λ d. true≢false (sym (d .1) ∙ ap (λ (j : ℕ). isDestroyed (stateAt t j)) q ∙ ap isDestroyed (state-is n t i) ∙ alive))
+        (new-at n t k e)
+
+    edited : (r : Record) → InRange r → Fit (lastSerial t) r → Stays r (placeAt n t i) → Held n (withPlace n t i r)
+    edited r g f same = record {
+      right = sound-of n (withPlace n t i r) (edit-sound n t i r facts lo stands g f same);
+      bytes = bytes-with n t i r (held .bytes) (g .bytes);
+    }
+
+    -- Activate, Revoke, Destroy
+    pub keeps-moved : (operation code next : ℕ) → nextState operation code (placeAt n t i .state) ≡ To next → Held n (withPlace n t i (movedTo operation next (placeAt n t i)))
+    keeps-moved operation code next e =
+        let is = move operation code (placeAt n t i .state) next e in
+        edited (movedTo operation next (placeAt n t i)) (moved-range operation code next (placeAt n t i) is range)
+        (moved-fit operation code next (placeAt n t i) is (lastSerial t) fit) (moved-stays operation next (placeAt n t i))
+
+    -- Get Usage Allocation
+    pub keeps-count : (amount left : ℕ) → granting (placeAt n t i .state) (placeAt n t i .unit) (placeAt n t i .count) amount ≡ Left left
+        → Held n (withPlace n t i (withCount left (placeAt n t i)))
+    keeps-count amount left e =
+        let g = grant-is (placeAt n t i .state) (placeAt n t i .unit) (placeAt n t i .count) amount left e in
+        let less : left ≤ placeAt n t i .count = omega arith in
+        edited (withCount left (placeAt n t i)) (count-range left (placeAt n t i) less range) (count-fit left (placeAt n t i) less (lastSerial t) fit) (count-stays left (placeAt n t i))
+
+  -- ---- a record that is new
+
+  last-fits : lastSerial t < 256 ^ 4
+  unfolding lastSerial
+  last-fits =
+      let l : length (part t 0 4) ≡ 4 = length-part t 0 4 (omega (arith, facts .size)) in
+      rw l at (fromBe-lt (part t 0 4) (bytes-part t 0 4 (held .bytes)))
+
+  module _ (room : isFull n t ≡ false) where
+    -- there is a place, and a serial
+    pub with-place : {P : Type 0} → ((k : ℕ) → newPlace n t ≡ At k → P) → P
+    unfolding isFull
+    with-place f = on-found (newPlace n t) f (λ e. absurd (true≢false (sym (isNothing-none (newPlace n t) e) ∙ or-first _ _ room)))
+
+    pub next-fits : nextSerial t < 256 ^ 4
+    unfolding isFull
+    next-fits = omega (arith, last-fits, eqb-false (lastSerial t) serialMost (or-second (isNothing (newPlace n t)) _ room))
+
+    module _ (fresh : List ℕ) (fresh-bytes : Bytes fresh) (long : materialSize ≤ length fresh) where
+      -- Create
+      pub keeps-born : (wanted : Attributes) → Allowed wanted → Held n (withBorn n t (newRecord (nextSerial t) wanted fresh))
+      unfolding withBorn bornAt
+      keeps-born wanted a =
+          let r : Record = begun (nextSerial t) wanted 0 fresh in
+          let g : InRange r = begun-range (nextSerial t) wanted 0 fresh a next-fits (omega arith) fresh-bytes in
+          with-place (λ k e. rw (new-begun (nextSerial t) wanted fresh, e) (record {
+            right = sound-of n _ (born-sound n t k r facts (new-below n t k e) g (omega arith) (begun-fit (nextSerial t) wanted 0 fresh a long (inl refl)) refl refl);
+            bytes = bytes-last _ _ (bytes-with n t k r (held .bytes) (g .bytes));
+          }))
+
+      -- Re-key
+      module _ (i : ℕ) (lo : i < n) (stands : Stands t i) (alive : isDestroyed (placeAt n t i .state) ≡ false) (none : placeAt n t i .replacement ≡ 0) where
+        pub keeps-heir : Held n (withHeir n t i (heirOf (nextSerial t) (placeAt n t i) fresh))
+        unfolding withHeir bornAt
+        keeps-heir =
+            let old : Record = placeAt n t i in
+            let a : Allowed (attributesOf old) = allowed-of (lastSerial t) old (fit i lo stands) in
+            let below : old .serial < nextSerial t = omega (arith, facts .issued i lo, serial-is n t i) in
+            let heir : Record = begun (nextSerial t) (attributesOf old) (old .serial) fresh in
+            let g : InRange heir = begun-range (nextSerial t) (attributesOf old) (old .serial) fresh a next-fits (range i lo stands .serial) fresh-bytes in
+            with-place (λ k e. rw (heir-begun (nextSerial t) old fresh, e) (record {
+              right = sound-of n _ (heir-sound n t i k heir facts lo stands (new-below n t k e) (not-here i lo stands alive k e) (range i lo stands) none g (omega arith)
+                  (begun-fit (nextSerial t) (attributesOf old) (old .serial) fresh a long (inr below)) refl refl);
+              bytes = bytes-last _ _ (bytes-with n _ k heir (bytes-with n t i _ (held .bytes) (linked-range (nextSerial t) old next-fits (range i lo stands) .bytes)) (g .bytes));
+            }))
