@@ -20,7 +20,7 @@ use Rattle.table.specs.Layout.{lineOf, lineSize, sizeOf}
 use Rattle.table.specs.Records.{placeAt, serialAt, lastSerial, placesSaid}
 use Rattle.table.specs.Search.{find}
 use Rattle.table.proofs.Places.{serial-is}
-use Rattle.soundness.specs.Sound.{sizeRight, countRight, leadRight, freeRight, zerosRight, linksRight, sound}
+use Rattle.soundness.specs.Sound.{sizeRight, countRight, leadRight, freeRight, zerosRight, ifStands, namesReplacement, namesReplaced, linksRight, sound}
 use Rattle.soundness.specs.Checked.{wholeRight, valuesRight, namesRight, materialRight, isAt, standingRight, placeRight}
 use Rattle.soundness.proofs.Bools.{and-l, and-r, and-i, no-unless, not-both, facts, tests}
 use Rattle.soundness.proofs.SoundIs.{Sound, Stands, Right, fit-is, fit-of, Linked, Distinct, find-own, own-distinct, links-is, links-of, sound-is, sound-of}
@@ -149,3 +149,12 @@ module _ (n : ℕ) (t : List ℕ) where
 
   pub passed-more : (i : ℕ) → Passed i → placeRight n t i ≡ true → Passed (i + 1)
   passed-more i h e k l = ⊎-elim (λ z. ap (placeRight n t) z ∙ e) (λ z. h k z) (eq-or-lt-of-le (let m : k ≤ i = omega arith in m))
+
+-- the answers of the functions for the parts of a standing place's rules, put together
+pub standing-parts : (n : ℕ) (t : List ℕ) (i last : ℕ) (r : Record) {zeros values material names own back forth : Bool} → last ≡ lastSerial t
+    → zeros ≡ zerosRight n t i → values ≡ valuesRight r → material ≡ materialRight r → names ≡ namesRight last r → own ≡ isAt i (find n t (r .serial))
+    → back ≡ ifStands (namesReplacement n t (r .serial)) (find n t (r .replaced))
+    → forth ≡ ifStands (namesReplaced n t (r .serial)) (find n t (r .replacement))
+    → ((zeros && values && material && names) && own && (back && forth)) ≡ standingRight n t i r
+unfolding standingRight linksRight
+standing-parts n t i last r l z v m a o b f = rw (z, v, m, a, o, b, f, l)

@@ -9,6 +9,7 @@ use mathlib.Core.Option.{Option, none, some}
 use mathlib.Core.List.{List, [], _∷_, map}
 use lib.ListN.{length, getD}
 use Rattle.octets.proofs.If.{ifb-true, on-if}
+use Rattle.soundness.proofs.Bools.{not-both}
 use Rattle.table.specs.declared.Found.{Found}
 use Rattle.table.specs.declared.Found.the-variants.{At, Nothing}
 use Rattle.table.specs.Search.{first}
@@ -233,3 +234,42 @@ module _ (n : ℕ) (t : List ℕ) where
   none-fault h =
       let later : placeFault 4 n t ≡ none = place-tests 4 n t ∙ unbroken-from n t 4 breakTests (h .places) in
       ifb-true _ _ _ (h .whole 0) ∙ ifb-true _ _ _ (h .whole 1) ∙ ifb-true _ _ _ (h .whole 2) ∙ later
+
+-- ---- the other way round: the first rule that is broken, at the lowest place that breaks it, is the first fault
+
+-- two that are first, and lowest, are one
+same-fault : (n : ℕ) (t : List ℕ) (k i m j : ℕ) → FaultAt n t k i → FaultAt n t m j → some (atPlace m j) ≡ some (atPlace k i)
+same-fault n t k i m j h g =
+    let sooner : m < k → ⊥ = λ z. not-both (breaks m n t j) (g .broken) (h .before m (g .numbered .0) z j (g .place)) in
+    let later : k < m → ⊥ = λ z. not-both (breaks k n t i) (h .broken) (g .before k (h .numbered .0) z i (h .place)) in
+    let rule : m ≡ k = omega arith in
+    let below : j < i → ⊥ = λ z. not-both (breaks m n t j) (g .broken) (ap (λ (x : ℕ). breaks x n t j) rule ∙ h .lowest j z) in
+    let above : i < j → ⊥ = λ z. not-both (breaks k n t i) (h .broken) (ap (λ (x : ℕ). breaks x n t i) (sym rule) ∙ g .lowest i z) in
+    let place : j ≡ i = omega arith in
+    rw (rule, place)
+
+same-whole : (n : ℕ) (t : List ℕ) (k m : ℕ) → FaultWhole n t k → FaultWhole n t m → some (whole m) ≡ some (whole k)
+same-whole n t k m h g =
+    let sooner : m < k → ⊥ = λ z. not-both (keeps m n t) (h .before m (g .numbered .0) z) (g .broken) in
+    let later : k < m → ⊥ = λ z. not-both (keeps k n t) (g .before k (h .numbered .0) z) (h .broken) in
+    let rule : m ≡ k = omega arith in
+    rw rule
+
+module _ (n : ℕ) (t : List ℕ) where
+  pub at-fault : (k i : ℕ) → FaultAt n t k i → firstFault n t ≡ some (atPlace k i)
+  at-fault k i h = go (firstFault n t) refl
+    where
+      go : (f : Option Fault) → firstFault n t ≡ f → f ≡ some (atPlace k i)
+      go none e = absurd (not-both (breaks k n t i) (h .broken) (fault-none n t e .places (k - 4) i (h .place)))
+      go (some (whole m)) e =
+          let g : FaultWhole n t m = fault-whole n t m e in
+          absurd (not-both (keeps m n t) (h .whole m (g .numbered .0) (g .numbered .1)) (g .broken))
+      go (some (atPlace m j)) e = same-fault n t k i m j h (fault-at n t m j e)
+
+  pub whole-fault : (k : ℕ) → FaultWhole n t k → firstFault n t ≡ some (whole k)
+  whole-fault k h = go (firstFault n t) refl
+    where
+      go : (f : Option Fault) → firstFault n t ≡ f → f ≡ some (whole k)
+      go none e = absurd (not-both (keeps k n t) (fault-none n t e .whole (k - 1)) (h .broken))
+      go (some (whole m)) e = same-whole n t k m h (fault-whole n t m e)
+      go (some (atPlace m j)) e = absurd (not-both (keeps k n t) (fault-at n t m j e .whole k (h .numbered .0) (h .numbered .1)) (h .broken))

@@ -7,3 +7,4 @@ pub mod SoundIs
 pub mod Blank
 pub mod Checked
 pub mod Worked
+pub mod Unique

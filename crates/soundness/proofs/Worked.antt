@@ -123,14 +123,14 @@ pub faults : map (firstFault 4) faulty
 unfolding ifb be fromBe fromBeAfter all line body recordOf placeAt withPlace serialAt lastSerial withLast placesSaid blank firstFrom isNothing find sizeRight countRight leadRight freeRight zerosRight distinctRight issuedRight stateRight bitsRight maskRight limitRight tailRight wipedRight replacedRight replacementRight ifStands linksRight breaksFree breaksStanding orLater standingFault placeFault wholeFault firstFault
 faults = refl
 
--- tables with nothing wrong: two keys; a key and its replacement; a key whose replacement stands no more; the table that the box starts with; one key in it
+-- tables with nothing wrong: two keys; a key and its replacement; a key whose replacement stands no more; one key; the table that the box starts with
 abbrev right : Bool
 right =
     sound 4 good
     && sound 4 (pair (withLinks 0 2 (key 1)) (withLinks 1 0 (key 2)))
     && sound 4 (pair (withLinks 0 3 (key 1)) (key 2))
+    && sound 4 (withLast (withPlace 4 (blank 4) 3 (key 9)) 9)
     && sound placeCount (blank placeCount)
-    && sound placeCount (withLast (withPlace placeCount (blank placeCount) 40 (key 9)) 9)
 
 pub none-wrong : right ≡ true
 unfolding ifb isSome be fromBe fromBeAfter all line body recordOf placeAt withPlace serialAt lastSerial withLast placesSaid blank firstFrom isNothing find sizeRight countRight leadRight freeRight zerosRight distinctRight issuedRight stateRight bitsRight maskRight limitRight tailRight wipedRight replacedRight replacementRight ifStands linksRight breaksFree breaksStanding orLater standingFault placeFault wholeFault firstFault sound

@@ -45,6 +45,7 @@ pub fn total_ok(total: u64) -> bool
 
 // ---- the rules of a record by itself
 
+// Rule 11: no limit and nothing counted, or a limit in range and no more left than it.
 fn limit_right(p: Record) -> bool
     ensures { λ r. ⌜ r ≡ limitRight p ⌝ }
 {
@@ -54,6 +55,7 @@ fn limit_right(p: Record) -> bool
     unit_ok(p.unit as u64) & total_ok(p.total) & (p.count <= p.total)
 }
 
+// Rules 8 to 11: state, length in bits, mask and limit.
 fn values_right(p: Record) -> bool
     ensures { λ r. ⌜ r ≡ valuesRight p ⌝ }
 {
@@ -64,6 +66,7 @@ fn values_right(p: Record) -> bool
         & limit_right(p)
 }
 
+// Rule 12: the material past its length is zero.
 fn tail_right(p: Record) -> bool
     ensures { λ r. ⌜ r ≡ tailRight p ⌝ }
 {
@@ -72,6 +75,7 @@ fn tail_right(p: Record) -> bool
     octets::all_zero(&material[len..])
 }
 
+// Rule 13: a destroyed record has no material.
 fn wiped_right(p: Record) -> bool
     ensures { λ r. ⌜ r ≡ wipedRight p ⌝ }
 {
@@ -82,12 +86,14 @@ fn wiped_right(p: Record) -> bool
     true
 }
 
+// Rules 12 and 13.
 fn material_right(p: Record) -> bool
     ensures { λ r. ⌜ r ≡ materialRight p ⌝ }
 {
     tail_right(p) & wiped_right(p)
 }
 
+// Rules 7, 14 and 15: the serial and those that it is linked to, where `last` is the last one issued.
 fn names_right(p: Record, last: u32) -> bool
     ensures { λ r. ⌜ r ≡ namesRight last p ⌝ }
 {

@@ -1,11 +1,8 @@
 -- `soundness::standing_right`. The tests are the definition's, in its order.
 -- Assumes nothing.
-use Prim.Native.Nat.{ℕ, _-_}
-use mathlib.Core.Path.{ap, _∙_}
+use Prim.Native.Nat.{_-_}
 use borrow.Author.Needs.{needs}
-use Rattle.soundness.specs.Sound.{linksRight}
-use Rattle.soundness.specs.Checked.{namesRight, standingRight}
-use Rattle.soundness.proofs.Bools.{and-cong}
+use Rattle.soundness.proofs.Checked.{standing-parts}
 use Rattle.soundness.proofs.standing_right.Statement.{statement}
 use Rattle.soundness.proofs.standing_right.Tie as tie
 
@@ -31,10 +28,17 @@ own-place-requires : tie.Need-own-place-requires
 own-place-requires c κs = search needs
 
 returns : tie.Need-returns
-unfolding standingRight linksRight
 returns c =
-    let alone = and-cong (and-cong (and-cong (c .before .before .before .before .before .before .zeros-right .ensures) (c .before .before .before .before .before .values-right .ensures)) (c .before .before .before .before .material-right .ensures)) (c .before .before .before .names-right .ensures ∙ ap (λ (last : ℕ). namesRight last (c .before .before .before .before .before .before .before .before .args .p)) (c .before .before .before .before .before .before .before .before .pre .1 .1)) in
-    and-cong (and-cong alone (c .own-place .ensures)) (and-cong (c .before .before .back-right .ensures) (c .before .forth-right .ensures))
+    let a = c .before .before .before .before .before .before .before .before .args in
+    standing-parts (a .n) (a .t .now) (a .i) (a .last) (a .p)
+    (c .before .before .before .before .before .before .before .before .pre .1 .1)
+    (c .before .before .before .before .before .before .zeros-right .ensures)
+    (c .before .before .before .before .before .values-right .ensures)
+    (c .before .before .before .before .material-right .ensures)
+    (c .before .before .before .names-right .ensures)
+    (c .own-place .ensures)
+    (c .before .before .back-right .ensures)
+    (c .before .forth-right .ensures)
 
 pub standing-right-spec : {M : Type 1} → statement M
 standing-right-spec =
