@@ -1,0 +1,48 @@
+//! The proved engine, called through its C function.
+//! Assumes that the linked archive has that function with the signature below and keeps its contract.
+
+use crate::{Refusal, Served};
+
+extern "C" {
+    fn junctionmoth_serve(
+        request: *const u8,
+        request_len: usize,
+        table: *mut u8,
+        table_len: usize,
+        fresh: *const u8,
+        fresh_len: usize,
+        clock: i64,
+        out: *mut u8,
+        out_len: usize,
+        len: *mut u64,
+    ) -> u32;
+}
+
+/// Serves one request: the table is changed, the response stands at the front of `out`, its length is given back.
+/// Any bytes and any sizes may be passed; a refused call changes nothing.
+pub fn serve(request: &[u8], table: &mut [u8], fresh: &[u8], clock: i64, out: &mut [u8]) -> Served {
+    let mut length = 0u64;
+    // SAFETY: each pointer comes with the length of the slice it is taken from, the slices live through the call, and
+    // the two that are written are borrowed exclusively, so no two of the buffers overlap.
+    let number = unsafe {
+        junctionmoth_serve(
+            request.as_ptr(),
+            request.len(),
+            table.as_mut_ptr(),
+            table.len(),
+            fresh.as_ptr(),
+            fresh.len(),
+            clock,
+            out.as_mut_ptr(),
+            out.len(),
+            &mut length,
+        )
+    };
+    if number == 0 {
+        let length = usize::try_from(length).expect("a response is no longer than the room");
+        assert!(length <= out.len(), "a response is no longer than the room");
+        return Ok(length);
+    }
+    assert_eq!(length, 0, "a refusal has length 0");
+    Err(Refusal::from_number(number).expect("a refusal has a number from 1 to 9"))
+}

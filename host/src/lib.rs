@@ -1,0 +1,93 @@
+//! Junctionmoth for Rust hosts: the proved engine behind a safe call, and what it is tested and raced against.
+//! With the feature `archive` (the default) the proved engine is linked; the contract of its C function is assumed here.
+
+use std::fmt;
+
+#[cfg(feature = "archive")]
+mod archive;
+pub mod message;
+pub mod model;
+pub mod ordinary;
+
+#[cfg(feature = "archive")]
+pub use archive::serve;
+
+/// Bytes of output room that no response exceeds; a call with less is refused.
+pub const ROOM: usize = 4824;
+/// Bytes of the fresh strip.
+pub const STRIP: usize = 512;
+/// Bytes of the stored table.
+pub const TABLE: usize = 4624;
+/// Bytes of the longest request that is read.
+pub const REQUEST: usize = 4096;
+
+/// What a call gives: the length of the response at the front of the output, or why the request was turned away.
+/// A refused call leaves table and output byte for byte.
+pub type Served = Result<usize, Refusal>;
+
+/// An engine: request, table, fresh strip, clock (seconds, as a Date-Time), output.
+pub type Engine = fn(&[u8], &mut [u8], &[u8], i64, &mut [u8]) -> Served;
+
+/// Why a request was turned away. Where several apply the lowest number is given.
+#[derive(Clone, Copy, Debug, PartialEq, Eq, PartialOrd, Ord, Hash)]
+#[repr(u32)]
+pub enum Refusal {
+    /// Output room below [`ROOM`].
+    Room = 1,
+    /// Fresh strip not of [`STRIP`] bytes.
+    Strip = 2,
+    /// Table not of [`TABLE`] bytes, or unsound.
+    Table = 3,
+    /// Request empty or above [`REQUEST`] bytes.
+    Size = 4,
+    /// TTLV malformed.
+    Malformed = 5,
+    /// Message frame wrong.
+    Frame = 6,
+    /// Protocol version not 2.1.
+    Version = 7,
+    /// Batch Count not 1 to 16, or not the number of items.
+    Count = 8,
+    /// Batch Error Continuation Option neither 1 nor 2.
+    Continuation = 9,
+}
+
+impl Refusal {
+    /// All of them, in the order of their numbers.
+    pub const ALL: [Refusal; 9] = [
+        Refusal::Room,
+        Refusal::Strip,
+        Refusal::Table,
+        Refusal::Size,
+        Refusal::Malformed,
+        Refusal::Frame,
+        Refusal::Version,
+        Refusal::Count,
+        Refusal::Continuation,
+    ];
+
+    /// The number of this refusal, 1 to 9.
+    pub fn number(self) -> u32 {
+        self as u32
+    }
+
+    /// The refusal of this number.
+    pub fn from_number(number: u32) -> Option<Refusal> {
+        Refusal::ALL.into_iter().find(|refusal| refusal.number() == number)
+    }
+}
+
+impl fmt::Display for Refusal {
+    fn fmt(&self, f: &mut fmt::Formatter<'_>) -> fmt::Result {
+        write!(f, "refusal {}", self.number())
+    }
+}
+
+impl std::error::Error for Refusal {}
+
+/// A blank table: all zero but the place count.
+pub fn blank_table() -> [u8; TABLE] {
+    let mut table = [0; TABLE];
+    table[7] = 64;
+    table
+}

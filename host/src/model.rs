@@ -1,0 +1,65 @@
+//! The model: the rules of the box, written from the papers as plainly as possible, to be compared with.
+//! Shares with the engines nothing but the names of the refusals. It allocates freely and looks at everything.
+
+use crate::{Refusal, Served};
+
+pub mod frame;
+pub mod operations;
+pub mod payload;
+pub mod response;
+pub mod soundness;
+pub mod table;
+pub mod tags;
+pub mod ttlv;
+
+use frame::Request;
+use operations::{Answer, KeyBox};
+
+/// Serves one request, as the engine does.
+pub fn serve(request: &[u8], table: &mut [u8], fresh: &[u8], clock: i64, out: &mut [u8]) -> Served {
+    let accepted = accept(request, table, fresh, out.len())?;
+    let mut keys = KeyBox::open(table::Table::decode(table), fresh);
+    let answers = carry_out(&accepted, &mut keys);
+    let bytes = ttlv::write(&response::message(clock, &answers));
+    out[..bytes.len()].copy_from_slice(&bytes);
+    table.copy_from_slice(&keys.table.encode());
+    Ok(bytes.len())
+}
+
+/// The request as it is read, or the lowest refusal that applies.
+fn accept(request: &[u8], table: &[u8], fresh: &[u8], room: usize) -> Result<Request, Refusal> {
+    refuse_if(room < 4824, Refusal::Room)?;
+    refuse_if(fresh.len() != 512, Refusal::Strip)?;
+    refuse_if(!soundness::broken(table).is_empty(), Refusal::Table)?;
+    refuse_if(request.is_empty() || request.len() > 4096, Refusal::Size)?;
+    let message = ttlv::read(request).ok_or(Refusal::Malformed)?;
+    let request = frame::read(&message).ok_or(Refusal::Frame)?;
+    refuse_if(request.version != (2, 1), Refusal::Version)?;
+    refuse_if(!(1..=16).contains(&request.count), Refusal::Count)?;
+    refuse_if(request.count as usize != request.items.len(), Refusal::Count)?;
+    refuse_if(!matches!(request.option, None | Some(1 | 2)), Refusal::Continuation)?;
+    Ok(request)
+}
+
+fn refuse_if(applies: bool, refusal: Refusal) -> Result<(), Refusal> {
+    if applies {
+        Err(refusal)
+    } else {
+        Ok(())
+    }
+}
+
+/// The answers due: all of them under Continue (option 1), else those up to the first failure.
+fn carry_out(request: &Request, keys: &mut KeyBox) -> Vec<Answer> {
+    let stops = request.option != Some(1);
+    let mut answers = Vec::new();
+    for (index, item) in request.items.iter().enumerate() {
+        let result = keys.attempt(index, item);
+        let failed = result.is_err();
+        answers.push(Answer { operation: item.operation, id: item.id.clone(), result });
+        if failed && stops {
+            break;
+        }
+    }
+    answers
+}

@@ -1,0 +1,127 @@
+//! What a batch item asks for, read from its operation and payload.
+//! Looks at nothing but the item.
+
+use super::operations::Reason;
+use super::soundness::GREATEST_TOTAL;
+use super::tags::*;
+use super::ttlv::{Item, Value};
+
+/// What an item asks for.
+#[derive(Debug)]
+pub enum Order {
+    Create(Wanted),
+    Target(Target, Action),
+}
+
+/// The key to be created.
+#[derive(Debug)]
+pub struct Wanted {
+    pub length: u16,
+    pub mask: u32,
+    pub limit: Option<Limit>,
+}
+
+/// A usage limit.
+#[derive(Debug)]
+pub struct Limit {
+    pub total: u64,
+    pub unit: u8,
+}
+
+/// The record that an item is about.
+#[derive(Debug)]
+pub enum Target {
+    Placeholder,
+    Identifier(String),
+}
+
+/// What is to be done with it.
+#[derive(Debug)]
+pub enum Action {
+    Rekey,
+    GetUsageAllocation(u64),
+    Activate,
+    Revoke(u32),
+    Destroy,
+    GetAttributes,
+}
+
+/// The order, or the reason that is due whatever the table holds.
+pub fn read(operation: u32, payload: &[Item]) -> Result<Order, Reason> {
+    match operation {
+        CREATE => read_create(payload).map(Order::Create).ok_or(Reason::InvalidField),
+        REKEY | GET_ATTRIBUTES | GET_USAGE_ALLOCATION | ACTIVATE | REVOKE | DESTROY => {
+            let (target, rest) = read_target(payload).ok_or(Reason::InvalidField)?;
+            let action = read_action(operation, rest).ok_or(Reason::InvalidField)?;
+            Ok(Order::Target(target, action))
+        }
+        _ => Err(Reason::OperationNotSupported),
+    }
+}
+
+/// [Unique Identifier], and what follows it
+fn read_target(payload: &[Item]) -> Option<(Target, &[Item])> {
+    match payload {
+        [first, rest @ ..] if first.tag == UNIQUE_IDENTIFIER => match &first.value {
+            Value::Text(text) => Some((Target::Identifier(text.clone()), rest)),
+            _ => None,
+        },
+        _ => Some((Target::Placeholder, payload)),
+    }
+}
+
+fn read_action(operation: u32, rest: &[Item]) -> Option<Action> {
+    match (operation, rest) {
+        (REKEY, []) => Some(Action::Rekey),
+        (GET_ATTRIBUTES, []) => Some(Action::GetAttributes),
+        (ACTIVATE, []) => Some(Action::Activate),
+        (DESTROY, []) => Some(Action::Destroy),
+        (GET_USAGE_ALLOCATION, [count]) => {
+            let count = count.long_integer(USAGE_LIMITS_COUNT)?;
+            (count > 0).then_some(Action::GetUsageAllocation(count as u64))
+        }
+        (REVOKE, [reason]) => {
+            let [code] = reason.structure(REVOCATION_REASON)? else {
+                return None;
+            };
+            let code = code.enumeration(REVOCATION_REASON_CODE)?;
+            (1..=7).contains(&code).then_some(Action::Revoke(code))
+        }
+        _ => None,
+    }
+}
+
+/// Object Type = 2, Attributes
+fn read_create(payload: &[Item]) -> Option<Wanted> {
+    let [object_type, attributes] = payload else {
+        return None;
+    };
+    if object_type.enumeration(OBJECT_TYPE)? != 2 {
+        return None;
+    }
+    match attributes.structure(ATTRIBUTES)? {
+        [algorithm, length, mask] => read_wanted([algorithm, length, mask], None),
+        [algorithm, length, mask, limits] => read_wanted([algorithm, length, mask], Some(read_limits(limits)?)),
+        _ => None,
+    }
+}
+
+/// Cryptographic Algorithm = 3, Cryptographic Length, Cryptographic Usage Mask
+fn read_wanted([algorithm, length, mask]: [&Item; 3], limit: Option<Limit>) -> Option<Wanted> {
+    let algorithm = algorithm.enumeration(CRYPTOGRAPHIC_ALGORITHM)?;
+    let length = length.integer(CRYPTOGRAPHIC_LENGTH)?;
+    let mask = mask.integer(CRYPTOGRAPHIC_USAGE_MASK)?;
+    let allowed = algorithm == 3 && [128, 192, 256].contains(&length) && (0..=0x00FF_FFFF).contains(&mask);
+    allowed.then_some(Wanted { length: length as u16, mask: mask as u32, limit })
+}
+
+/// Usage Limits { Total, Unit }
+fn read_limits(limits: &Item) -> Option<Limit> {
+    let [total, unit] = limits.structure(USAGE_LIMITS)? else {
+        return None;
+    };
+    let total = total.long_integer(USAGE_LIMITS_TOTAL)?;
+    let unit = unit.enumeration(USAGE_LIMITS_UNIT)?;
+    let allowed = total >= 1 && total as u64 <= GREATEST_TOTAL && [1, 2].contains(&unit);
+    allowed.then_some(Limit { total: total as u64, unit: unit as u8 })
+}

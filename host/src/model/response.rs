@@ -1,0 +1,99 @@
+//! The response as a tree.
+//! Assumes nothing.
+
+use super::operations::{identifier, Answer, Success};
+use super::table::Record;
+use super::tags::*;
+use super::ttlv::{Item, Value};
+
+/// Response Message { Response Header, items }
+pub fn message(clock: i64, answers: &[Answer]) -> Item {
+    let mut fields = vec![header(clock, answers.len())];
+    fields.extend(answers.iter().map(batch_item));
+    structure(RESPONSE_MESSAGE, fields)
+}
+
+/// Response Header { Protocol Version 2.1, Time Stamp, Batch Count }
+fn header(clock: i64, answered: usize) -> Item {
+    let version = vec![integer(PROTOCOL_VERSION_MAJOR, 2), integer(PROTOCOL_VERSION_MINOR, 1)];
+    let fields = vec![
+        structure(PROTOCOL_VERSION, version),
+        Item { tag: TIME_STAMP, value: Value::DateTime(clock) },
+        integer(BATCH_COUNT, answered as i32),
+    ];
+    structure(RESPONSE_HEADER, fields)
+}
+
+/// Operation as given, the ID if given, Result Status, Result Reason on failure, Response Payload on success
+fn batch_item(answer: &Answer) -> Item {
+    let mut fields = vec![enumeration(OPERATION, answer.operation)];
+    if let Some(id) = &answer.id {
+        fields.push(Item { tag: UNIQUE_BATCH_ITEM_ID, value: Value::Bytes(id.clone()) });
+    }
+    match &answer.result {
+        Ok(success) => {
+            fields.push(enumeration(RESULT_STATUS, 0));
+            fields.push(structure(RESPONSE_PAYLOAD, payload(success)));
+        }
+        Err(reason) => {
+            fields.push(enumeration(RESULT_STATUS, 1));
+            fields.push(enumeration(RESULT_REASON, *reason as u32));
+        }
+    }
+    structure(BATCH_ITEM, fields)
+}
+
+fn payload(success: &Success) -> Vec<Item> {
+    match success {
+        Success::Created(serial) => vec![enumeration(OBJECT_TYPE, 2), text(UNIQUE_IDENTIFIER, *serial)],
+        Success::Rekeyed(serial) | Success::Done(serial) => vec![text(UNIQUE_IDENTIFIER, *serial)],
+        Success::Attributes(record) => {
+            vec![text(UNIQUE_IDENTIFIER, record.serial), structure(ATTRIBUTES, attributes(record))]
+        }
+    }
+}
+
+/// Algorithm, length, mask, State, Usage Limits if any, Links: replaced, then replacement
+fn attributes(record: &Record) -> Vec<Item> {
+    let mut fields = vec![
+        enumeration(CRYPTOGRAPHIC_ALGORITHM, 3),
+        integer(CRYPTOGRAPHIC_LENGTH, i32::from(record.length)),
+        integer(CRYPTOGRAPHIC_USAGE_MASK, record.mask as i32),
+        enumeration(STATE, u32::from(record.state)),
+    ];
+    if record.unit != 0 {
+        let limits = vec![
+            long_integer(USAGE_LIMITS_TOTAL, record.total as i64),
+            long_integer(USAGE_LIMITS_COUNT, record.count as i64),
+            enumeration(USAGE_LIMITS_UNIT, u32::from(record.unit)),
+        ];
+        fields.push(structure(USAGE_LIMITS, limits));
+    }
+    for (link_type, serial) in [(0x107, record.replaced), (0x106, record.replacement)] {
+        if serial != 0 {
+            let link = vec![enumeration(LINK_TYPE, link_type), text(LINKED_OBJECT_IDENTIFIER, serial)];
+            fields.push(structure(LINK, link));
+        }
+    }
+    fields
+}
+
+fn structure(tag: u32, items: Vec<Item>) -> Item {
+    Item { tag, value: Value::Structure(items) }
+}
+
+fn integer(tag: u32, number: i32) -> Item {
+    Item { tag, value: Value::Integer(number) }
+}
+
+fn long_integer(tag: u32, number: i64) -> Item {
+    Item { tag, value: Value::LongInteger(number) }
+}
+
+fn enumeration(tag: u32, number: u32) -> Item {
+    Item { tag, value: Value::Enumeration(number) }
+}
+
+fn text(tag: u32, serial: u32) -> Item {
+    Item { tag, value: Value::Text(identifier(serial)) }
+}

@@ -1,0 +1,111 @@
+//! Soundness of a stored table, as a list of named rules.
+//! A table is sound if none of them is broken.
+
+use super::table::{Record, Table, SIZE};
+
+/// The greatest total of a usage limit.
+pub const GREATEST_TOTAL: u64 = 1_000_000_000_000;
+
+/// A rule that a table of the right size keeps or breaks.
+pub struct Rule {
+    pub name: &'static str,
+    pub kept: fn(&Table) -> bool,
+}
+
+/// The name of the one rule that is about the size alone.
+pub const SIZE_RULE: &str = "size";
+
+/// All other rules.
+pub const RULES: [Rule; 20] = [
+    Rule { name: "place count", kept: |table| table.place_count == 64 },
+    Rule { name: "lead zeros", kept: |table| table.lead_zeros == 0 },
+    Rule { name: "free line", kept: |table| table.places.iter().all(|record| !record.is_free() || line_zero(record)) },
+    Rule { name: "free body", kept: |table| table.places.iter().all(|record| !record.is_free() || body_zero(record)) },
+    Rule { name: "body zeros", kept: |table| table.standing().all(|record| record.zeros == 0) },
+    Rule { name: "serials distinct", kept: serials_distinct },
+    Rule { name: "serial issued", kept: |table| table.standing().all(|record| record.serial <= table.last) },
+    Rule { name: "state", kept: |table| table.standing().all(|record| (1..=6).contains(&record.state)) },
+    Rule { name: "length", kept: |table| table.standing().all(|record| [128, 192, 256].contains(&record.length)) },
+    Rule { name: "mask", kept: |table| table.standing().all(|record| record.mask <= 0x00FF_FFFF) },
+    Rule { name: "unit", kept: |table| table.standing().all(|record| record.unit <= 2) },
+    Rule { name: "no limit", kept: |table| table.standing().all(no_limit_is_zero) },
+    Rule { name: "total", kept: |table| table.standing().all(total_in_range) },
+    Rule { name: "count", kept: |table| table.standing().all(count_within_total) },
+    Rule { name: "material past length", kept: |table| table.standing().all(material_within_length) },
+    Rule { name: "material destroyed", kept: |table| table.standing().all(destroyed_is_empty) },
+    Rule { name: "replaced", kept: |table| table.standing().all(replaced_is_below) },
+    Rule { name: "replacement", kept: |table| table.standing().all(|record| replacement_is_above(record, table.last)) },
+    Rule { name: "replaced names back", kept: replaced_names_back },
+    Rule { name: "replacement names back", kept: replacement_names_back },
+];
+
+/// The names of all rules, in the order in which they are looked at.
+pub fn names() -> Vec<&'static str> {
+    std::iter::once(SIZE_RULE).chain(RULES.iter().map(|rule| rule.name)).collect()
+}
+
+/// The names of the rules that this table breaks: of the size alone if that is wrong.
+pub fn broken(bytes: &[u8]) -> Vec<&'static str> {
+    if bytes.len() != SIZE {
+        return vec![SIZE_RULE];
+    }
+    let table = Table::decode(bytes);
+    RULES.iter().filter(|rule| !(rule.kept)(&table)).map(|rule| rule.name).collect()
+}
+
+fn line_zero(record: &Record) -> bool {
+    let numbers = [u32::from(record.state), u32::from(record.unit), u32::from(record.length)];
+    numbers == [0; 3] && record.serial == 0 && record.replaced == 0 && record.replacement == 0
+}
+
+fn body_zero(record: &Record) -> bool {
+    record.total == 0 && record.count == 0 && record.mask == 0 && record.zeros == 0 && record.material == [0; 32]
+}
+
+fn serials_distinct(table: &Table) -> bool {
+    table.standing().all(|record| table.standing().filter(|other| other.serial == record.serial).count() == 1)
+}
+
+fn no_limit_is_zero(record: &Record) -> bool {
+    record.unit != 0 || (record.total == 0 && record.count == 0)
+}
+
+fn total_in_range(record: &Record) -> bool {
+    record.unit == 0 || (1..=GREATEST_TOTAL).contains(&record.total)
+}
+
+fn count_within_total(record: &Record) -> bool {
+    record.unit == 0 || record.count <= record.total
+}
+
+fn material_within_length(record: &Record) -> bool {
+    record.material.iter().skip(usize::from(record.length / 8)).all(|&byte| byte == 0)
+}
+
+fn destroyed_is_empty(record: &Record) -> bool {
+    ![5, 6].contains(&record.state) || record.material == [0; 32]
+}
+
+fn replaced_is_below(record: &Record) -> bool {
+    record.replaced == 0 || record.replaced < record.serial
+}
+
+fn replacement_is_above(record: &Record, last: u32) -> bool {
+    record.replacement == 0 || (record.replacement > record.serial && record.replacement <= last)
+}
+
+/// Whoever is named as replaced, and stands, names the one who says so as its replacement.
+fn replaced_names_back(table: &Table) -> bool {
+    table.standing().all(|record| {
+        let named = table.standing().filter(|other| other.serial == record.replaced);
+        named.into_iter().all(|other| other.replacement == record.serial)
+    })
+}
+
+/// Whoever is named as replacement, and stands, names the one who says so as replaced.
+fn replacement_names_back(table: &Table) -> bool {
+    table.standing().all(|record| {
+        let named = table.standing().filter(|other| other.serial == record.replacement);
+        named.into_iter().all(|other| other.replaced == record.serial)
+    })
+}

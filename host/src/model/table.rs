@@ -1,0 +1,117 @@
+//! The stored table as records, and back to bytes.
+//! Every byte of a table of the right size is kept by some field, so that decoding and encoding lose nothing.
+
+/// Places in a table.
+pub const PLACES: usize = 64;
+/// Bytes of a table.
+pub const SIZE: usize = 16 + PLACES * 16 + PLACES * 56;
+
+/// Lead, and the record of each place.
+#[derive(Clone, Debug, PartialEq)]
+pub struct Table {
+    pub last: u32,
+    pub place_count: u32,
+    pub lead_zeros: u64,
+    pub places: Vec<Record>,
+}
+
+/// Line and body of one place; serial 0 means free.
+#[derive(Clone, Debug, Default, PartialEq)]
+pub struct Record {
+    pub serial: u32,
+    pub state: u8,
+    pub unit: u8,
+    pub length: u16,
+    pub replaced: u32,
+    pub replacement: u32,
+    pub total: u64,
+    pub count: u64,
+    pub mask: u32,
+    pub zeros: u32,
+    pub material: [u8; 32],
+}
+
+impl Record {
+    pub fn is_free(&self) -> bool {
+        self.serial == 0
+    }
+}
+
+impl Table {
+    /// A table with nothing issued.
+    pub fn blank() -> Table {
+        Table { last: 0, place_count: 64, lead_zeros: 0, places: vec![Record::default(); PLACES] }
+    }
+
+    /// The records that stand: those of the places that are not free.
+    pub fn standing(&self) -> impl Iterator<Item = &Record> {
+        self.places.iter().filter(|record| !record.is_free())
+    }
+
+    /// The record with this serial.
+    pub fn find(&self, serial: u32) -> Option<&Record> {
+        self.standing().find(|record| record.serial == serial)
+    }
+
+    /// The records of a table of the right size.
+    pub fn decode(bytes: &[u8]) -> Table {
+        assert_eq!(bytes.len(), SIZE);
+        let (lead, rest) = bytes.split_at(16);
+        let (lines, bodies) = rest.split_at(PLACES * 16);
+        Table {
+            last: number(lead, 0, 4) as u32,
+            place_count: number(lead, 4, 4) as u32,
+            lead_zeros: number(lead, 8, 8),
+            places: lines.chunks(16).zip(bodies.chunks(56)).map(|(line, body)| decode_record(line, body)).collect(),
+        }
+    }
+
+    /// The bytes: lead, contents, bodies.
+    pub fn encode(&self) -> Vec<u8> {
+        let mut bytes = Vec::new();
+        bytes.extend(self.last.to_be_bytes());
+        bytes.extend(self.place_count.to_be_bytes());
+        bytes.extend(self.lead_zeros.to_be_bytes());
+        self.places.iter().for_each(|record| encode_line(record, &mut bytes));
+        self.places.iter().for_each(|record| encode_body(record, &mut bytes));
+        bytes
+    }
+}
+
+/// The big-endian number in `width` bytes from `at`.
+fn number(bytes: &[u8], at: usize, width: usize) -> u64 {
+    bytes[at..at + width].iter().fold(0, |sum, &byte| sum * 256 + u64::from(byte))
+}
+
+fn decode_record(line: &[u8], body: &[u8]) -> Record {
+    Record {
+        serial: number(line, 0, 4) as u32,
+        state: line[4],
+        unit: line[5],
+        length: number(line, 6, 2) as u16,
+        replaced: number(line, 8, 4) as u32,
+        replacement: number(line, 12, 4) as u32,
+        total: number(body, 0, 8),
+        count: number(body, 8, 8),
+        mask: number(body, 16, 4) as u32,
+        zeros: number(body, 20, 4) as u32,
+        material: body[24..56].try_into().expect("a body has 56 bytes"),
+    }
+}
+
+fn encode_line(record: &Record, bytes: &mut Vec<u8>) {
+    bytes.extend(record.serial.to_be_bytes());
+    bytes.push(record.state);
+    bytes.push(record.unit);
+    bytes.extend(record.length.to_be_bytes());
+    bytes.extend(record.replaced.to_be_bytes());
+    bytes.extend(record.replacement.to_be_bytes());
+}
+
+fn encode_body(record: &Record, bytes: &mut Vec<u8>) {
+    bytes.extend(record.total.to_be_bytes());
+    bytes.extend(record.count.to_be_bytes());
+    bytes.extend(record.mask.to_be_bytes());
+    bytes.extend(record.zeros.to_be_bytes());
+    bytes.extend(record.material);
+}

@@ -1,0 +1,165 @@
+//! The frame of a request and the payloads of its items, read in place.
+//! Starts from well-formed TTLV.
+
+use super::items::Fields;
+
+/// A request whose frame is right.
+pub struct Frame<'a> {
+    pub version: (u32, u32),
+    pub option: Option<u32>,
+    pub count: usize,
+    pub number_of_items: usize,
+    items: Fields<'a>,
+}
+
+/// A batch item.
+pub struct BatchItem<'a> {
+    pub operation: u32,
+    pub id: Option<&'a [u8]>,
+    pub payload: Fields<'a>,
+}
+
+/// What an item asks for.
+pub enum Order<'a> {
+    Create(Wanted),
+    Rekey(Target<'a>),
+    Allocate(Target<'a>, u64),
+    Activate(Target<'a>),
+    Revoke(Target<'a>, u32),
+    Destroy(Target<'a>),
+    Attributes(Target<'a>),
+}
+
+/// The text of the identifier, if one is given.
+pub type Target<'a> = Option<&'a [u8]>;
+
+/// The attributes of a key to be created; unit 0 with total 0 for no limit.
+pub struct Wanted {
+    pub length: u16,
+    pub mask: u32,
+    pub unit: u8,
+    pub total: u64,
+}
+
+/// Why an item's payload does not give an order.
+pub enum Unusable {
+    Operation,
+    Payload,
+}
+
+impl<'a> Frame<'a> {
+    pub fn read(mut request: Fields<'a>) -> Option<Self> {
+        let mut message = request.structure(0x42007801)?;
+        let mut header = message.structure(0x42007701)?;
+        let mut version = header.structure(0x42006901)?;
+        let version_numbers = (version.word(0x42006A02)?, version.word(0x42006B02)?);
+        let option = header.word(0x42000E05);
+        let count = header.word(0x42000D02)? as usize;
+        if !version.is_empty() || !header.is_empty() {
+            return None;
+        }
+        let number_of_items = count_items(message)?;
+        Some(Frame { version: version_numbers, option, count, number_of_items, items: message })
+    }
+
+    /// The batch items, one after the other.
+    pub fn items(&self) -> impl Iterator<Item = BatchItem<'a>> {
+        let mut items = self.items;
+        std::iter::from_fn(move || BatchItem::read(&mut items))
+    }
+}
+
+/// How many batch items stand here; none if there is no item or something else.
+fn count_items(mut items: Fields) -> Option<usize> {
+    let mut number = 0;
+    while !items.is_empty() {
+        BatchItem::read(&mut items)?;
+        number += 1;
+    }
+    (number > 0).then_some(number)
+}
+
+impl<'a> BatchItem<'a> {
+    fn read(items: &mut Fields<'a>) -> Option<Self> {
+        let mut item = items.structure(0x42000F01)?;
+        let operation = item.word(0x42005C05)?;
+        let id = item.take(0x42009308);
+        let payload = item.structure(0x42007901)?;
+        let id_allowed = id.is_none_or(|id| (1..=16).contains(&id.len()));
+        (item.is_empty() && id_allowed).then_some(BatchItem { operation, id, payload })
+    }
+
+    /// What the item asks for.
+    pub fn order(&self) -> Result<Order<'a>, Unusable> {
+        if !matches!(self.operation, 0x01 | 0x04 | 0x0B | 0x11..=0x14) {
+            return Err(Unusable::Operation);
+        }
+        let mut payload = self.payload;
+        let order = read_order(self.operation, &mut payload).ok_or(Unusable::Payload)?;
+        if payload.is_empty() {
+            Ok(order)
+        } else {
+            Err(Unusable::Payload)
+        }
+    }
+}
+
+fn read_order<'a>(operation: u32, payload: &mut Fields<'a>) -> Option<Order<'a>> {
+    if operation == 0x01 {
+        return Wanted::read(payload).map(Order::Create);
+    }
+    let target = read_target(payload)?;
+    match operation {
+        0x04 => Some(Order::Rekey(target)),
+        0x0B => Some(Order::Attributes(target)),
+        0x11 => read_amount(payload).map(|amount| Order::Allocate(target, amount)),
+        0x12 => Some(Order::Activate(target)),
+        0x13 => read_code(payload).map(|code| Order::Revoke(target, code)),
+        _ => Some(Order::Destroy(target)),
+    }
+}
+
+/// The identifier if one is given; nothing if it is no text.
+fn read_target<'a>(payload: &mut Fields<'a>) -> Option<Target<'a>> {
+    if payload.next_has_tag(0x420094) {
+        payload.take(0x42009407).map(Some)
+    } else {
+        Some(None)
+    }
+}
+
+fn read_amount(payload: &mut Fields) -> Option<u64> {
+    let amount = u64::try_from(payload.long(0x42009603)?).ok()?;
+    (amount > 0).then_some(amount)
+}
+
+fn read_code(payload: &mut Fields) -> Option<u32> {
+    let mut reason = payload.structure(0x42008101)?;
+    let code = reason.word(0x42008205)?;
+    (reason.is_empty() && (1..=7).contains(&code)).then_some(code)
+}
+
+impl Wanted {
+    fn read(payload: &mut Fields) -> Option<Self> {
+        let object_type = payload.word(0x42005705)?;
+        let mut attributes = payload.structure(0x42012501)?;
+        let algorithm = attributes.word(0x42002805)?;
+        let length = attributes.word(0x42002A02)?;
+        let mask = attributes.word(0x42002C02)?;
+        let (total, unit) = if attributes.is_empty() { (0, 0) } else { read_limits(&mut attributes)? };
+        let allowed = object_type == 2
+            && algorithm == 3
+            && matches!(length, 128 | 192 | 256)
+            && mask <= 0x00FF_FFFF
+            && attributes.is_empty();
+        allowed.then_some(Wanted { length: length as u16, mask, unit, total })
+    }
+}
+
+fn read_limits(attributes: &mut Fields) -> Option<(u64, u8)> {
+    let mut limits = attributes.structure(0x42009501)?;
+    let total = u64::try_from(limits.long(0x42009703)?).ok()?;
+    let unit = limits.word(0x42009805)?;
+    let allowed = limits.is_empty() && (1..=super::stored::GREATEST_TOTAL).contains(&total) && matches!(unit, 1 | 2);
+    allowed.then_some((total, unit as u8))
+}

@@ -1,0 +1,219 @@
+//! The stored table, read and written in place, and its soundness.
+//! Assumes nothing.
+
+pub const PLACES: usize = 64;
+pub const GREATEST_TOTAL: u64 = 1_000_000_000_000;
+
+const LEAD: usize = 16;
+const LINE: usize = 16;
+const BODY: usize = 56;
+
+/// The parts of a table, lent for writing.
+pub struct Table<'a> {
+    lead: &'a mut [u8; LEAD],
+    lines: &'a mut [[u8; LINE]; PLACES],
+    bodies: &'a mut [[u8; BODY]; PLACES],
+}
+
+/// A line of the contents.
+#[derive(Clone, Copy, Default)]
+pub struct Line {
+    pub serial: u32,
+    pub state: u8,
+    pub unit: u8,
+    pub length: u16,
+    pub replaced: u32,
+    pub replacement: u32,
+}
+
+/// A body without its material.
+#[derive(Clone, Copy)]
+pub struct Usage {
+    pub total: u64,
+    pub count: u64,
+    pub mask: u32,
+}
+
+impl Line {
+    fn read(bytes: &[u8; LINE]) -> Self {
+        let bits = u128::from_be_bytes(*bytes);
+        Line {
+            serial: (bits >> 96) as u32,
+            state: (bits >> 88) as u8,
+            unit: (bits >> 80) as u8,
+            length: (bits >> 64) as u16,
+            replaced: (bits >> 32) as u32,
+            replacement: bits as u32,
+        }
+    }
+
+    fn bytes(self) -> [u8; LINE] {
+        let high = u64::from(self.serial) << 32
+            | u64::from(self.state) << 24
+            | u64::from(self.unit) << 16
+            | u64::from(self.length);
+        let low = u64::from(self.replaced) << 32 | u64::from(self.replacement);
+        (u128::from(high) << 64 | u128::from(low)).to_be_bytes()
+    }
+}
+
+/// The eight-byte words of a body: total, count, mask with the zeros, and four of material.
+fn words(body: &[u8; BODY]) -> [u64; BODY / 8] {
+    let mut words = [0; BODY / 8];
+    for (word, bytes) in words.iter_mut().zip(body.as_chunks::<8>().0) {
+        *word = u64::from_be_bytes(*bytes);
+    }
+    words
+}
+
+impl<'a> Table<'a> {
+    /// The parts of a table of the right size.
+    pub fn new(bytes: &'a mut [u8]) -> Option<Self> {
+        let (lead, rest) = bytes.split_first_chunk_mut()?;
+        let (lines, bodies) = rest.split_at_mut_checked(PLACES * LINE)?;
+        match (lines.as_chunks_mut(), bodies.as_chunks_mut()) {
+            ((lines, []), (bodies, [])) => {
+                Some(Table { lead, lines: lines.try_into().ok()?, bodies: bodies.try_into().ok()? })
+            }
+            _ => None,
+        }
+    }
+
+    pub fn last(&self) -> u32 {
+        (u128::from_be_bytes(*self.lead) >> 96) as u32
+    }
+
+    pub fn line(&self, place: usize) -> Line {
+        Line::read(&self.lines[place % PLACES])
+    }
+
+    pub fn usage(&self, place: usize) -> Usage {
+        let [total, count, mask, ..] = words(&self.bodies[place % PLACES]);
+        Usage { total, count, mask: (mask >> 32) as u32 }
+    }
+
+    pub fn set_line(&mut self, place: usize, line: Line) {
+        self.lines[place % PLACES] = line.bytes();
+    }
+
+    pub fn set_count(&mut self, place: usize, count: u64) {
+        self.bodies[place % PLACES][8..16].copy_from_slice(&count.to_be_bytes());
+    }
+
+    pub fn clear_material(&mut self, place: usize) {
+        self.bodies[place % PLACES][24..].fill(0);
+    }
+
+    /// Writes a whole new record, which becomes the last issued. Of `fresh` the first `length / 8` bytes are taken.
+    pub fn put(&mut self, place: usize, line: Line, usage: Usage, fresh: &[u8; 32]) {
+        self.lead[..4].copy_from_slice(&line.serial.to_be_bytes());
+        self.set_line(place, line);
+        let body = &mut self.bodies[place % PLACES];
+        body[..8].copy_from_slice(&usage.total.to_be_bytes());
+        body[8..16].copy_from_slice(&usage.count.to_be_bytes());
+        body[16..24].copy_from_slice(&(u64::from(usage.mask) << 32).to_be_bytes());
+        let bytes = usize::from(line.length / 8);
+        for (index, (byte, fresh)) in body[24..].iter_mut().zip(fresh).enumerate() {
+            *byte = if index < bytes { *fresh } else { 0 };
+        }
+    }
+
+    /// The place of the record with this serial, which is not 0.
+    pub fn find(&self, serial: u32) -> Option<usize> {
+        let serial = serial.to_be_bytes();
+        self.lines.iter().position(|line| line.starts_with(&serial))
+    }
+
+    /// The lowest free place, or if none is free the lowest that is destroyed.
+    pub fn place_for_new(&self) -> Option<usize> {
+        let free = self.lines.iter().position(|line| line.starts_with(&[0; 4]));
+        free.or_else(|| self.lines.iter().position(|line| matches!(line[4], 5 | 6)))
+    }
+}
+
+/// Whether a stored table is sound: size and lead, every place by itself, then serials and links.
+pub fn sound(table: &[u8]) -> bool {
+    let Some((lead, lines, bodies)) = parts(table) else {
+        return false;
+    };
+    let lead = u128::from_be_bytes(*lead);
+    let last = (lead >> 96) as u32;
+    lead << 32 == (PLACES as u128) << 96
+        && lines.iter().zip(bodies).all(|(line, body)| sound_place(line, body, last))
+        && sound_links(lines)
+}
+
+type Parts<'a> = (&'a [u8; LEAD], &'a [[u8; LINE]; PLACES], &'a [[u8; BODY]; PLACES]);
+
+/// The parts of a table of the right size.
+fn parts(table: &[u8]) -> Option<Parts<'_>> {
+    let (lead, rest) = table.split_first_chunk()?;
+    let (lines, bodies) = rest.split_at_checked(PLACES * LINE)?;
+    match (lines.as_chunks(), bodies.as_chunks()) {
+        ((lines, []), (bodies, [])) => Some((lead, lines.try_into().ok()?, bodies.try_into().ok()?)),
+        _ => None,
+    }
+}
+
+fn sound_place(line: &[u8; LINE], body: &[u8; BODY], last: u32) -> bool {
+    let line_bytes = line;
+    let line = Line::read(line);
+    let [total, count, mask, material @ ..] = words(body);
+    if line.serial == 0 {
+        return u128::from_be_bytes(*line_bytes) == 0 && total | count | mask | any_bit(&material) == 0;
+    }
+    line.serial <= last
+        && matches!(line.state, 1..=6)
+        && mask & 0xFF00_0000_FFFF_FFFF == 0
+        && sound_limit(line.unit, total, count)
+        && sound_material(line.state, line.length, &material)
+        && line.replaced < line.serial
+        && (line.replacement == 0 || (line.serial < line.replacement && line.replacement <= last))
+}
+
+fn sound_limit(unit: u8, total: u64, count: u64) -> bool {
+    match unit {
+        0 => total | count == 0,
+        1 | 2 => (1..=GREATEST_TOTAL).contains(&total) && count <= total,
+        _ => false,
+    }
+}
+
+fn sound_material(state: u8, length: u16, material: &[u64; 4]) -> bool {
+    let used = match length {
+        128 => 2,
+        192 => 3,
+        256 => 4,
+        _ => return false,
+    };
+    let kept = if state < 5 { used } else { 0 };
+    any_bit(&material[kept..]) == 0
+}
+
+fn any_bit(words: &[u64]) -> u64 {
+    words.iter().fold(0, |bits, word| bits | word)
+}
+
+/// Serials distinct, and each link whose ends both stand named by both.
+fn sound_links(lines: &[[u8; LINE]; PLACES]) -> bool {
+    let mut room = [Line::default(); PLACES];
+    let mut number = 0;
+    for (slot, line) in room.iter_mut().zip(lines.iter().map(Line::read).filter(|line| line.serial != 0)) {
+        *slot = line;
+        number += 1;
+    }
+    let (standing, _) = room.split_at_mut(number);
+    standing.sort_unstable_by_key(|line| line.serial);
+    standing.windows(2).all(|pair| pair[0].serial != pair[1].serial)
+        && standing.iter().all(|line| links_mutual(line, standing))
+}
+
+/// Whether the records that a line names name it back, as far as they stand. The lines are in the order of serials.
+fn links_mutual(line: &Line, standing: &[Line]) -> bool {
+    let named = |serial: u32| {
+        let at = standing.binary_search_by_key(&serial, |line| line.serial).ok()?;
+        standing.get(at)
+    };
+    (line.replaced == 0 || named(line.replaced).is_none_or(|other| other.replacement == line.serial))
+        && (line.replacement == 0 || named(line.replacement).is_none_or(|other| other.replaced == line.serial))
+}

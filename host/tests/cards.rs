@@ -1,0 +1,337 @@
+//! The bench cards of the plan, and the encodings printed for it, on every engine that is there.
+//! Bytes stand as they are printed; they were not made by any of the engines.
+
+mod support;
+
+use junctionmoth::message::*;
+use junctionmoth::model::table::{Record, Table};
+use junctionmoth::model::ttlv::{self, Item, Value};
+use junctionmoth::{blank_table, Refusal, Served};
+use support::coverage::results;
+use support::{engines, unhex, Case, Effect};
+
+const CREATE: u32 = 0x01;
+const REKEY: u32 = 0x04;
+const ALLOCATE: u32 = 0x11;
+const ACTIVATE: u32 = 0x12;
+const REVOKE: u32 = 0x13;
+const DESTROY: u32 = 0x14;
+const ATTRIBUTES: u32 = 0x0B;
+
+const INVALID_FIELD: Option<u32> = Some(0x07);
+const PERMISSION_DENIED: Option<u32> = Some(0x0C);
+const USAGE_LIMIT_EXCEEDED: Option<u32> = Some(0x1A);
+const OBJECT_DESTROYED: Option<u32> = Some(0x36);
+const OBJECT_NOT_FOUND: Option<u32> = Some(0x37);
+const SERVER_LIMIT_EXCEEDED: Option<u32> = Some(0x3A);
+const WRONG_STATE: Option<u32> = Some(0x43);
+
+/// A call on every engine.
+fn call(request: Vec<u8>, table: &[u8]) -> Effect {
+    Case::new(request, table.to_vec()).run_all(&engines(), "card")
+}
+
+/// The reasons of the answers, in order; none for success.
+fn reasons(effect: &Effect) -> Vec<Option<u32>> {
+    let length = effect.served.expect("answered");
+    results(&effect.out[..length]).into_iter().map(|(_, reason)| reason).collect()
+}
+
+fn response(effect: &Effect) -> &[u8] {
+    &effect.out[..effect.served.expect("answered")]
+}
+
+fn refusal(bytes: &str) -> Served {
+    call(unhex(bytes), &blank_table()).served
+}
+
+fn new_key(limit: Option<(i64, u32)>) -> Node {
+    item(CREATE, None, create(128, 4, limit))
+}
+
+fn on(operation: u32, name: Option<&str>) -> Node {
+    item(operation, None, target(name))
+}
+
+fn take(name: Option<&str>, count: i64) -> Node {
+    item(ALLOCATE, None, allocation(name, count))
+}
+
+fn revoke(name: Option<&str>, code: u32) -> Node {
+    item(REVOKE, None, revocation(name, code))
+}
+
+fn batch(option: Option<u32>, items: Vec<Node>) -> Vec<u8> {
+    request(option, items).encode()
+}
+
+/// The record in a place after a call.
+fn record(effect: &Effect, place: usize) -> Record {
+    Table::decode(&effect.table).places[place].clone()
+}
+
+#[test]
+fn integer_8_is_read_and_its_padding_must_be_zero() {
+    let integer = Item { tag: 0x420020, value: Value::Integer(8) };
+    assert_eq!(ttlv::read(&unhex("42002002 00000004 00000008 00000000")), Some(integer));
+    assert_eq!(ttlv::read(&unhex("42002002 00000004 00000008 00000001")), None);
+    assert_eq!(refusal("42002002 00000004 00000008 00000000"), Err(Refusal::Frame));
+    assert_eq!(refusal("42002002 00000004 00000008 00000001"), Err(Refusal::Malformed));
+}
+
+#[test]
+fn boolean_2_is_malformed() {
+    assert_eq!(refusal("42002006 00000008 00000000 00000001"), Err(Refusal::Frame));
+    assert_eq!(refusal("42002006 00000008 00000000 00000000"), Err(Refusal::Frame));
+    assert_eq!(refusal("42002006 00000008 00000000 00000002"), Err(Refusal::Malformed));
+    assert_eq!(refusal("42002006 00000008 01000000 00000001"), Err(Refusal::Malformed));
+}
+
+#[test]
+fn text_of_8_takes_16_and_of_9_takes_24() {
+    let text = |text: &str| Item { tag: 0x420020, value: Value::Text(text.into()) };
+    assert_eq!(ttlv::write(&text("ABCDEFGH")), unhex("42002007 00000008 41424344 45464748"));
+    assert_eq!(ttlv::write(&text("ABCDEFGHI")), unhex("42002007 00000009 41424344 45464748 49000000 00000000"));
+    assert_eq!(refusal("42002007 00000008 41424344 45464748"), Err(Refusal::Frame));
+    assert_eq!(refusal("42002007 00000009 41424344 45464748 49000000 00000000"), Err(Refusal::Frame));
+    assert_eq!(refusal("42002007 00000009 41424344 45464748"), Err(Refusal::Malformed));
+}
+
+#[test]
+fn depth_8_is_read_and_depth_9_refused() {
+    let nested =
+        |depth: usize| (1..depth).fold(structure(0x420001, vec![]), |inner, _| structure(0x420001, vec![inner]));
+    assert_eq!(call(nested(8).encode(), &blank_table()).served, Err(Refusal::Frame));
+    assert_eq!(call(nested(9).encode(), &blank_table()).served, Err(Refusal::Malformed));
+}
+
+/// The examples of KMIP 1.x, section 9.1.2, and one of a Date-Time Extended: meaning and bytes.
+fn examples() -> Vec<(Value, &'static str)> {
+    let inner = vec![
+        Item { tag: 0x420004, value: Value::Enumeration(254) },
+        Item { tag: 0x420005, value: Value::Integer(255) },
+    ];
+    let big = 1_234_567_890_000_000_000_000_000_000_i128;
+    vec![
+        (Value::Integer(8), "42002002 00000004 00000008 00000000"),
+        (Value::LongInteger(123_456_789_000_000_000), "42002003 00000008 01B69B4B A5749200"),
+        (Value::BigInteger(big.to_be_bytes().to_vec()), "42002004 00000010 00000000 03FD35EB 6BC2DF46 18080000"),
+        (Value::Enumeration(255), "42002005 00000004 000000FF 00000000"),
+        (Value::Boolean(true), "42002006 00000008 00000000 00000001"),
+        (Value::Text("Hello World".into()), "42002007 0000000B 48656C6C 6F20576F 726C6400 00000000"),
+        (Value::Bytes(vec![1, 2, 3]), "42002008 00000003 01020300 00000000"),
+        (Value::DateTime(1_205_495_800), "42002009 00000008 00000000 47DA67F8"),
+        (Value::Interval(864_000), "4200200A 00000004 000D2F00 00000000"),
+        (Value::DateTimeExtended(1_205_495_800_000_000), "4200200B 00000008 00044864 5CEFEE00"),
+        (
+            Value::Structure(inner),
+            "42002001 00000020 42000405 00000004 000000FE 00000000 42000502 00000004 000000FF 00000000",
+        ),
+    ]
+}
+
+#[test]
+fn examples_are_read_and_written_and_are_no_requests() {
+    for (value, bytes) in examples() {
+        let item = Item { tag: 0x420020, value };
+        assert_eq!(ttlv::read(&unhex(bytes)), Some(item.clone()));
+        assert_eq!(ttlv::write(&item), unhex(bytes));
+        assert_eq!(refusal(bytes), Err(Refusal::Frame));
+    }
+}
+
+#[test]
+fn malformed_variants_are_refused() {
+    for bytes in [
+        "42002000 00000004 00000008 00000000",
+        "4200200C 00000004 00000008 00000000",
+        "42002081 00000004 00000008 00000000",
+        "54002002 00000004 00000008 00000000",
+        "00002002 00000004 00000008 00000000",
+        "42002002 00000008 00000008 00000000",
+        "42002004 00000000",
+        "42002004 00000004 00000000 00000000",
+        "42002004 0000000C 00000000 00000000 00000000 00000000",
+        "42002007 00000001 1F000000 00000000",
+        "42002007 00000001 7F000000 00000000",
+        "42002007 00000001 80000000 00000000",
+        "42002008 00000003 01020301 00000000",
+        "42002001 00000021 42000405 00000004 000000FE 00000000 42000502 00000004 000000FF 00000000",
+        "42002001 00000018 42000405 00000004 000000FE 00000000 42000502 00000004 000000FF 00000000",
+        "42002001 00000028 42000405 00000004 000000FE 00000000 42000502 00000004 000000FF 00000000",
+        "42002002 00000004 00000008 00000000 00000000 00000000",
+        "42002008 FFFFFFFF 00000000 00000000",
+        "42002008 FFFFFFF9 00000000 00000000",
+        "42",
+        "42002002 000000",
+    ] {
+        assert_eq!(refusal(bytes), Err(Refusal::Malformed), "{bytes}");
+    }
+}
+
+#[test]
+fn empty_strings_and_structures_are_well_formed() {
+    for bytes in ["42002001 00000000", "42002007 00000000", "42002008 00000000"] {
+        assert_eq!(refusal(bytes), Err(Refusal::Frame), "{bytes}");
+    }
+}
+
+#[test]
+fn grants_of_60_and_40_use_up_100() {
+    let items = vec![new_key(Some((100, 2))), on(ACTIVATE, None), take(None, 60), take(None, 40), take(None, 1)];
+    let effect = call(batch(None, items), &blank_table());
+    assert_eq!(reasons(&effect), [None, None, None, None, USAGE_LIMIT_EXCEEDED]);
+    assert_eq!(record(&effect, 0).count, 0);
+}
+
+#[test]
+fn a_grant_of_101_on_100_changes_nothing() {
+    let effect = call(batch(None, vec![new_key(Some((100, 2))), on(ACTIVATE, None), take(None, 101)]), &blank_table());
+    assert_eq!(reasons(&effect), [None, None, USAGE_LIMIT_EXCEEDED]);
+    assert_eq!(record(&effect, 0).count, 100);
+}
+
+#[test]
+fn an_active_key_is_revoked_before_it_is_destroyed() {
+    let one = Some("00000001");
+    let items = vec![new_key(None), on(ACTIVATE, None), on(DESTROY, None), revoke(one, 5), on(DESTROY, one)];
+    let effect = call(batch(Some(1), items), &blank_table());
+    assert_eq!(reasons(&effect), [None, None, WRONG_STATE, None, None]);
+    assert_eq!((record(&effect, 0).state, record(&effect, 0).material), (5, [0; 32]));
+    let later = call(batch(None, vec![revoke(one, 2)]), &effect.table);
+    assert_eq!((reasons(&later), record(&later, 0).state), (vec![None], 6));
+    let again = call(batch(Some(1), vec![on(DESTROY, one), on(REKEY, one), revoke(one, 2)]), &later.table);
+    assert_eq!(reasons(&again), [OBJECT_DESTROYED, OBJECT_DESTROYED, WRONG_STATE]);
+}
+
+#[test]
+fn a_key_is_rekeyed_once() {
+    let items = vec![new_key(Some((9, 1))), on(REKEY, None), on(REKEY, Some("00000001"))];
+    let effect = call(batch(None, items), &blank_table());
+    assert_eq!(reasons(&effect), [None, None, PERMISSION_DENIED]);
+    let (old, new) = (record(&effect, 0), record(&effect, 1));
+    assert_eq!((old.replaced, old.replacement, new.replaced, new.replacement), (0, 2, 1, 0));
+    assert_eq!((new.state, new.total, new.count, new.material[0]), (1, 9, 9, 32));
+}
+
+#[test]
+fn a_bad_create_stops_the_batch_or_empties_the_placeholder() {
+    let items = || vec![item(CREATE, None, create(129, 4, None)), on(ACTIVATE, None)];
+    assert_eq!(reasons(&call(batch(None, items()), &blank_table())), [INVALID_FIELD]);
+    let effect = call(batch(Some(1), items()), &blank_table());
+    assert_eq!(reasons(&effect), [INVALID_FIELD, OBJECT_NOT_FOUND]);
+    let printed = "42007B01 000000C0 42007A01 00000048 42006901 00000020 42006A02 00000004 00000002 00000000 42006B02 \
+        00000004 00000001 00000000 42009209 00000008 00000000 00000000 42000D02 00000004 00000002 00000000 42000F01 \
+        00000030 42005C05 00000004 00000001 00000000 42007F05 00000004 00000001 00000000 42007E05 00000004 00000007 \
+        00000000 42000F01 00000030 42005C05 00000004 00000012 00000000 42007F05 00000004 00000001 00000000 42007E05 \
+        00000004 00000037 00000000";
+    assert_eq!(response(&effect), unhex(printed));
+}
+
+#[test]
+fn output_of_4823_is_too_small() {
+    let mut case = Case::new(batch(None, vec![new_key(None)]), blank_table().to_vec());
+    case.room = 4823;
+    assert_eq!(case.run_all(&engines(), "card").served, Err(Refusal::Room));
+    case.room = 4824;
+    assert_eq!(case.run_all(&engines(), "card").served, Ok(168));
+}
+
+#[test]
+fn a_batch_of_16_runs_and_17_is_refused() {
+    let creates = |number: usize| batch(None, (0..number).map(|_| new_key(None)).collect());
+    assert_eq!(reasons(&call(creates(16), &blank_table())), [None; 16]);
+    assert_eq!(call(creates(17), &blank_table()).served, Err(Refusal::Count));
+}
+
+/// A table of 64 live keys with serials 1 to 64.
+fn full_table() -> Table {
+    let mut table = Table::blank();
+    table.last = 64;
+    for (serial, record) in (1..).zip(&mut table.places) {
+        *record = Record { serial, state: 2, length: 128, mask: 4, material: [0; 32], ..Record::default() };
+    }
+    table
+}
+
+#[test]
+fn a_full_table_gives_up_destroyed_places_only() {
+    let mut table = full_table();
+    let create = || batch(None, vec![new_key(None)]);
+    assert_eq!(reasons(&call(create(), &table.encode())), [SERVER_LIMIT_EXCEEDED]);
+    table.places[9].state = 5;
+    let effect = call(create(), &table.encode());
+    assert_eq!((reasons(&effect), record(&effect, 9).serial), (vec![None], 65));
+    let old = call(batch(None, vec![on(ATTRIBUTES, Some("0000000A"))]), &effect.table);
+    assert_eq!(reasons(&old), [OBJECT_NOT_FOUND]);
+}
+
+#[test]
+fn a_free_place_comes_before_a_destroyed_one() {
+    let mut table = full_table();
+    table.places[9].state = 5;
+    table.places[40] = Record::default();
+    let effect = call(batch(None, vec![new_key(None)]), &table.encode());
+    assert_eq!((record(&effect, 9).serial, record(&effect, 40).serial), (10, 65));
+}
+
+#[test]
+fn the_last_serial_is_issued_once() {
+    let mut table = Table::blank();
+    table.last = 0xFFFF_FFFE;
+    let effect = call(batch(None, vec![new_key(None), new_key(None)]), &table.encode());
+    assert_eq!(reasons(&effect), [None, SERVER_LIMIT_EXCEEDED]);
+    assert!(response(&effect).windows(8).any(|text| text == b"FFFFFFFF"));
+}
+
+#[test]
+fn eight_zeros_name_no_free_place() {
+    let effect = call(batch(None, vec![on(ACTIVATE, Some("00000000"))]), &blank_table());
+    assert_eq!(reasons(&effect), [OBJECT_NOT_FOUND]);
+}
+
+#[test]
+fn activate_is_answered_with_the_printed_152_bytes() {
+    let table = call(batch(None, vec![new_key(None)]), &blank_table()).table;
+    let effect = call(batch(None, vec![on(ACTIVATE, Some("00000001"))]), &table);
+    let printed = "42007B01 00000090 42007A01 00000048 42006901 00000020 42006A02 00000004 00000002 00000000 42006B02 \
+        00000004 00000001 00000000 42009209 00000008 00000000 00000000 42000D02 00000004 00000001 00000000 42000F01 \
+        00000038 42005C05 00000004 00000012 00000000 42007F05 00000004 00000000 00000000 42007C01 00000010 42009407 \
+        00000008 30303030 30303031";
+    assert_eq!(response(&effect), unhex(printed));
+}
+
+#[test]
+fn create_is_written_and_answered_with_the_printed_bytes() {
+    let asked = "42007801 000000A8 42007701 00000038 42006901 00000020 42006A02 00000004 00000002 00000000 42006B02 \
+        00000004 00000001 00000000 42000D02 00000004 00000001 00000000 42000F01 00000060 42005C05 00000004 00000001 \
+        00000000 42007901 00000048 42005705 00000004 00000002 00000000 42012501 00000030 42002805 00000004 00000003 \
+        00000000 42002A02 00000004 00000080 00000000 42002C02 00000004 00000004 00000000";
+    let answered =
+        "42007B01 000000A0 42007A01 00000048 42006901 00000020 42006A02 00000004 00000002 00000000 42006B02 \
+        00000004 00000001 00000000 42009209 00000008 00000000 00000000 42000D02 00000004 00000001 00000000 42000F01 \
+        00000048 42005C05 00000004 00000001 00000000 42007F05 00000004 00000000 00000000 42007C01 00000020 42005705 \
+        00000004 00000002 00000000 42009407 00000008 30303030 30303031";
+    assert_eq!(batch(None, vec![new_key(None)]), unhex(asked));
+    let effect = call(unhex(asked), &blank_table());
+    assert_eq!(response(&effect), unhex(answered));
+    let key = record(&effect, 0);
+    assert_eq!(key.material[..16], (0..16).collect::<Vec<u8>>());
+    assert_eq!((key.state, key.length, key.mask, key.material[16..].to_vec()), (1, 128, 4, vec![0; 16]));
+}
+
+/// Sizes of answers: Get Attributes at its fullest sixteen times makes 4,824 bytes.
+#[test]
+fn the_longest_response_has_4824_bytes() {
+    let setup = vec![new_key(Some((5, 1))), on(REKEY, None), on(REKEY, None)];
+    let table = call(batch(None, setup), &blank_table()).table;
+    let items = (0..16).map(|_| item(ATTRIBUTES, Some(&[7; 16]), target(Some("00000002")))).collect();
+    assert_eq!(call(batch(Some(2), items), &table).served, Ok(4824));
+}
+
+#[test]
+fn the_model_loses_no_byte_of_a_table() {
+    let mut rng = support::rng::Rng::new(1);
+    let bytes = rng.bytes(4624);
+    assert_eq!(Table::decode(&bytes).encode(), bytes);
+}

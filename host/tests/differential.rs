@@ -1,0 +1,38 @@
+//! The proved engine, the model and the ordinary engine on cases from a seed: number, length, whole table and whole
+//! output must agree, and everything that can occur must have occurred. `JUNCTIONMOTH_CASES` and `JUNCTIONMOTH_SEED`
+//! set how many cases and where they start: a failing case is run alone by its own seed and one case.
+
+mod support;
+
+use std::time::Instant;
+use support::coverage::Coverage;
+use support::rng::Rng;
+use support::{engines, Case};
+
+fn main() {
+    let cases = setting("JUNCTIONMOTH_CASES", 120_000);
+    let seed = setting("JUNCTIONMOTH_SEED", 1);
+    let engines = engines();
+    let names: Vec<&str> = engines.iter().map(|(name, _)| *name).collect();
+    println!("{cases} cases from seed {seed} on: {}", names.join(", "));
+    let start = Instant::now();
+    let mut coverage = Coverage::default();
+    for seed in seed..seed + cases {
+        let case = Case::any(&mut Rng::new(seed));
+        let effect = case.run_all(&engines, &format!("JUNCTIONMOTH_SEED={seed}"));
+        coverage.count(&case, &effect);
+    }
+    let seconds = start.elapsed().as_secs_f64();
+    println!("{seconds:.1} s, {:.0} cases a second", cases as f64 / seconds);
+    let missing = coverage.report();
+    if cases >= 100_000 {
+        assert!(missing.is_empty(), "{}", missing.join("\n"));
+    }
+}
+
+fn setting(name: &str, default: u64) -> u64 {
+    match std::env::var(name) {
+        Ok(text) => text.parse().unwrap_or_else(|_| panic!("{name} is a number")),
+        Err(_) => default,
+    }
+}

@@ -1,0 +1,161 @@
+//! Runs of requests on one table from blank on: the third demand, kept by a ledger beside the box.
+//! The ledger reads requests and responses only; the table is looked at to compare.
+
+mod support;
+
+use junctionmoth::model::frame;
+use junctionmoth::model::payload::{self, Action, Order, Target};
+use junctionmoth::model::soundness;
+use junctionmoth::model::table::Table;
+use junctionmoth::model::tags::*;
+use junctionmoth::model::ttlv::{self, Item};
+use std::collections::BTreeMap;
+use support::rng::Rng;
+use support::{engines, requests, Case, Effect};
+
+/// What the ledger knows of an identifier.
+struct Issued {
+    total: u64,
+    granted: u64,
+}
+
+/// Everything issued so far, by serial.
+#[derive(Default)]
+struct Ledger {
+    issued: BTreeMap<u32, Issued>,
+    grants: u64,
+}
+
+impl Ledger {
+    /// Enters the successful items of an answered request.
+    fn enter(&mut self, request: &[u8], response: &[u8]) {
+        let asked = frame::read(&ttlv::read(request).expect("read")).expect("framed");
+        let message = ttlv::read(response).expect("one well-formed item");
+        let answers = &message.structure(RESPONSE_MESSAGE).expect("a Response Message")[1..];
+        let mut placeholder = None;
+        for (item, answer) in asked.items.iter().zip(answers) {
+            let fields = answer.structure(BATCH_ITEM).expect("a Batch Item");
+            let Some(payload) = fields.last().and_then(|last| last.structure(RESPONSE_PAYLOAD)) else {
+                placeholder = None;
+                continue;
+            };
+            let order = payload::read(item.operation, &item.payload).expect("a successful item has an order");
+            self.enter_success(&order, named(payload), &mut placeholder);
+        }
+    }
+
+    fn enter_success(&mut self, order: &Order, answered: u32, placeholder: &mut Option<u32>) {
+        let (target, action) = match order {
+            Order::Create(wanted) => {
+                *placeholder = Some(answered);
+                return self.issue(answered, wanted.limit.as_ref().map_or(0, |limit| limit.total));
+            }
+            Order::Target(Target::Placeholder, action) => (placeholder.expect("the placeholder is set"), action),
+            Order::Target(Target::Identifier(text), action) => (serial(text), action),
+        };
+        let known = self.issued.get_mut(&target).expect("only issued identifiers are known");
+        match action {
+            Action::Rekey => {
+                let total = known.total;
+                *placeholder = Some(answered);
+                return self.issue(answered, total);
+            }
+            Action::GetUsageAllocation(amount) => {
+                known.granted += amount;
+                self.grants += 1;
+            }
+            _ => {}
+        }
+        assert_eq!(answered, target);
+    }
+
+    fn issue(&mut self, serial: u32, total: u64) {
+        assert!(self.issued.insert(serial, Issued { total, granted: 0 }).is_none(), "issued twice");
+    }
+
+    /// Granted and left make the total, for every record that stands.
+    fn compare(&self, table: &Table) {
+        for record in table.standing() {
+            let issued = self.issued.get(&record.serial).expect("every record was issued");
+            assert_eq!(issued.granted + record.count, issued.total, "serial {}", record.serial);
+            assert_eq!(record.total, issued.total);
+        }
+    }
+}
+
+/// The serial that an answer names.
+fn named(payload: &[Item]) -> u32 {
+    let text = payload.iter().find_map(|field| field.text(UNIQUE_IDENTIFIER)).expect("an identifier");
+    u32::from_str_radix(text, 16).expect("hex digits")
+}
+
+fn serial(text: &str) -> u32 {
+    u32::from_str_radix(text, 16).expect("hex digits")
+}
+
+/// A record changes state only along the listed steps, and a destroyed one holds no key byte.
+fn compare_states(before: &Table, after: &Table) {
+    for old in before.standing() {
+        let reachable: &[u8] = match old.state {
+            1 => &[1, 2, 3, 4, 5, 6],
+            2 => &[2, 3, 4, 5, 6],
+            3 => &[3, 4, 5, 6],
+            4 => &[4, 6],
+            5 => &[5, 6],
+            _ => &[6],
+        };
+        if let Some(new) = after.find(old.serial) {
+            assert!(reachable.contains(&new.state), "state {} became {}", old.state, new.state);
+        } else {
+            assert!(before.places.iter().all(|record| !record.is_free()) || after.last > before.last);
+        }
+    }
+    assert!(after.standing().all(|record| record.state < 5 || record.material == [0; 32]));
+}
+
+/// A request on the table of now: spoilt sometimes, accepted mostly.
+fn next_request(rng: &mut Rng, table: &Table) -> Vec<u8> {
+    let mut bytes = match rng.below(10) {
+        0 => requests::edited(rng, table).encode(),
+        1 => requests::wrong_numbers(rng, table).encode(),
+        2 => requests::creations(rng).encode(),
+        _ => requests::accepted(rng, table).encode(),
+    };
+    if rng.one_in(20) {
+        requests::damage(rng, &mut bytes);
+    }
+    bytes
+}
+
+fn step(rng: &mut Rng, table: &Table, ledger: &mut Ledger) -> Effect {
+    let mut case = Case::new(next_request(rng, table), table.encode());
+    case.fresh = rng.bytes(512);
+    let effect = case.run_all(&engines(), "history");
+    let after = Table::decode(&effect.table);
+    if let Ok(length) = effect.served {
+        ledger.enter(&case.request, &effect.out[..length]);
+    }
+    assert!(soundness::broken(&effect.table).is_empty());
+    ledger.compare(&after);
+    compare_states(table, &after);
+    effect
+}
+
+#[test]
+fn grants_are_counted_and_destroyed_keys_stay_so() {
+    let (mut grants, mut full, mut taken_over) = (0, 0, 0);
+    for seed in 0..200 {
+        let mut rng = Rng::new(seed);
+        let mut table = Table::blank();
+        let mut ledger = Ledger::default();
+        for _ in 0..100 {
+            let effect = step(&mut rng, &table, &mut ledger);
+            table = Table::decode(&effect.table);
+        }
+        grants += ledger.grants;
+        full += u32::from(table.standing().count() == 64);
+        taken_over += u32::from(ledger.issued.len() > 64);
+    }
+    println!("{grants} grants; {full} of 200 runs ended with a full table, {taken_over} took over destroyed places");
+    assert!(grants > 100 && full > 10 && taken_over > 10);
+}

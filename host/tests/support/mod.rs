@@ -1,0 +1,176 @@
+//! What the tests share: the engines, cases from a seed, and calls whose every effect can be compared.
+
+#![allow(dead_code)]
+
+pub mod coverage;
+pub mod requests;
+pub mod rng;
+pub mod tables;
+
+use junctionmoth::model::table::Table;
+use junctionmoth::{model, ordinary, Engine, Served, ROOM, STRIP};
+use rng::Rng;
+
+/// All engines that are there: the model first.
+pub fn engines() -> Vec<(&'static str, Engine)> {
+    vec![
+        ("model", model::serve),
+        ("ordinary", ordinary::serve),
+        #[cfg(feature = "archive")]
+        ("proved", junctionmoth::serve),
+    ]
+}
+
+/// The inputs of a call.
+#[derive(Clone)]
+pub struct Case {
+    pub request: Vec<u8>,
+    pub table: Vec<u8>,
+    pub fresh: Vec<u8>,
+    pub clock: i64,
+    pub room: usize,
+}
+
+/// All that a call gives or changes.
+#[derive(Clone, PartialEq)]
+pub struct Effect {
+    pub served: Served,
+    pub table: Vec<u8>,
+    pub out: Vec<u8>,
+}
+
+impl Case {
+    /// A call as the bench program makes it: a strip of the bytes 0 to 255 twice, clock 0, 4,824 bytes of room.
+    pub fn new(request: Vec<u8>, table: Vec<u8>) -> Case {
+        Case { request, table, fresh: (0..STRIP).map(|at| at as u8).collect(), clock: 0, room: ROOM }
+    }
+
+    /// Any case at all.
+    pub fn any(rng: &mut Rng) -> Case {
+        let table = tables::sound(rng);
+        let request = any_request(rng, &table);
+        let fresh = if rng.one_in(60) { rng.pick(&[0, 1, 256, 511, 513, 1024]) } else { STRIP };
+        let any_clock = rng.next() as i64;
+        Case {
+            request,
+            table: any_table(rng, &table),
+            fresh: rng.bytes(fresh),
+            clock: rng.pick(&[0, 1, -1, i64::MIN, i64::MAX, any_clock, any_clock]),
+            room: if rng.one_in(60) {
+                rng.pick(&[0, 1, 152, ROOM - 1])
+            } else {
+                rng.pick(&[ROOM, ROOM, ROOM + 1, 8192])
+            },
+        }
+    }
+
+    /// Makes the call on copies; the output is filled with a pattern before.
+    pub fn run(&self, engine: Engine) -> Effect {
+        let mut table = self.table.clone();
+        let mut out = pattern(self.room);
+        let served = engine(&self.request, &mut table, &self.fresh, self.clock, &mut out);
+        Effect { served, table, out }
+    }
+
+    /// Makes the call on every engine; all must have the same effect, and a refusal none but its number.
+    pub fn run_all(&self, engines: &[(&str, Engine)], name: &str) -> Effect {
+        let (first, model) = engines[0];
+        let expected = self.run(model);
+        if expected.served.is_err() {
+            assert!(
+                expected.table == self.table && expected.out == pattern(self.room),
+                "{name}: a refusal left a trace"
+            );
+        }
+        for &(other, engine) in &engines[1..] {
+            let effect = self.run(engine);
+            if effect != expected {
+                self.report(name, &[(first, &expected), (other, &effect)]);
+            }
+        }
+        expected
+    }
+
+    fn report(&self, name: &str, effects: &[(&str, &Effect)]) -> ! {
+        println!("{name}: engines differ; clock {}, room {}", self.clock, self.room);
+        println!("request {}\ntable {}\nfresh {}", hex(&self.request), hex(&self.table), hex(&self.fresh));
+        for (engine, effect) in effects {
+            let length = effect.served.unwrap_or(0).min(effect.out.len());
+            println!("{engine}: {:?}, response {}", effect.served, hex(&effect.out[..length]));
+            println!("{engine}: table changed at {:?}", changes(&self.table, &effect.table));
+            println!(
+                "{engine}: output changed past the response at {:?}",
+                changes(&pattern(self.room)[length..], &effect.out[length..])
+            );
+        }
+        panic!("{name}: engines differ");
+    }
+}
+
+fn any_request(rng: &mut Rng, table: &Table) -> Vec<u8> {
+    let mut bytes = match rng.below(100) {
+        0..=64 => requests::accepted(rng, table).encode(),
+        65..=66 => requests::widest(rng, table).encode(),
+        67..=80 => requests::edited(rng, table).encode(),
+        81..=85 => requests::wrong_numbers(rng, table).encode(),
+        86..=89 => requests::many_items(rng).encode(),
+        90..=92 => requests::deep(rng).encode(),
+        93..=96 => requests::large(rng).encode(),
+        97 => return Vec::new(),
+        98 => return odd_sized(rng),
+        _ => {
+            let length = rng.index(200);
+            return rng.bytes(length);
+        }
+    };
+    if rng.one_in(8) {
+        requests::damage(rng, &mut bytes);
+    }
+    bytes
+}
+
+/// Bytes that are no request, of an edge's size.
+fn odd_sized(rng: &mut Rng) -> Vec<u8> {
+    let length = rng.pick(&[1, 7, 8, 4095, 4096, 4097, 4098, 8192]);
+    let mut bytes = rng.bytes(length);
+    bytes[0] = 0x42;
+    bytes
+}
+
+fn any_table(rng: &mut Rng, table: &Table) -> Vec<u8> {
+    let mut bytes = table.encode();
+    match rng.below(100) {
+        0..=84 => {}
+        85..=94 => return tables::broken(rng),
+        95..=97 => {
+            let at = rng.index(bytes.len());
+            bytes[at] ^= 1 << rng.below(8);
+        }
+        98 => bytes.resize(rng.pick(&[0, 1, 15, 16, 1040, 4623, 4625, 4680, 5648, 9248]), 0),
+        _ => {
+            let any = rng.bytes(bytes.len());
+            bytes = rng.pick(&[any, vec![0; bytes.len()], vec![0xFF; bytes.len()]]);
+        }
+    }
+    bytes
+}
+
+/// What the output holds before a call.
+pub fn pattern(length: usize) -> Vec<u8> {
+    (0..length).map(|at| (at as u8).wrapping_mul(13) ^ 0xA5).collect()
+}
+
+fn changes(before: &[u8], after: &[u8]) -> Vec<usize> {
+    (0..before.len().min(after.len())).filter(|&at| before[at] != after[at]).collect()
+}
+
+pub fn hex(bytes: &[u8]) -> String {
+    bytes.iter().map(|byte| format!("{byte:02X}")).collect()
+}
+
+/// The bytes that hex digits write; blanks are passed over.
+pub fn unhex(digits: &str) -> Vec<u8> {
+    let digits: Vec<char> = digits.chars().filter(|digit| !digit.is_whitespace()).collect();
+    let value = |digit: char| digit.to_digit(16).expect("a hex digit") as u8;
+    digits.chunks(2).map(|pair| value(pair[0]) << 4 | value(pair[1])).collect()
+}

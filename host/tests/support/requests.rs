@@ -1,0 +1,347 @@
+//! Requests: such as the box accepts, aimed at a table, and such as it turns away.
+
+use super::rng::Rng;
+use junctionmoth::message::*;
+use junctionmoth::model::operations::identifier;
+use junctionmoth::model::table::{Record, Table};
+
+const SUPPORTED: [u32; 7] = [0x01, 0x04, 0x0B, 0x11, 0x12, 0x13, 0x14];
+
+/// A request with a right frame and right numbers.
+pub fn accepted(rng: &mut Rng, table: &Table) -> Node {
+    let number = rng.between(1, 16);
+    let number = rng.pick(&[1, 1, 1, 1, 2, 3, 5, 16, number]);
+    let items = (0..number).map(|_| batch_item(rng, table)).collect();
+    request(rng.pick(&[None, Some(1), Some(1), Some(2)]), items)
+}
+
+pub fn batch_item(rng: &mut Rng, table: &Table) -> Node {
+    let operation = if rng.one_in(30) { unsupported(rng) } else { rng.pick(&SUPPORTED) };
+    let mut payload = structure(0x420079, payload(rng, table, operation));
+    if rng.one_in(16) {
+        edit_inside(rng, &mut payload);
+    }
+    let Body::Nodes(fields) = payload.body else {
+        return item(operation, None, Vec::new());
+    };
+    item(operation, id(rng).as_deref(), fields)
+}
+
+fn unsupported(rng: &mut Rng) -> u32 {
+    let any = rng.next() as u32;
+    rng.pick(&[0, 2, 3, 5, 8, 0x0A, 0x0C, 0x10, 0x15, 0x3B, 0x101, 0x8000_0001, u32::MAX, any])
+}
+
+fn id(rng: &mut Rng) -> Option<Vec<u8>> {
+    let any = rng.between(1, 16);
+    let length = rng.pick(&[0, 0, 1, 7, 8, 9, 15, 16, any]);
+    (length > 0).then(|| rng.bytes(length as usize))
+}
+
+fn payload(rng: &mut Rng, table: &Table, operation: u32) -> Vec<Node> {
+    let name = match fitting(rng, table, operation) {
+        Some(serial) if !rng.one_in(3) => Some(identifier(serial)),
+        _ => target_text(rng, table),
+    };
+    let name = name.as_deref();
+    match operation {
+        0x01 => creation(rng),
+        0x11 => allocation(name, amount(rng, table, name)),
+        0x13 => {
+            let code = rng.between(1, 7) as u32;
+            revocation(name, rng.pick(&[code, code, code, code, code, 2, 3, 0, 8, u32::MAX]))
+        }
+        _ => target(name),
+    }
+}
+
+/// The serial of a record on which the operation can succeed.
+fn fitting(rng: &mut Rng, table: &Table, operation: u32) -> Option<u32> {
+    let fits = |record: &&Record| match operation {
+        0x04 => record.state < 5 && record.replacement == 0,
+        0x11 => record.state == 2 && record.unit != 0,
+        0x12 => record.state == 1,
+        0x13 => record.state < 4 || record.state == 5,
+        0x14 => [1, 3, 4].contains(&record.state),
+        _ => false,
+    };
+    let serials: Vec<u32> = table.standing().filter(fits).map(|record| record.serial).collect();
+    (!serials.is_empty()).then(|| rng.pick(&serials))
+}
+
+fn creation(rng: &mut Rng) -> Vec<Node> {
+    let any = rng.next() as i32;
+    let length = rng.pick(&[128, 192, 256]);
+    let mask = rng.pick(&[0, 4, 0x00FF_FFFF, any & 0x00FF_FFFF]);
+    let total = rng.between(1, 1_000_000_000_000) as i64;
+    let total = rng.pick(&[1, 100, 1_000_000_000_000, total]);
+    let limit = rng.pick(&[None, Some((total, 1)), Some((total, 2))]);
+    match rng.below(30) {
+        0 => create(rng.pick(&[0, -128, 127, 129, 64, 320, 0x1_0080, any]), mask, limit),
+        1 => create(length, rng.pick(&[0x0100_0000, -1, i32::MIN, i32::MAX]), limit),
+        2 => create(length, mask, Some((rng.pick(&[0, -1, 1_000_000_000_001, i64::MIN, i64::MAX]), 1))),
+        3 => create(length, mask, Some((total, rng.pick(&[0, 3, 257, u32::MAX])))),
+        _ => create(length, mask, limit),
+    }
+}
+
+fn amount(rng: &mut Rng, table: &Table, name: Option<&str>) -> i64 {
+    let named = table.standing().find(|record| name == Some(&identifier(record.serial)));
+    let count = named.map_or(100, |record| record.count as i64);
+    let part = rng.below(count as u64 + 1) as i64;
+    let bad = rng.pick(&[0, -1, i64::MIN]);
+    rng.pick(&[1, 1, 2, part, part, count, count, count + 1, i64::MAX, bad])
+}
+
+/// The identifier of a record mostly; else none, or a text that names none or one only later.
+fn target_text(rng: &mut Rng, table: &Table) -> Option<String> {
+    let serials: Vec<u32> = table.standing().map(|record| record.serial).collect();
+    let some = if serials.is_empty() { rng.next() as u32 } else { rng.pick(&serials) };
+    match rng.below(12) {
+        0..=1 => None,
+        2..=8 => Some(identifier(some)),
+        9..=10 => Some(identifier(table.last.wrapping_add(rng.between(1, 4) as u32))),
+        _ => Some(wrong_text(rng, table, some)),
+    }
+}
+
+fn wrong_text(rng: &mut Rng, table: &Table, serial: u32) -> String {
+    let right = identifier(serial);
+    let links = table.standing().flat_map(|record| [record.replaced, record.replacement]);
+    let dangling = links.filter(|&named| named != 0 && table.find(named).is_none()).last();
+    match rng.below(12) {
+        0 => right.to_lowercase(),
+        1 => "00000000".into(),
+        2 => right[1..].into(),
+        3 => format!("0{right}"),
+        4 => format!("{right}0"),
+        5 => format!(" {}", &right[1..]),
+        6 => String::new(),
+        7 => format!("{}{}", &right[..7], rng.pick(&[':', '@', 'G', 'g', '/', '`', ' ', '~'])),
+        8 => format!("{serial}"),
+        9 => identifier(rng.next() as u32),
+        10 => right.repeat(2),
+        _ => identifier(dangling.unwrap_or(0)),
+    }
+}
+
+/// A batch of Creates.
+pub fn creations(rng: &mut Rng) -> Node {
+    let number = rng.between(1, 16);
+    request(Some(1), (0..number).map(|_| item(0x01, None, creation(rng))).collect())
+}
+
+/// The request with the longest answer that the table allows: sixteen times all attributes, with IDs of 16 bytes.
+pub fn widest(rng: &mut Rng, table: &Table) -> Node {
+    let width = |record: &Record| [record.unit, (record.replaced > 0).into(), (record.replacement > 0).into()];
+    let widest = table.standing().max_by_key(|record| width(record).map(|part| part.min(1)).iter().sum::<u8>());
+    let name = identifier(widest.map_or(1, |record| record.serial));
+    let items = (0..16).map(|_| item(0x0B, Some(&rng.bytes(16)), target(Some(&name)))).collect();
+    request(Some(rng.pick(&[1, 2])), items)
+}
+
+/// A request that is spoilt in one item of its tree.
+pub fn edited(rng: &mut Rng, table: &Table) -> Node {
+    let mut message = accepted(rng, table);
+    edit_inside(rng, &mut message);
+    if rng.one_in(4) {
+        edit_inside(rng, &mut message);
+    }
+    message
+}
+
+/// Spoils one item of a tree.
+fn edit_inside(rng: &mut Rng, root: &mut Node) {
+    let mut chosen = rng.index(size(root));
+    if let Some(node) = nth(root, &mut chosen) {
+        edit(rng, node);
+    }
+}
+
+fn size(node: &Node) -> usize {
+    match &node.body {
+        Body::Nodes(nodes) => 1 + nodes.iter().map(size).sum::<usize>(),
+        Body::Bytes(_) => 1,
+    }
+}
+
+/// The item at this index, counted from the root downwards.
+fn nth<'a>(node: &'a mut Node, index: &mut usize) -> Option<&'a mut Node> {
+    if *index == 0 {
+        return Some(node);
+    }
+    *index -= 1;
+    match &mut node.body {
+        Body::Nodes(nodes) => nodes.iter_mut().find_map(|node| nth(node, index)),
+        Body::Bytes(_) => None,
+    }
+}
+
+fn edit(rng: &mut Rng, node: &mut Node) {
+    match rng.below(6) {
+        0 => node.tag = other_tag(rng, node.tag),
+        1 => node.kind = rng.below(14) as u8,
+        2 => *node = well_formed(rng, node.tag),
+        _ => match &mut node.body {
+            Body::Nodes(nodes) => edit_fields(rng, nodes),
+            Body::Bytes(bytes) => edit_value(rng, bytes),
+        },
+    }
+}
+
+fn other_tag(rng: &mut Rng, tag: u32) -> u32 {
+    let known = 0x420000 | rng.below(0x160) as u32;
+    rng.pick(&[known, known, tag ^ 1, tag ^ 0x100, 0x540000 | tag & 0xFFFF, tag & 0xFFFF, 0x42FFFF, 0x420000])
+}
+
+/// A well-formed item of some type under this tag.
+fn well_formed(rng: &mut Rng, tag: u32) -> Node {
+    let kind = rng.between(1, 0x0B) as u8;
+    let any = rng.index(20);
+    let bytes = match kind {
+        0x01 => return structure(tag, Vec::new()),
+        0x02 | 0x05 | 0x0A => (rng.below(5) as u32).to_be_bytes().to_vec(),
+        0x06 => rng.below(2).to_be_bytes().to_vec(),
+        0x07 => rng.pick(&["", "00000001", "a text of some length", "2"]).as_bytes().to_vec(),
+        0x08 => rng.bytes(any),
+        0x04 => rng.bytes(8 * (1 + any / 8)),
+        _ => rng.below(5).to_be_bytes().to_vec(),
+    };
+    Node { tag, kind, body: Body::Bytes(bytes) }
+}
+
+fn edit_value(rng: &mut Rng, bytes: &mut Vec<u8>) {
+    let any = rng.bytes(bytes.len());
+    match rng.below(5) {
+        0 => *bytes = any,
+        1 => bytes.resize(rng.index(20), 0),
+        2 => bytes.push(rng.pick(&[0x00, 0x1F, 0x20, 0x7E, 0x7F, 0x80, 0xFF])),
+        3 => bytes.clear(),
+        _ => {
+            if let Some(last) = bytes.last_mut() {
+                *last = rng.pick(&[0, 1, 2, 3, 0x7F, 0xFF, 0x1F]);
+            }
+        }
+    }
+}
+
+fn edit_fields(rng: &mut Rng, nodes: &mut Vec<Node>) {
+    let at = rng.index(nodes.len() + 1);
+    let extra_tag = rng.pick(&[
+        0x420092, 0x420050, 0x420154, 0x420051, 0x420010, 0x42000E, 0x420093, 0x420094, 0x420096, 0x420080, 0x420095,
+        0x42002C, 0x42000F, 0x42000D, 0x42FFFF,
+    ]);
+    match rng.below(5) {
+        0 => nodes.insert(at, well_formed(rng, extra_tag)),
+        1 => nodes.clear(),
+        _ if at == nodes.len() => nodes.push(well_formed(rng, extra_tag)),
+        2 => drop(nodes.remove(at)),
+        3 => nodes.insert(at, nodes[at].clone()),
+        _ => {
+            let other = rng.index(nodes.len());
+            nodes.swap(at, other);
+        }
+    }
+}
+
+/// A request with a right frame and at least one wrong number in its header.
+pub fn wrong_numbers(rng: &mut Rng, table: &Table) -> Node {
+    let number = rng.between(1, 16) as i32;
+    let items: Vec<Node> = (0..number).map(|_| batch_item(rng, table)).collect();
+    let mut header = Header { version: (2, 1), option: rng.pick(&[None, Some(1), Some(2)]), count: number };
+    let faults = rng.pick(&[1, 2, 4, 1, 2, 4, 3, 5, 6, 7]);
+    let any = rng.next() as i32;
+    if faults & 1 != 0 {
+        header.version = rng.pick(&[(2, 0), (2, 2), (1, 4), (3, 1), (1, 2), (0, 1), (-2, 1), (2, 257), (2, any)]);
+    }
+    if faults & 2 != 0 {
+        header.count = rng.pick(&[0, -1, number - 1, number + 1, 17, 16, 256 + number, i32::MIN, i32::MAX]);
+    }
+    if faults & 4 != 0 {
+        header.option = Some(rng.pick(&[0, 3, 4, 257, 0x8000_0001, u32::MAX]));
+    }
+    request_with(header, items)
+}
+
+/// A request of 17 items or more, as many as fit, with the right count or a wrong one, perhaps spoilt at its end.
+pub fn many_items(rng: &mut Rng) -> Node {
+    let number = rng.between(17, 125);
+    let number = rng.pick(&[17, 18, 125, number]);
+    let operation = rng.pick(&[0x12, 0x0B, 0]);
+    let mut items: Vec<Node> = (0..number).map(|_| item(operation, None, Vec::new())).collect();
+    if rng.one_in(4) {
+        let late = rng.between(16, number - 1) as usize;
+        edit_inside(rng, &mut items[late]);
+    }
+    let version = rng.pick(&[(2, 1), (2, 1), (2, 1), (2, 0)]);
+    let count = rng.pick(&[number as i32, 16, 1, 0, 17]);
+    request_with(Header { version, option: None, count }, items)
+}
+
+/// A request with structures in structures inside a payload, down to depth 7, 8 or 9.
+pub fn deep(rng: &mut Rng) -> Node {
+    let depth = rng.between(7, 9);
+    let tag = rng.pick(&[0x420001, 0x420125, 0x420094]);
+    let leaf = rng.pick(&[structure(tag, Vec::new()), integer(tag, 1), text(tag, "x")]);
+    let chain = (4..depth).fold(leaf, |inner, _| structure(tag, vec![inner]));
+    let operation = rng.pick(&[0x01, 0x12, 0x13, 0x3B]);
+    request(Some(1), vec![item(operation, None, vec![chain]), item(0x01, None, create(128, 4, None))])
+}
+
+/// A well-formed request near the greatest size: of 4,088, 4,096 or 4,104 bytes.
+pub fn large(rng: &mut Rng) -> Node {
+    let sized = |length: usize, operation: u32| {
+        let filler = byte_string(0x420043, &vec![0xA5; length]);
+        request(Some(1), vec![item(operation, None, vec![filler]), item(0x01, None, create(192, 4, None))])
+    };
+    let operation = rng.pick(&[0x02, 0x12]);
+    let frame = sized(0, operation).encode().len();
+    sized(rng.pick(&[4088, 4096, 4096, 4104]) - frame - rng.index(8), operation)
+}
+
+/// Spoils the bytes of a request.
+pub fn damage(rng: &mut Rng, bytes: &mut Vec<u8>) {
+    let junk = rng.between(1, 20) as usize;
+    match rng.below(8) {
+        0 | 1 => flip_bits(rng, bytes),
+        2 => bytes.truncate(rng.index(bytes.len())),
+        3 => bytes.extend(rng.bytes(junk)),
+        4 => bytes.extend([0; 8]),
+        5 | 6 => alter_length(rng, bytes),
+        _ => {
+            let at = rng.index(bytes.len());
+            bytes[at] = rng.next() as u8;
+        }
+    }
+}
+
+fn flip_bits(rng: &mut Rng, bytes: &mut [u8]) {
+    for _ in 0..rng.between(1, 3) {
+        let at = rng.index(bytes.len());
+        bytes[at] ^= 1 << rng.below(8);
+    }
+}
+
+/// Alters a length field: one that stands behind a tag.
+fn alter_length(rng: &mut Rng, bytes: &mut [u8]) {
+    let headers: Vec<usize> = (0..bytes.len() - 7).step_by(8).filter(|&at| bytes[at] == 0x42).collect();
+    let at = rng.pick(&headers) + 4;
+    let length = u32::from_be_bytes([bytes[at], bytes[at + 1], bytes[at + 2], bytes[at + 3]]);
+    let any = rng.next() as u32;
+    let length = rng.pick(&[
+        length.wrapping_add(1),
+        length.wrapping_sub(1),
+        length.wrapping_add(8),
+        length.wrapping_sub(8),
+        length.wrapping_add(16),
+        0,
+        4,
+        8,
+        u32::MAX,
+        u32::MAX - 6,
+        u32::MAX - 7,
+        0x8000_0000 | length,
+        any,
+    ]);
+    bytes[at..at + 4].copy_from_slice(&length.to_be_bytes());
+}
