@@ -1,0 +1,3 @@
+-- Laws of one item.
+-- Assumes nothing.
+pub mod Went
