@@ -1,3 +1,5 @@
 -- Sizes of a call.
 -- Assumes nothing.
 pub mod Sizes
+pub mod Commands
+pub mod Steps

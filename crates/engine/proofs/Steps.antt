@@ -1,0 +1,151 @@
+-- An item on a sound table leaves a sound table, and its answer is one that a response may have.
+-- Assumes nothing.
+use Prim.Native.Nat.{ℕ, _+_, _-_, _^_, _≤_, _<_}
+use native.Mathlib.Omega.{arith}
+use mathlib.Core.Path.{_≡_, refl, sym, ap, subst, _∙_}
+use mathlib.Core.Logic.{_⊎_, inl, inr, ⊎-elim}
+use mathlib.Core.Bool.{Bool, true, false, _&&_, _||_}
+use mathlib.Core.List.{List, [], _∷_}
+use lib.ListN.{length}
+use lib.Dec.{leb, ltb, eqb}
+use borrow.Author.Tests.{le-leb, lt-ltb, eq-eqb, ne-eqb}
+use Rattle.octets.specs.If.{ifb}
+use Rattle.octets.specs.Octets.{Bytes}
+use Rattle.octets.proofs.If.{ifb-true, ifb-false}
+use Rattle.table.specs.declared.Record.{Record}
+use Rattle.table.specs.declared.Found.the-variants.{At}
+use Rattle.table.specs.Layout.{materialSize}
+use Rattle.table.specs.Records.{placeAt, serialAt, lastSerial}
+use Rattle.table.specs.Search.{find}
+use Rattle.table.proofs.Lines.{InRange}
+use Rattle.table.proofs.Places.{serial-is}
+use Rattle.table.proofs.Finds.{find-below}
+use Rattle.soundness.specs.Sound.{bitsOk, maskOk, unitOk, totalOk}
+use Rattle.soundness.proofs.Bools.{and-i, tests}
+use Rattle.soundness.proofs.SoundIs.{Stands, Unlimited, Limited, Fit}
+use Rattle.rules.specs.Numbers.{create, rekey, getAttributes, getUsageAllocation, activate, revoke, destroy}
+use Rattle.rules.specs.Records.{inState, movedTo, withCount}
+use Rattle.rules.specs.Changes.{serialMost, isFull, nextSerial}
+use Rattle.rules.specs.declared.Attributes.{Attributes}
+use Rattle.keeps.proofs.Begun.{Allowed}
+use Rattle.keeps.proofs.Keeps.{Held, found-stands, range, fit, next-fits, keeps-moved, keeps-count, keeps-born, keeps-heir}
+use Rattle.frame.specs.Frame.{Asked, idMost}
+use Rattle.payload.specs.declared.Target.{Target}
+use Rattle.payload.specs.declared.Command.{Command}
+use Rattle.payload.specs.declared.Command.the-variants.{Create, Rekey, GetUsageAllocation, GetAttributes}
+use Rattle.payload.specs.Payload.{command}
+use Rattle.act.specs.Act.{Env, Did, sought, failing, createPlan, rekeyPlan, changed, shownOf, step}
+use Rattle.act.proofs.Went.{Moving, activating, revoking, destroying, Kind, fails, creates, rekeys, grants, moves, shows, step-kind}
+use Rattle.answer.specs.Respond.{Answer}
+use Rattle.answer.specs.Read.{answersDone, serialOk, linkOk, shownOk, outcomeOk, answerOk}
+use Rattle.engine.specs.Batch.{answerTo}
+use Rattle.engine.proofs.Commands.{Commanded, to-create, to-rekey, to-allocate, to-activate, to-revoke, to-destroy, to-show, commanded}
+
+-- ---- what a command's operation answers
+
+create-allowed : {operation : ℕ} {wanted : Attributes} → Commanded operation (Create wanted) → (operation ≡ create) × Allowed wanted
+create-allowed (to-create o a) = (o, a)
+
+rekey-done : {operation : ℕ} {target : Target} → Commanded operation (Rekey target) → answersDone operation ≡ true
+rekey-done (to-rekey o) = rw o
+
+allocation-done : {operation amount : ℕ} {target : Target} → Commanded operation (GetUsageAllocation target amount) → answersDone operation ≡ true
+allocation-done (to-allocate o) = rw o
+
+move-done : {c : Command} {operation code o : ℕ} {target : Target} → Moving c operation code target → Commanded o c → answersDone o ≡ true
+move-done activating (to-activate e) = rw e
+move-done revoking (to-revoke e) = rw e
+move-done destroying (to-destroy e) = rw e
+
+show-operation : {operation : ℕ} {target : Target} → Commanded operation (GetAttributes target) → operation ≡ getAttributes
+show-operation (to-show o) = o
+
+-- ---- serials and records that may be answered
+
+serial-ok : (s : ℕ) → (s ≡ 0 → ⊥) → s < 256 ^ 4 → serialOk s ≡ true
+serial-ok s z l = and-i (leb 1 s) (leb s serialMost) (le-leb 1 s (omega arith)) (le-leb s serialMost (omega arith))
+
+link-ok : (s : ℕ) → s < 256 ^ 4 → linkOk s ≡ true
+link-ok s l = le-leb s serialMost (omega arith)
+
+limit-ok : (r : Record) → Unlimited r ⊎ Limited r
+    → ifb (eqb (r .unit) 0) (eqb (r .total) 0 && eqb (r .count) 0) (unitOk (r .unit) && totalOk (r .total) && leb (r .count) (r .total)) ≡ true
+unfolding ifb
+limit-ok r (inl u) = rw (u .unit, u .total, u .count)
+limit-ok r (inr l) =
+    let z : eqb (r .unit) 0 ≡ false = ne-eqb (r .unit) 0 (λ e. no-unit (sym (ap unitOk e) ∙ l .unit)) in
+    rw z (and-i (unitOk (r .unit) && totalOk (r .total)) (leb (r .count) (r .total))
+    (and-i (unitOk (r .unit)) (totalOk (r .total)) (l .unit) (and-i (leb 1 (r .total)) (leb (r .total) 1_000_000_000_000) (le-leb 1 (r .total) (l .least)) (le-leb (r .total) 1_000_000_000_000 (l .most))))
+    (le-leb (r .count) (r .total) (l .count)))
+  where
+    no-unit : unitOk 0 ≡ true → ⊥
+    no-unit e = let y : _≡_ {A = ℕ} 0 1 = cc in omega arith
+
+shown-ok : (last : ℕ) (r : Record) → (r .serial ≡ 0 → ⊥) → InRange r → Fit last r → shownOk (shownOf r) ≡ true
+unfolding shownOk shownOf
+shown-ok last r z g f =
+    and-i _ (linkOk (r .replacement))
+    (and-i _ (linkOk (r .replaced))
+    (and-i _ _
+    (and-i _ (leb 1 (r .state) && leb (r .state) 6)
+    (and-i _ (maskOk (r .mask))
+    (and-i (serialOk (r .serial)) (bitsOk (r .bits)) (serial-ok (r .serial) z (g .serial)) (f .bits))
+    (le-leb (r .mask) 0x00FFFFFF (f .mask)))
+    (and-i (leb 1 (r .state)) (leb (r .state) 6) (le-leb 1 (r .state) (f .low)) (le-leb (r .state) 6 (f .high))))
+    (limit-ok r (f .limit)))
+    (link-ok (r .replaced) (g .replaced)))
+    (link-ok (r .replacement) (g .replacement))
+
+-- ---- items
+
+module _ (env : Env) (holder : ℕ) (t : List ℕ) (held : Held (env .places) t) (fresh-bytes : Bytes (env .fresh)) (long : materialSize ≤ length (env .fresh)) where
+  -- what a search found is a record of the table
+  found-serial : (s i : ℕ) → find (env .places) t s ≡ At i → placeAt (env .places) t i .serial ≡ 0 → ⊥
+  found-serial s i e z = found-stands (env .places) t s i e (serial-is (env .places) t i ∙ z)
+
+  record-ok : (s i : ℕ) → find (env .places) t s ≡ At i → serialOk (placeAt (env .places) t i .serial) ≡ true
+  record-ok s i e =
+      serial-ok (placeAt (env .places) t i .serial) (found-serial s i e)
+      (range (env .places) t held i (find-below (env .places) t s i e) (found-stands (env .places) t s i e) .serial)
+
+  kind-held : {operation : ℕ} (c : Command) (did : Did) → Kind env holder t c did → Commanded operation c → Held (env .places) (did .table)
+  unfolding createPlan rekeyPlan
+  kind-held c did (fails reason) m = held
+  kind-held c did (creates wanted room) m = keeps-born (env .places) t held room (env .fresh) fresh-bytes long wanted (create-allowed m .1)
+  kind-held c did (rekeys target i e alive none room) m =
+      keeps-heir (env .places) t held room (env .fresh) fresh-bytes long i (find-below (env .places) t (sought holder target) i e) (found-stands (env .places) t (sought holder target) i e) alive none
+  kind-held c did (grants target amount i e g) m =
+      keeps-count (env .places) t held i (find-below (env .places) t (sought holder target) i e) (found-stands (env .places) t (sought holder target) i e) amount _ g
+  kind-held c did (moves {operation} {code} {target} v i next e g) m =
+      keeps-moved (env .places) t held i (find-below (env .places) t (sought holder target) i e) (found-stands (env .places) t (sought holder target) i e) operation code next g
+  kind-held c did (shows target i e) m = held
+
+  kind-ok : {operation : ℕ} (c : Command) (did : Did) → Kind env holder t c did → Commanded operation c → outcomeOk operation (did .outcome) ≡ true
+  unfolding outcomeOk createPlan rekeyPlan withCount movedTo inState
+  kind-ok c did (fails reason) m = refl
+  kind-ok {operation} c did (creates wanted room) m =
+      and-i (eqb operation create) (serialOk (nextSerial t)) (eq-eqb operation create (create-allowed m .0)) (serial-ok (nextSerial t) (λ z. omega arith) (next-fits (env .places) t held room))
+  kind-ok {operation} c did (rekeys target i e alive none room) m =
+      and-i (answersDone operation) (serialOk (nextSerial t)) (rekey-done m) (serial-ok (nextSerial t) (λ z. omega arith) (next-fits (env .places) t held room))
+  kind-ok {operation} c did (grants target amount i e g) m =
+      and-i (answersDone operation) (serialOk (placeAt (env .places) t i .serial)) (allocation-done m) (record-ok (sought holder target) i e)
+  kind-ok {operation} c did (moves {target} v i next e g) m =
+      and-i (answersDone operation) (serialOk (placeAt (env .places) t i .serial)) (move-done v m) (record-ok (sought holder target) i e)
+  kind-ok {operation} c did (shows target i e) m =
+      and-i (eqb operation getAttributes) (shownOk (shownOf (placeAt (env .places) t i))) (eq-eqb operation getAttributes (show-operation m))
+      (shown-ok (lastSerial t) (placeAt (env .places) t i) (found-serial (sought holder target) i e)
+      (range (env .places) t held i (find-below (env .places) t (sought holder target) i e) (found-stands (env .places) t (sought holder target) i e))
+      (fit (env .places) t held i (find-below (env .places) t (sought holder target) i e) (found-stands (env .places) t (sought holder target) i e)))
+
+  module _ (asked : Asked) where
+    -- an item leaves a sound table of bytes
+    pub step-held : Held (env .places) (step env holder t asked .table)
+    step-held = kind-held _ _ (step-kind env holder t asked) (commanded (asked .operation) (asked .payload))
+
+    -- and its answer is one that a response may have
+    pub step-ok : asked .operation < 256 ^ 4 → length (asked .id) ≤ idMost → answerOk (answerTo asked (step env holder t asked)) ≡ true
+    unfolding answerOk
+    step-ok o l =
+        and-i _ (outcomeOk (asked .operation) (step env holder t asked .outcome))
+        (and-i (ltb (asked .operation) (2 ^ 32)) (leb (length (asked .id)) idMost) (lt-ltb (asked .operation) (2 ^ 32) (omega arith)) (le-leb (length (asked .id)) idMost l))
+        (kind-ok _ _ (step-kind env holder t asked) (commanded (asked .operation) (asked .payload)))
