@@ -3,3 +3,4 @@
 pub mod Sizes
 pub mod Commands
 pub mod Steps
+pub mod Batches

@@ -1,0 +1,71 @@
+-- A batch on a sound table leaves a sound table, and its answers are those of a response.
+-- Assumes nothing.
+use Prim.Native.Nat.{ℕ, zero, suc, _+_, _*_, _^_, _≤_, _<_}
+use native.Mathlib.Omega.{arith}
+use mathlib.Core.Path.{_≡_, refl, sym, ap, subst, _∙_}
+use mathlib.Core.Bool.{Bool, true, false, _&&_}
+use mathlib.Core.List.{List, [], _∷_}
+use lib.ListN.{length, take, drop}
+use Rattle.octets.specs.If.{ifb}
+use Rattle.octets.specs.Octets.{Bytes, part, all}
+use Rattle.octets.proofs.If.{on-if}
+use Rattle.octets.proofs.Numbers.{bytes-take, bytes-drop}
+use Rattle.octets.proofs.Stores.{length-part}
+use Rattle.table.specs.Layout.{materialSize}
+use Rattle.soundness.proofs.Bools.{and-i}
+use Rattle.keeps.proofs.Keeps.{Held}
+use Rattle.frame.specs.Frame.{Asked, Request, idMost}
+use Rattle.act.specs.Act.{Did, envAt, step}
+use Rattle.answer.specs.Respond.{Answer}
+use Rattle.answer.specs.Read.{answerOk}
+use Rattle.engine.specs.Batch.{Ran, answerTo, lastly, firstly, endsBatch, batch}
+use Rattle.engine.proofs.Steps.{step-held, step-ok}
+
+-- items as a frame gives them: operations of 32 bits, IDs of at most 16 bytes
+abbrev pub Small : List Asked → Type 0
+Small [] = Unit {0}
+Small (asked ∷ items) = ((asked .operation < 256 ^ 4) × (length (asked .id) ≤ idMost)) × Small items
+
+module _ (places clock : ℕ) (strip : List ℕ) (option : ℕ) (strip-bytes : Bytes strip) where
+  -- item i has 32 bytes of the strip for its own
+  module _ (i : ℕ) (in-strip : materialSize * i + materialSize ≤ length strip) where
+    pub own-bytes : Bytes (envAt places clock strip i .fresh)
+    own-bytes = bytes-take materialSize (drop (materialSize * i) strip) (bytes-drop (materialSize * i) strip strip-bytes)
+
+    pub own-long : materialSize ≤ length (envAt places clock strip i .fresh)
+    own-long = omega (arith, length-part strip (materialSize * i) materialSize in-strip)
+
+  -- what a run of a batch leaves
+  pub record Leaves (items : List Asked) (ran : Ran) : Type 0 where
+    pub held : Held places (ran .table)
+    pub ok : all answerOk (ran .answers) ≡ true
+    pub few : length (ran .answers) ≤ length items
+    pub some : 1 ≤ length items → 1 ≤ length (ran .answers)
+
+  pub batch-leaves : (items : List Asked) (i holder : ℕ) (t : List ℕ) → Held places t → Small items → materialSize * (i + length items) ≤ length strip
+      → Leaves items (batch places clock strip option i holder t items)
+  unfolding batch all
+  batch-leaves [] i holder t h s l = record { held = h; ok = refl; few = omega arith; some = λ q. q }
+  batch-leaves (asked ∷ later) i holder t h s l =
+      turn (step (envAt places clock strip i) holder t asked) (step-held (envAt places clock strip i) holder t h own own-size asked)
+      (step-ok (envAt places clock strip i) holder t h own own-size asked (s .0 .0) (s .0 .1))
+      (batch-leaves later (i + 1) (step (envAt places clock strip i) holder t asked .holder) (step (envAt places clock strip i) holder t asked .table)
+      (step-held (envAt places clock strip i) holder t h own own-size asked) (s .1) (omega arith))
+    where
+      own : Bytes (envAt places clock strip i .fresh)
+      own = own-bytes i (omega arith)
+      own-size : materialSize ≤ length (envAt places clock strip i .fresh)
+      own-size = own-long i (omega arith)
+      turn : (did : Did) → Held places (did .table) → answerOk (answerTo asked did) ≡ true
+          → Leaves later (batch places clock strip option (i + 1) (did .holder) (did .table) later)
+          → Leaves (asked ∷ later)
+            (ifb (endsBatch option did) (lastly (answerTo asked did) (did .table)) (firstly (answerTo asked did) (batch places clock strip option (i + 1) (did .holder) (did .table) later)))
+      turn did g a rest =
+          on-if (Leaves (asked ∷ later))
+          (λ e. record { held = g; ok = and-i (answerOk (answerTo asked did)) true a refl; few = omega arith; some = λ q. omega arith })
+          (λ e. record {
+            held = rest .held;
+            ok = and-i (answerOk (answerTo asked did)) (all answerOk (batch places clock strip option (i + 1) (did .holder) (did .table) later .answers)) a (rest .ok);
+            few = omega (arith, rest .few);
+            some = λ q. omega arith;
+          })
