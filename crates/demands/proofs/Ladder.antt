@@ -1,6 +1,6 @@
 -- The refusal ladder: the number of a call is the lowest whose condition holds, and a refusal touches nothing.
 -- Assumes nothing.
-use Prim.Native.Nat.{ℕ, zero, suc, _+_, _≤_}
+use Prim.Native.Nat.{ℕ, zero, suc, _+_, _≤_, _<_}
 use mathlib.Core.Path.{_≡_, refl, sym, ap, subst, _∙_}
 use mathlib.Core.Bool.{Bool, true, false, not, _||_}
 use mathlib.Core.Option.{Option, none, some}
@@ -8,6 +8,7 @@ use mathlib.Core.List.{List, [], _∷_}
 use lib.ListN.{length}
 use lib.Dec.{ltb, eqb}
 use native.Mathlib.Omega.{arith}
+use borrow.Author.Tests.{ltb-false, eqb-true, not-false}
 use Rattle.octets.specs.If.{ifb}
 use Rattle.octets.proofs.If.{on-if}
 use Rattle.octets.specs.Maybe.{_>>=_, isSome}
@@ -89,48 +90,66 @@ served-number c =
     number : Effect → ℕ
     number e = e .number
 
--- the lowest of some conditions is one of their numbers
-pub lowest-most : (k : ℕ) (bs : List Bool) → lowest k bs ≤ k + length bs
+-- the lowest of some conditions is one of their numbers, or 0
+pub lowest-most : (k : ℕ) (bs : List Bool) → 1 ≤ k → lowest k bs < k + length bs
 unfolding lowest
-lowest-most k [] = omega arith
-lowest-most k (b ∷ bs) = on-if (λ (n : ℕ). n ≤ k + suc (length bs)) (λ e. omega arith) (λ e. let h : lowest (suc k) bs ≤ suc k + length bs = lowest-most (suc k) bs in omega arith)
+lowest-most k [] h = omega arith
+lowest-most k (b ∷ bs) h = on-if (λ (n : ℕ). n < k + suc (length bs)) (λ e. omega arith) (λ e. let g : lowest (suc k) bs < suc k + length bs = lowest-most (suc k) bs (omega arith) in omega arith)
 
 -- ---- a refusal
 
--- what is true of a call that is turned away, and of one that is answered
+-- what an accepted call has
+pub record Accepted (c : Call) : Type 0 where
+  pub room : roomLeast ≤ length (c .output)
+  pub strip : length (c .strip) ≡ stripSize
+  pub right : sound placeCount (c .table) ≡ true
+  pub items : Items
+  pub frame : Frame
+  pub reads : message (c .request) ≡ some items
+  pub framed : frameIn items ≡ some frame
+  pub counted : countOk frame ≡ true
+
+-- the request that an accepted call makes
+abbrev pub requestOf : Frame → Request
+requestOf frame = record { option = optionOf (frame .header .option); items = frame .items }
+
+-- what an accepted call runs
+abbrev pub ranBy : (c : Call) → Accepted c → Ran
+ranBy c a = running placeCount (c .clock) (c .strip) (c .table) (requestOf (a .frame))
+
+-- a call is turned away with a number that is not 0, or it is accepted and answered
 pub data Told (c : Call) : Effect → Type 0 where
   away : (k : ℕ) → Told c (turnedAway (c .table) (c .output) (suc k))
-  accepted : (r : Request) (items : Items) (frame : Frame)
-      → message (c .request) ≡ some items
-      → frameIn items ≡ some frame
-      → r ≡ record { option = optionOf (frame .header .option); items = frame .items }
-      → Told c (answered (c .clock) (c .output) (running placeCount (c .clock) (c .strip) (c .table) r))
+  accepted : (a : Accepted c) → Told c (answered (c .clock) (c .output) (ranBy c a))
 
--- the frame that a request was read as decides
-by-frame : (c : Call) (items : Items) → message (c .request) ≡ some items → (o : Option Frame) → frameIn items ≡ o
-    → Told c (carryOut (c .clock) (c .table) (c .strip) (c .output) (framing o))
-unfolding framing carryOut
-by-frame c items m none e = away 5
-by-frame c items m (some f) e =
-    on-if (λ (x : Framed). Told c (carryOut (c .clock) (c .table) (c .strip) (c .output) x))
-    (λ n. away 6)
-    (λ n. on-if (λ (x : Framed). Told c (carryOut (c .clock) (c .table) (c .strip) (c .output) x))
-    (λ n. away 7)
-    (λ n. on-if (λ (x : Framed). Told c (carryOut (c .clock) (c .table) (c .strip) (c .output) x))
-    (λ n. away 8)
-    (λ n. accepted _ items f m e refl)))
+module _ (c : Call) where
+  -- where the sizes and the table are right, the frame that the request was read as decides
+  by-frame : roomLeast ≤ length (c .output) → length (c .strip) ≡ stripSize → sound placeCount (c .table) ≡ true
+      → (items : Items) → message (c .request) ≡ some items → (o : Option Frame) → frameIn items ≡ o
+      → Told c (carryOut (c .clock) (c .table) (c .strip) (c .output) (framing o))
+  unfolding framing carryOut
+  by-frame room strip right items m none e = away 5
+  by-frame room strip right items m (some f) e =
+      on-if (λ (x : Framed). Told c (carryOut (c .clock) (c .table) (c .strip) (c .output) x))
+      (λ n. away 6)
+      (λ n. on-if (λ (x : Framed). Told c (carryOut (c .clock) (c .table) (c .strip) (c .output) x))
+      (λ n. away 7)
+      (λ counted. on-if (λ (x : Framed). Told c (carryOut (c .clock) (c .table) (c .strip) (c .output) x))
+      (λ n. away 8)
+      (λ n. accepted (record { room = room; strip = strip; right = right; items = items; frame = f; reads = m; framed = e; counted = not-false (countOk f) counted }))))
 
-by-reading : (c : Call) (m : Option Items) → message (c .request) ≡ m → Told c (carryOut (c .clock) (c .table) (c .strip) (c .output) (requested m))
-unfolding requested framed carryOut
-by-reading c none e = away 4
-by-reading c (some items) e = by-frame c items e (frameIn items) refl
+  by-reading : roomLeast ≤ length (c .output) → length (c .strip) ≡ stripSize → sound placeCount (c .table) ≡ true
+      → (m : Option Items) → message (c .request) ≡ m → Told c (carryOut (c .clock) (c .table) (c .strip) (c .output) (requested m))
+  unfolding requested framed carryOut
+  by-reading room strip right none e = away 4
+  by-reading room strip right (some items) e = by-frame room strip right items e (frameIn items) refl
 
--- every call is turned away or answered
-pub told : (c : Call) → Told c (served c)
-unfolding serving
-told c =
-    on-if (Told c) (λ n. away 0)
-    (λ n. on-if (Told c) (λ n. away 1)
-    (λ n. on-if (Told c) (λ n. away 2)
-    (λ n. on-if (Told c) (λ n. away 3)
-    (λ n. by-reading c (message (c .request)) refl))))
+  -- every call is turned away or answered
+  pub told : Told c (served c)
+  unfolding serving
+  told =
+      on-if (Told c) (λ n. away 0)
+      (λ room. on-if (Told c) (λ n. away 1)
+      (λ strip. on-if (Told c) (λ n. away 2)
+      (λ right. on-if (Told c) (λ n. away 3)
+      (λ n. by-reading (ltb-false (length (c .output)) roomLeast room) (eqb-true (length (c .strip)) stripSize (not-false _ strip)) (not-false _ right) (message (c .request)) refl))))

@@ -3,3 +3,4 @@
 pub mod Cases
 pub mod Chains
 pub mod Ladder
+pub mod Meets

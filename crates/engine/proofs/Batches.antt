@@ -54,12 +54,14 @@ module _ (places clock : ℕ) (strip : List ℕ) (option : ℕ) (strip-bytes : B
     where
       own : Bytes (envAt places clock strip i .fresh)
       own = own-bytes i (omega arith)
+
       own-size : materialSize ≤ length (envAt places clock strip i .fresh)
       own-size = own-long i (omega arith)
+
       turn : (did : Did) → Held places (did .table) → answerOk (answerTo asked did) ≡ true
           → Leaves later (batch places clock strip option (i + 1) (did .holder) (did .table) later)
           → Leaves (asked ∷ later)
-            (ifb (endsBatch option did) (lastly (answerTo asked did) (did .table)) (firstly (answerTo asked did) (batch places clock strip option (i + 1) (did .holder) (did .table) later)))
+          (ifb (endsBatch option did) (lastly (answerTo asked did) (did .table)) (firstly (answerTo asked did) (batch places clock strip option (i + 1) (did .holder) (did .table) later)))
       turn did g a rest =
           on-if (Leaves (asked ∷ later))
           (λ e. record { held = g; ok = and-i (answerOk (answerTo asked did)) true a refl; few = omega arith; some = λ q. omega arith })

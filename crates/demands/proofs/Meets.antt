@@ -1,0 +1,146 @@
+-- A box whose outcome is that of the definitions meets demands 1 and 2.
+-- Assumes nothing.
+use Prim.Native.Nat.{ℕ, zero, suc, _+_, _*_, _^_, _≤_, _<_}
+use native.Mathlib.Omega.{arith}
+use mathlib.Core.Path.{_≡_, refl, sym, ap, subst, _∙_}
+use mathlib.Core.Bool.{Bool, true, false, _&&_}
+use mathlib.Core.Option.{Option, none, some}
+use mathlib.Core.List.{List, [], _∷_, _++_, map}
+use lib.ListN.{length, take, drop, length-append, length-drop}
+use lib.Seq.{take-at, drop-at}
+use lib.Dec.{leb, ltb, eqb}
+use borrow.Author.Tests.{leb-true, eqb-true, le-leb, lt-ltb}
+use Rattle.octets.specs.Octets.{Bytes, over, all}
+use Rattle.octets.proofs.Over.{length-over}
+use Rattle.ttlv.specs.Items.{Items, encode}
+use Rattle.ttlv.specs.Parse.{message}
+use Rattle.ttlv.proofs.Message.{message-spells}
+use Rattle.table.specs.Layout.{placeCount, materialSize}
+use Rattle.soundness.proofs.Bools.{and-l, and-r, and-i}
+use Rattle.keeps.proofs.Keeps.{Held}
+use Rattle.frame.specs.Frame.{Asked, Frame, Request, optionOf, countOk, batchMost}
+use Rattle.answer.specs.Respond.{Answer, Response, respond}
+use Rattle.answer.specs.Read.{answersIn, answerOk, allowed}
+use Rattle.answer.specs.Front.{responseMost}
+use Rattle.answer.proofs.Front.{response-size}
+use Rattle.answer.proofs.Answers.{answers-back}
+use Rattle.answer.proofs.One.{response-message, bytes-one}
+use Rattle.engine.specs.Batch.{Ran, batch, running}
+use Rattle.engine.specs.Serving.{Effect, roomLeast, stripSize, turnedAway, responseTo, answered, serving}
+use Rattle.engine.proofs.Batches.{Small, Leaves, batch-leaves}
+use Rattle.demands.specs.Box.{Call, Box, Lent}
+use Rattle.demands.specs.Demand1.{Demand1, Untouched, Within, refusals}
+use Rattle.demands.specs.Demand2.{Demand2, Answered, Link, answerOf, Chain, refusalConditions, lowest}
+use Rattle.demands.proofs.Chains.{Chained, batch-chain}
+use Rattle.demands.proofs.Ladder.{served, served-number, lowest-most, Accepted, requestOf, ranBy, Told, away, accepted, told}
+
+-- the items of an accepted request, as its frame bounds them
+abbrev pub Bounded : Type 0
+Bounded = (c : Call) → Lent c → (a : Accepted c) → Small (a .frame .items)
+
+module _ (small : Bounded) (c : Call) (lent : Lent c) (a : Accepted c) where
+  -- 1 to 16 items
+  count-facts : (1 ≤ length (a .frame .items)) × (length (a .frame .items) ≤ batchMost)
+  count-facts =
+      let n = a .frame .header .count in
+      let m = length (a .frame .items) in
+      let two : (leb 1 n && leb n batchMost) ≡ true = and-l (leb 1 n && leb n batchMost) (eqb n m) (a .counted) in
+      let same : n ≡ m = eqb-true n m (and-r (leb 1 n && leb n batchMost) (eqb n m) (a .counted)) in
+      let low : 1 ≤ n = leb-true 1 n (and-l (leb 1 n) (leb n batchMost) two) in
+      let high : n ≤ batchMost = leb-true n batchMost (and-r (leb 1 n) (leb n batchMost) two) in
+      (omega arith, omega arith)
+
+  -- what the batch of an accepted call leaves
+  pub ran-leaves : Leaves placeCount (c .clock) (c .strip) (optionOf (a .frame .header .option)) (lent .strip) (a .frame .items) (ranBy c a)
+  unfolding running
+  ran-leaves =
+      batch-leaves placeCount (c .clock) (c .strip) (optionOf (a .frame .header .option)) (lent .strip) (a .frame .items) 0 0 (c .table)
+      (record { right = a .right; bytes = lent .table }) (small c lent a) (omega (arith, count-facts .1, a .strip))
+
+  -- its response is one that there is
+  pub ran-allowed : allowed (responseTo (c .clock) (ranBy c a)) ≡ true
+  unfolding allowed
+  ran-allowed =
+      let n = length (ranBy c a .answers) in
+      and-i _ (all answerOk (ranBy c a .answers))
+      (and-i _ (leb n batchMost)
+      (and-i (ltb (c .clock) (2 ^ 64)) (leb 1 n) (lt-ltb (c .clock) (2 ^ 64) (lent .clock)) (le-leb 1 n (ran-leaves .some (count-facts .0))))
+      (le-leb n batchMost (omega (arith, ran-leaves .few, count-facts .1))))
+      (ran-leaves .ok)
+
+  -- the bytes of its response
+  abbrev pub spelling : List ℕ
+  spelling = encode (respond (responseTo (c .clock) (ranBy c a)))
+
+  pub spelling-short : length spelling ≤ roomLeast
+  spelling-short = response-size (responseTo (c .clock) (ranBy c a)) ran-allowed
+
+  pub front-is : take (length spelling) (over spelling (c .output)) ≡ spelling
+  front-is = take-at spelling (drop (length spelling) (c .output)) (length spelling) refl
+
+  within : Within c (answered (c .clock) (c .output) (ranBy c a))
+  unfolding answered
+  within = record {
+    short = spelling-short;
+    room = omega (arith, spelling-short, a .room);
+    same-room = length-over spelling (c .output) (omega (arith, spelling-short, a .room));
+    past = drop-at spelling (drop (length spelling) (c .output)) (length spelling) refl;
+  }
+
+  given : Answered c (answered (c .clock) (c .output) (ranBy c a))
+  unfolding answered running
+  given =
+      let chained = batch-chain c (optionOf (a .frame .header .option)) (a .frame .items) 0 0 (c .table) in
+      let r : Response = responseTo (c .clock) (ranBy c a) in
+      let same : r ≡ record { clock = c .clock; answers = map answerOf (chained .links) } = ap (λ (rs : List Answer). record { clock = c .clock; answers = rs }) (sym (chained .answers)) in
+      record {
+        items = a .items;
+        frame = a .frame;
+        reads = a .reads;
+        spelled = message-spells (c .request) (a .items) (lent .request) (a .reads);
+        framed = a .framed;
+        links = chained .links;
+        chain = chained .chain;
+        response = respond r;
+        readable = ap message front-is ∙ response-message r ran-allowed;
+        read-back = answers-back r ran-allowed ∙ ap some same;
+        one-response = λ q ok e. bytes-one q r ok ran-allowed (e ∙ front-is) ∙ same;
+      }
+
+-- ---- the demands
+
+module _ (small : Bounded) (B : Box) (is : (c : Call) (e : Effect) → Lent c → B c e → e ≡ served c) (has : (c : Call) → Lent c → (e : Effect) × B c e) where
+  -- what holds of every outcome that the definitions give holds of the box
+  by-told : (P : (c : Call) → Effect → Type 0) → ((c : Call) (e : Effect) → Lent c → Told c e → P c e) → (c : Call) (e : Effect) → Lent c → B c e → P c e
+  by-told P f c e lent b = subst (P c) (sym (is c e lent b)) (f c (served c) lent (told c))
+
+  told-refused : (c : Call) (e : Effect) → Lent c → Told c e → (e .number ≡ 0 → ⊥) → Untouched c e
+  unfolding answered
+  told-refused c e lent (away k) h = record { length = refl; table = refl; output = refl }
+  told-refused c e lent (accepted a) h = absurd (h refl)
+
+  told-within : (c : Call) (e : Effect) → Lent c → Told c e → e .number ≡ 0 → Within c e
+  told-within c e lent (away k) h = absurd (omega arith)
+  told-within c e lent (accepted a) h = within small c lent a
+
+  told-given : (c : Call) (e : Effect) → Lent c → Told c e → e .number ≡ 0 → Answered c e
+  told-given c e lent (away k) h = absurd (omega arith)
+  told-given c e lent (accepted a) h = given small c lent a
+
+  pub meets-1 : Demand1 B
+  unfolding refusalConditions
+  meets-1 = record {
+    ends = has;
+    numbered = λ c e lent b.
+        let n : e .number ≡ lowest 1 (refusalConditions c) = ap (λ (x : Effect). x .number) (is c e lent b) ∙ served-number c in
+        let m : lowest 1 (refusalConditions c) < 1 + 9 = lowest-most 1 (refusalConditions c) (omega arith) in
+        omega arith;
+    refused = by-told (λ c e. (e .number ≡ 0 → ⊥) → Untouched c e) told-refused;
+    answered = by-told (λ c e. e .number ≡ 0 → Within c e) told-within;
+  }
+
+  pub meets-2 : Demand2 B
+  meets-2 = record {
+    number = λ c e lent b. ap (λ (x : Effect). x .number) (is c e lent b) ∙ served-number c;
+    answered = by-told (λ c e. e .number ≡ 0 → Answered c e) told-given;
+  }
