@@ -4,3 +4,4 @@ pub mod Cases
 pub mod Chains
 pub mod Ladder
 pub mod Meets
+pub mod Counted
