@@ -1,23 +1,21 @@
 -- Laws of the blank table: its size, its lead, and that every place is free and zero.
 -- Assumes nothing; over the number n of places.
 use mathlib.Core.Path.{_≡_, refl, sym, ap, ap₂, _∙_}
-use Prim.Native.Nat.{ℕ, zero, suc, _+_, _-_, _*_, _^_, _≤_, _<_}
-use native.Mathlib.Nat.{add-assoc}
+use Prim.Native.Nat.{ℕ, zero, _+_, _-_, _^_, _≤_, _<_}
 use native.Mathlib.Omega.{arith}
 use native.Mathlib.Decide.{ℕ-discrete}
-use mathlib.Core.Bool.{Bool, true}
-use mathlib.Core.List.{List, _++_}
+use mathlib.Core.Bool.{true}
+use mathlib.Core.List.{List}
 use lib.ListN.{length, take, drop, replicate, length-append, length-replicate}
-use lib.Seq.{take-at, drop-at, drop-drop}
-use Rattle.octets.specs.Octets.{be, fromBe, part, allZero, Bytes}
+use lib.Seq.{drop-drop}
+use Rattle.octets.specs.Octets.{be, part, allZero, Bytes}
 use Rattle.octets.proofs.Numbers.{length-be, be-zero, fromBe-be, be-bytes, bytes-append}
-use Rattle.octets.proofs.Stores.{part-part}
 use Rattle.table.specs.declared.Record.{Record}
 use Rattle.table.specs.declared.Found.the-variants.{Nothing}
 use Rattle.table.specs.Layout.{lineSize, bodySize, materialSize, lineOf, bodyOf, sizeOf}
 use Rattle.table.specs.Records.{line, body, lineBytes, bodyBytes, recordOf, placeAt, serialAt, zerosIn, lastSerial, placesSaid, leadZeros, blank}
 use Rattle.table.specs.Search.{find}
-use Rattle.table.proofs.Zeros.{zeros-pass, pass-zeros, fromBe-zeros, part-zeros, bytes-zeros}
+use Rattle.table.proofs.Zeros.{zeros-pass, pass-zeros, part-zeros, bytes-zeros}
 use Rattle.table.proofs.Lines.{InRange, recordOf-bytes}
 use Rattle.table.proofs.Places.{length-line-at, length-body-at, line-is, body-is, serial-is}
 use Rattle.table.proofs.Finds.{find-zero, none-find}
@@ -89,7 +87,7 @@ test-zeros s l e = pass-zeros s e ∙ ap (λ (k : ℕ). replicate k 0) l ∙ sym
 
 pub length-blank : (n : ℕ) → length (blank n) ≡ sizeOf n
 unfolding blank
-length-blank n = rw (length-append, length-append, length-be, length-be, length-replicate) (omega arith)
+length-blank n = rw (length-append, length-append, length-be 4 0, length-be 4 n, length-replicate) (omega arith)
 
 pub bytes-blank : (n : ℕ) → Bytes (blank n)
 unfolding blank

@@ -2,26 +2,25 @@
 -- Assumes nothing; over the number n of places, of tables of the right size.
 use mathlib.Core.Path.{_≡_, refl, sym, ap, _∙_}
 use mathlib.Core.Logic.{_⊎_, inl, inr, ⊎-elim}
-use Prim.Native.Nat.{ℕ, _+_, _*_, _≤_, _<_}
+use Prim.Native.Nat.{ℕ, _<_}
 use native.Mathlib.Omega.{arith}
 use native.Mathlib.Decide.{ℕ-discrete}
-use mathlib.Core.Bool.{Bool, true, false, _||_, true≢false, false≢true}
+use mathlib.Core.Bool.{Bool, true, false, true≢false}
 use mathlib.Core.List.{List}
 use lib.ListN.{length}
 use lib.Dec.{eqb}
 use borrow.Author.Tests.{eq-eqb, ne-eqb, eqb-true, eqb-false}
-use Rattle.octets.specs.If.{ifb}
 use Rattle.octets.proofs.If.{ifb-true, ifb-false, on-bool}
 use Rattle.table.specs.declared.Record.{Record}
 use Rattle.table.specs.declared.Found.{Found}
 use Rattle.table.specs.declared.Found.the-variants.{At, Nothing}
-use Rattle.table.specs.Layout.{materialSize, sizeOf}
+use Rattle.table.specs.Layout.{sizeOf}
 use Rattle.table.specs.Records.{withPlace, withLast, serialAt, stateAt, isFree}
 use Rattle.table.specs.Search.{first, hasSerial, isNothing, find, orElse, isDestroyed, freePlace, destroyedPlace, newPlace}
 use Rattle.table.proofs.Lines.{InRange}
 use Rattle.table.proofs.Places.{serial-same, serial-other, serial-with}
-use Rattle.table.proofs.Lead.{serial-last, state-last}
-use Rattle.table.proofs.First.{At-not, on-found, isNothing-none, found-below, found-test, found-lowest, found-is, found-only, none-fails, fails-none, first-cong}
+use Rattle.table.proofs.Lead.{serial-last}
+use Rattle.table.proofs.First.{At-not, on-found, isNothing-none, found-below, found-test, found-lowest, found-is, none-fails, fails-none, first-cong}
 
 -- ---- a record by its serial
 

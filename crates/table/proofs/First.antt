@@ -5,12 +5,11 @@ use mathlib.Core.Logic.{⊎-elim}
 use Prim.Native.Nat.{ℕ, zero, suc, _+_, _-_, _≤_, _<_}
 use native.Mathlib.Omega.{arith}
 use native.Mathlib.Nat.{eq-or-lt-of-le}
-use mathlib.Core.Bool.{Bool, true, false, true≢false, false≢true}
-use Rattle.octets.specs.If.{ifb}
-use Rattle.octets.proofs.If.{ifb-true, ifb-false, on-if, on-bool}
+use mathlib.Core.Bool.{Bool, true, false, false≢true}
+use Rattle.octets.proofs.If.{ifb-true, ifb-false, on-bool}
 use Rattle.table.specs.declared.Found.{Found}
 use Rattle.table.specs.declared.Found.the-variants.{At, Nothing}
-use Rattle.table.specs.Search.{firstFrom, first, isNothing, orElse}
+use Rattle.table.specs.Search.{firstFrom, first, isNothing}
 
 -- ---- the two answers
 

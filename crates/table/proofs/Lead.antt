@@ -1,8 +1,8 @@
 -- Laws of the lead: the last serial issued, the place count and the zeros, under stores at places and under a new last serial.
 -- Assumes nothing; over the number n of places, of tables of the right size.
-use mathlib.Core.Path.{_≡_, refl, sym, ap, ap₂, _∙_}
-use mathlib.Core.Logic.{_⊎_, inl, inr}
-use Prim.Native.Nat.{ℕ, _+_, _*_, _^_, _≤_, _<_}
+use mathlib.Core.Path.{_≡_, ap, ap₂, _∙_}
+use mathlib.Core.Logic.{inl, inr}
+use Prim.Native.Nat.{ℕ, _+_, _^_, _≤_, _<_}
 use native.Mathlib.Omega.{arith}
 use mathlib.Core.List.{List}
 use lib.ListN.{length}
@@ -14,8 +14,7 @@ use Rattle.table.specs.declared.Record.{Record}
 use Rattle.table.specs.Layout.{lineSize, bodySize, materialSize, lineOf, bodyOf, sizeOf}
 use Rattle.table.specs.Records.{lineBytes, bodyBytes, recordOf, zerosIn, placeAt, withPlace, serialAt, stateAt, lastSerial, withLast, placesSaid, leadZeros}
 use Rattle.table.proofs.Zeros.{bytes-sets}
-use Rattle.table.proofs.Lines.{length-line, length-body}
-use Rattle.table.proofs.Places.{part-with, serial-is, state-is, sets-swap}
+use Rattle.table.proofs.Places.{part-with, sets-swap}
 
 -- ---- a store at a place keeps the lead
 

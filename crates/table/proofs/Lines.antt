@@ -1,15 +1,15 @@
 -- Laws of the bytes of a record: what a line and a body say is what was written, and what bytes say is written as it was.
 -- Assumes nothing.
 use mathlib.Core.Path.{_≡_, refl, sym, ap, ap₂, _∙_}
-use Prim.Native.Nat.{ℕ, zero, suc, _+_, _-_, _*_, _^_, _≤_, _<_}
+use Prim.Native.Nat.{ℕ, _+_, _-_, _^_, _≤_, _<_}
 use native.Mathlib.Nat.{add-assoc, le-of-eq}
 use native.Mathlib.Omega.{arith}
-use mathlib.Core.List.{List, [], _∷_, _++_}
-use lib.ListN.{length, take, drop, replicate, length-append}
+use mathlib.Core.List.{List, _++_}
+use lib.ListN.{length, take, drop, length-append}
 use lib.Seq.{sets, take-all, take-add, drop-drop}
 use Rattle.octets.specs.Octets.{be, fromBe, part, Bytes}
 use Rattle.octets.proofs.Numbers.{length-be, be-bytes, be-part, fromBe-be, fromBe-lt, bytes-append, bytes-take, bytes-drop}
-use Rattle.octets.proofs.Stores.{sets-append, length-part, part-part}
+use Rattle.octets.proofs.Stores.{sets-append, length-part}
 use Rattle.table.specs.declared.Record.{Record}
 use Rattle.table.specs.Layout.{lineSize, bodySize, materialSize}
 use Rattle.table.specs.Records.{line, body, lineBytes, bodyBytes, recordOf, zerosIn}

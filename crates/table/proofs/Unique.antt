@@ -23,16 +23,10 @@ use Rattle.table.proofs.places_said.Reads as places-said-reads
 use Rattle.table.proofs.places_said.Kinds as places-said-kinds
 use Rattle.table.proofs.serial_at.Reads as serial-at-reads
 use Rattle.table.proofs.serial_at.Kinds as serial-at-kinds
-use Rattle.table.proofs.state_at.Reads as state-at-reads
-use Rattle.table.proofs.state_at.Kinds as state-at-kinds
 use Rattle.table.proofs.is_destroyed.Reads as is-destroyed-reads
 use Rattle.table.proofs.is_destroyed.Kinds as is-destroyed-kinds
 use Rattle.table.proofs.find.Reads as find-reads
 use Rattle.table.proofs.find.Kinds as find-kinds
-use Rattle.table.proofs.free_place.Reads as free-place-reads
-use Rattle.table.proofs.free_place.Kinds as free-place-kinds
-use Rattle.table.proofs.destroyed_place.Reads as destroyed-place-reads
-use Rattle.table.proofs.destroyed_place.Kinds as destroyed-place-kinds
 use Rattle.table.proofs.new_place.Reads as new-place-reads
 use Rattle.table.proofs.new_place.Kinds as new-place-kinds
 
@@ -72,10 +66,6 @@ pub serial-at-unique : (κs : Lfts 1) (a : Dens κs serial-at-kinds.ps) (r r′ 
     → serial-at-reads.Post κs a r s → serial-at-reads.Post κs a r′ s′ → r ≡ r′
 serial-at-unique κs a r r′ s s′ p q = p ∙ sym q
 
-pub state-at-unique : (κs : Lfts 1) (a : Dens κs state-at-kinds.ps) (r r′ : resT state-at-kinds.r κs .Denot) (s s′ : AtExit (endedOf 1 state-at-kinds.ps state-at-kinds.r) κs)
-    → state-at-reads.Post κs a r s → state-at-reads.Post κs a r′ s′ → r ≡ r′
-state-at-unique κs a r r′ s s′ p q = p ∙ sym q
-
 pub is-destroyed-unique : (κs : Lfts 0) (a : Dens κs is-destroyed-kinds.ps) (r r′ : resT is-destroyed-kinds.r κs .Denot) (s s′ : AtExit (endedOf 0 is-destroyed-kinds.ps is-destroyed-kinds.r) κs)
     → is-destroyed-reads.Post κs a r s → is-destroyed-reads.Post κs a r′ s′ → r ≡ r′
 is-destroyed-unique κs a r r′ s s′ p q = p ∙ sym q
@@ -83,14 +73,6 @@ is-destroyed-unique κs a r r′ s s′ p q = p ∙ sym q
 pub find-unique : (κs : Lfts 1) (a : Dens κs find-kinds.ps) (r r′ : resT find-kinds.r κs .Denot) (s s′ : AtExit (endedOf 1 find-kinds.ps find-kinds.r) κs)
     → find-reads.Post κs a r s → find-reads.Post κs a r′ s′ → r ≡ r′
 find-unique κs a r r′ s s′ p q = p ∙ sym q
-
-pub free-place-unique : (κs : Lfts 1) (a : Dens κs free-place-kinds.ps) (r r′ : resT free-place-kinds.r κs .Denot) (s s′ : AtExit (endedOf 1 free-place-kinds.ps free-place-kinds.r) κs)
-    → free-place-reads.Post κs a r s → free-place-reads.Post κs a r′ s′ → r ≡ r′
-free-place-unique κs a r r′ s s′ p q = p ∙ sym q
-
-pub destroyed-place-unique : (κs : Lfts 1) (a : Dens κs destroyed-place-kinds.ps) (r r′ : resT destroyed-place-kinds.r κs .Denot) (s s′ : AtExit (endedOf 1 destroyed-place-kinds.ps destroyed-place-kinds.r) κs)
-    → destroyed-place-reads.Post κs a r s → destroyed-place-reads.Post κs a r′ s′ → r ≡ r′
-destroyed-place-unique κs a r r′ s s′ p q = p ∙ sym q
 
 pub new-place-unique : (κs : Lfts 1) (a : Dens κs new-place-kinds.ps) (r r′ : resT new-place-kinds.r κs .Denot) (s s′ : AtExit (endedOf 1 new-place-kinds.ps new-place-kinds.r) κs)
     → new-place-reads.Post κs a r s → new-place-reads.Post κs a r′ s′ → r ≡ r′

@@ -5,12 +5,11 @@ use Prim.Native.Nat.{ℕ, zero, suc, _+_, _-_, _^_, _≤_, _<_}
 use native.Mathlib.Nat.{pow-zero, pow-suc}
 use native.Mathlib.Omega.{arith}
 use mathlib.Core.Bool.{Bool, true, false, _&&_}
-use mathlib.Core.List.{List, [], _∷_, _++_}
-use lib.ListN.{length, take, drop, set, getD, replicate, length-replicate}
+use mathlib.Core.List.{List, [], _∷_}
+use lib.ListN.{length, take, drop, set, replicate}
 use lib.Seq.{sets}
-use lib.Dec.{eqb}
-use borrow.Author.Tests.{eqb-true, eqb-false}
-use Rattle.octets.specs.Octets.{be, fromBe, part, all, isZero, allZero, Bytes}
+use borrow.Author.Tests.{eqb-true}
+use Rattle.octets.specs.Octets.{fromBe, part, all, isZero, allZero, Bytes}
 use Rattle.octets.proofs.Numbers.{fromBe-be, be-zero}
 
 -- zeros pass the test

@@ -1,8 +1,7 @@
 // The stored table: lent bytes with a lead, a line for each place and a body for each place.
-// It knows nothing of TTLV and nothing of what may happen to a key. Functions over a table of n places ask for its size: the check of the table shows it before any of them is called.
+// It knows nothing of TTLV and nothing of what may happen to a key. What the functions ask, the size of the table, was shown by the check of it before any of them is called; that a place is one of the table's, by the search that gave it.
 ghost use mathlib.Core.Path.{_≡_};
-ghost use mathlib.Core.Bool.{Bool};
-ghost use Prim.Native.Nat.{_+_, _*_, _^_, _≤_, _<_};
+ghost use Prim.Native.Nat.{_+_, _^_, _≤_, _<_};
 ghost use lib.ListN.{length};
 ghost use lib.Seq.{sets};
 ghost use Rattle.octets.specs.Octets.{fromBe, part};
@@ -69,7 +68,7 @@ pub enum Found {
     Nothing,
 }
 
-// The number that `width` bytes from `at` on spell: one reader for every field.
+// The number that `width` bytes from `at` on spell: one reader for every field. Its callers show that the field lies in the table.
 fn field(t: &[u8], at: usize, width: usize) -> u64
     requires { ⌜ (at + width ≤ length (now t)) × (width ≤ 8) ⌝ }
     ensures { λ r. ⌜ (r ≡ fromBe (part (now (t .entry)) at width)) × (r < 256 ^ width) ⌝ }
@@ -77,7 +76,7 @@ fn field(t: &[u8], at: usize, width: usize) -> u64
     octets::number(&t[at..at + width])
 }
 
-// The material that stands from `at` on.
+// The material that stands from `at` on; its caller shows that it lies in the table.
 fn material_at(t: &[u8], at: usize) -> [u8; 32]
     requires { ⌜ at + materialSize ≤ length (now t) ⌝ }
     ensures { λ r. ⌜ r ≡ part (now (t .entry)) at materialSize ⌝ }
@@ -123,7 +122,7 @@ pub fn load(t: &[u8], n: usize, i: usize) -> Record
     }
 }
 
-// Writes a line from `at` on.
+// Writes a line from `at` on; its caller shows that it lies in the table.
 fn put_line(
     t: &mut [u8],
     at: usize,
@@ -145,7 +144,7 @@ fn put_line(
     octets::put(t, at + 12, 4, replacement as u64);
 }
 
-// Writes a body from `at` on.
+// Writes a body from `at` on; its caller shows that it lies in the table.
 fn put_body(t: &mut [u8], at: usize, total: u64, count: u64, mask: u32, material: [u8; 32])
     requires { ⌜ at + bodySize ≤ length (now t) ⌝ }
     ensures { λ _. ⌜ now (t .exit) ≡ sets (now (t .entry)) at (body total count mask material) ⌝ }
@@ -213,7 +212,7 @@ pub fn serial_at(t: &[u8], i: usize) -> u32
 }
 
 // The state of place i, read by itself.
-pub fn state_at(t: &[u8], i: usize) -> u8
+fn state_at(t: &[u8], i: usize) -> u8
     requires { ⌜ lineOf i + lineSize ≤ length (now t) ⌝ }
     ensures { λ r. ⌜ r ≡ stateAt (now (t .entry)) i ⌝ }
 {
@@ -228,7 +227,7 @@ pub fn is_destroyed(state: u8) -> bool
     (state == 5) | (state == 6)
 }
 
-// The lowest place whose serial is this one, zero and all.
+// The lowest place whose serial is this one; zero finds a free place.
 fn place_with(t: &[u8], n: usize, serial: u32) -> Found
     requires { ⌜ length (now t) ≡ sizeOf n ⌝ }
     ensures { λ r. ⌜ r ≡ first n (hasSerial (now (t .entry)) serial) ⌝ }
@@ -255,7 +254,7 @@ pub fn find(t: &[u8], n: usize, serial: u32) -> Found
 }
 
 // The lowest free place.
-pub fn free_place(t: &[u8], n: usize) -> Found
+fn free_place(t: &[u8], n: usize) -> Found
     requires { ⌜ length (now t) ≡ sizeOf n ⌝ }
     ensures { λ r. ⌜ r ≡ freePlace n (now (t .entry)) ⌝ }
 {
@@ -263,7 +262,7 @@ pub fn free_place(t: &[u8], n: usize) -> Found
 }
 
 // The lowest place in state 5 or 6.
-pub fn destroyed_place(t: &[u8], n: usize) -> Found
+fn destroyed_place(t: &[u8], n: usize) -> Found
     requires { ⌜ length (now t) ≡ sizeOf n ⌝ }
     ensures { λ r. ⌜ r ≡ destroyedPlace n (now (t .entry)) ⌝ }
 {

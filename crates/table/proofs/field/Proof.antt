@@ -1,10 +1,9 @@
 -- `table::field`. What is lent to the number reader is the field.
 -- Assumes nothing.
-use Prim.Native.Nat.{ℕ, _+_, _^_, _≤_, _<_}
-use mathlib.Core.Path.{_≡_, refl, sym, ap, _∙_, subst}
-use mathlib.Core.List.{List}
+use Prim.Native.Nat.{ℕ, _^_, _<_}
+use mathlib.Core.Path.{ap, _∙_, subst}
 use lib.ListN.{length}
-use Rattle.octets.specs.Octets.{fromBe, part}
+use Rattle.octets.specs.Octets.{fromBe}
 use Rattle.octets.proofs.Stores.{length-part}
 use Rattle.table.proofs.Lines.{lent-field}
 use borrow.Author.Needs.{needs}

@@ -1,7 +1,7 @@
 -- `table::find`. Zero is not looked for.
 -- Assumes nothing.
-use mathlib.Core.Path.{_≡_, refl, sym, ap, _∙_}
-use borrow.Author.Tests.{eq-eqb, ne-eqb}
+use mathlib.Core.Path.{sym, _∙_}
+use borrow.Author.Tests.{eq-eqb}
 use Rattle.octets.proofs.If.{ifb-true}
 use Rattle.table.proofs.Finds.{find-first}
 use Rattle.table.specs.Search.{find}

@@ -1,6 +1,6 @@
 -- `table::is_nothing`. The two answers.
 -- Assumes nothing.
-use mathlib.Core.Path.{_≡_, sym, ap, _∙_}
+use mathlib.Core.Path.{sym}
 use Rattle.table.proofs.First.{isNothing-at, isNothing-none}
 use borrow.Author.Needs.{needs}
 use Rattle.table.proofs.is_nothing.Statement.{statement}

@@ -1,9 +1,8 @@
 -- `table::new_place`. A destroyed place is looked for only where none is free.
 -- Assumes nothing.
-use mathlib.Core.Path.{_≡_, sym, ap, _∙_}
-use mathlib.Core.Bool.{Bool, true, false}
+use mathlib.Core.Path.{sym, ap, _∙_}
 use borrow.Author.Tests.{not-true, not-false}
-use Rattle.table.specs.Search.{isNothing, freePlace}
+use Rattle.table.specs.Search.{isNothing}
 use Rattle.table.proofs.First.{isNothing-is}
 use Rattle.table.proofs.Finds.{new-if-free, new-destroyed}
 use borrow.Author.Needs.{needs}
