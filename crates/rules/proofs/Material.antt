@@ -1,4 +1,4 @@
--- Laws of new material: the first bytes of a part of the fresh strip, then zeros, 32 in all.
+-- Laws of material: the first bytes of a part of the fresh strip, then zeros, 32 in all; and what a move leaves of it.
 -- Assumes nothing.
 use mathlib.Core.Path.{_≡_, sym, ap, _∙_}
 use Prim.Native.Nat.{ℕ, _+_, _-_, _/_, _≤_, min}
@@ -8,12 +8,16 @@ use mathlib.Core.Bool.{true}
 use mathlib.Core.List.{List, _++_}
 use lib.ListN.{length, take, drop, replicate, length-append, length-take, length-replicate}
 use lib.Seq.{sets, length-take-le, take-append-le, take-append-add, take-take, drop-at}
+use borrow.Author.Tests.{eq-eqb, ne-eqb}
+use Rattle.octets.proofs.If.{ifb-true, ifb-false}
 use Rattle.octets.specs.Octets.{Bytes, allZero, over}
 use Rattle.octets.proofs.Numbers.{bytes-append, bytes-take}
 use Rattle.octets.proofs.Stores.{take-there, sets-whole, sets-over}
 use Rattle.table.proofs.Zeros.{zeros-pass, bytes-zeros, drop-zeros, part-zeros}
 use Rattle.table.specs.Layout.{materialSize}
-use Rattle.rules.specs.Records.{materialFrom}
+use Rattle.table.specs.declared.Record.{Record}
+use Rattle.rules.specs.Numbers.{destroy}
+use Rattle.rules.specs.Records.{materialFrom, inState, movedTo}
 
 abbrev pub zeros : ℕ → List ℕ
 zeros n = replicate n 0
@@ -77,3 +81,15 @@ module _ (bits : ℕ) (fresh : List ℕ) where
       ap (λ (s : List ℕ). allZero (drop (bits / 8) s)) (material-plain h k)
       ∙ ap allZero (drop-at (take (bits / 8) fresh) (zeros (materialSize - bits / 8)) (bits / 8) (length-take-le (bits / 8) fresh k))
       ∙ zeros-pass (materialSize - bits / 8)
+
+-- ---- what a move leaves of it
+
+module _ (operation state : ℕ) (r : Record) where
+  -- "all 32 material bytes zeroed"
+  pub moved-destroy : operation ≡ destroy → movedTo operation state r ≡ inState state (zeros materialSize) r
+  unfolding movedTo
+  moved-destroy e = ap (λ (m : List ℕ). inState state m r) (ifb-true _ _ _ (eq-eqb operation destroy e))
+
+  pub moved-other : (operation ≡ destroy → ⊥) → movedTo operation state r ≡ inState state (r .material) r
+  unfolding movedTo
+  moved-other h = ap (λ (m : List ℕ). inState state m r) (ifb-false _ _ _ (ne-eqb operation destroy h))

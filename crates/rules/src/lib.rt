@@ -1,7 +1,6 @@
 // The life of one record, by value: which operation may move it, what it grants, how it begins, is replaced and is destroyed.
 // It knows nothing of TTLV. Records are those of the table crate.
 ghost use mathlib.Core.Path.{_≡_};
-ghost use lib.ListN.{length};
 ghost use Rattle.rules.specs.Numbers.{reasonNumber};
 ghost use Rattle.rules.specs.States.{nextState, granting};
 ghost use Rattle.rules.specs.Records.{materialFrom, newRecord, heirOf, linkedTo, movedTo, withCount};
@@ -31,7 +30,7 @@ pub enum Granted {
     Denied(Reason),
 }
 
-// The attributes that Create gives to a key; unit, total 0 mean no usage limit.
+// The attributes that Create gives to a key; unit 0 and total 0 mean no usage limit.
 pub struct Attributes {
     pub bits: u16,
     pub mask: u32,
@@ -39,12 +38,14 @@ pub struct Attributes {
     pub total: u64,
 }
 
+// The operations that move a state, as `Numbers` has them.
 const ACTIVATE: u32 = 0x12;
 
 const REVOKE: u32 = 0x13;
 
 const DESTROY: u32 = 0x14;
 
+// The states, as `Numbers` has them.
 const PRE_ACTIVE: u8 = 1;
 
 const ACTIVE: u8 = 2;

@@ -1,19 +1,19 @@
--- `moved_to` meets its contract: Destroy takes the arm with the zeros, any other operation the one that keeps the material.
+-- `moved_to` meets its contract: Destroy zeroes the material, any other operation keeps it.
 -- Assumes nothing.
-use borrow.Author.Tests.{eq-eqb, ne-eqb}
-use Rattle.octets.specs.If.{ifb}
-use Rattle.rules.specs.Records.{movedTo, inState}
+use mathlib.Core.Path.{sym}
+use native.Mathlib.Omega.{arith}
+use Rattle.rules.specs.Records.{inState}
+use Rattle.rules.proofs.Material.{moved-destroy, moved-other}
 use Rattle.rules.proofs.moved_to.Statement.{statement}
 use Rattle.rules.proofs.moved_to.Tie as tie
 
 returns : tie.Need-returns
-unfolding movedTo inState ifb
-returns c = rw (eq-eqb _ 20 (c .before .if1 .taken))
+unfolding inState
+returns c = let a = c .before .before .args in sym (moved-destroy (a .operation) (a .state) (a .old) (omega arith))
 
 returns-2 : tie.Need-returns-2
-unfolding movedTo inState ifb
-returns-2 c = rw (ne-eqb _ 20 (c .if1 .left))
+unfolding inState
+returns-2 c = let a = c .before .args in sym (moved-other (a .operation) (a .state) (a .old) (omega arith))
 
 pub moved-to-spec : {M : Type 1} → statement M
-moved-to-spec =
-    tie.close (tie.spec returns returns-2)
+moved-to-spec = tie.close (tie.spec returns returns-2)
