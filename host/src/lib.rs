@@ -1,5 +1,5 @@
 //! Junctionmoth for Rust hosts: the proved engine behind a safe call, and what it is tested and raced against.
-//! With the feature `archive` (the default) the proved engine is linked; the contract of its C function is assumed here.
+//! With the feature `archive` (the default) the proved engine is linked; that it keeps its contract is assumed here.
 
 use std::fmt;
 

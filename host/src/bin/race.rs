@@ -26,7 +26,6 @@ struct Buffers {
 }
 
 const METHOD: &str = "\
-Nanoseconds a call: the fastest of many short rounds, the engines taking turns within them.
 Before each call the table is restored by copying its 4,624 bytes from a kept one; the time of that copy, measured in
 rounds of its own, is taken off. The output is not restored: no engine reads it, and a call writes its response whole.
 ";
@@ -42,6 +41,7 @@ fn main() {
     if cfg!(debug_assertions) {
         println!("This is no release build: its times say nothing. Use cargo run --release --bin race");
     }
+    println!("Nanoseconds a call, as in the fastest of {ROUNDS} rounds of {CALLS} calls, the engines taking turns.");
     println!("{METHOD}");
     println!("{:44} {:>9} {:>9} {:>6}  items that succeed", "", "proved", "ordinary", "ratio");
     let restore = fastest((0..ROUNDS).map(|_| restoring(&full())).collect());

@@ -202,7 +202,7 @@ fn sound_links(lines: &[[u8; LINE]; PLACES]) -> bool {
         *slot = line;
         number += 1;
     }
-    let (standing, _) = room.split_at_mut(number);
+    let Some(standing) = room.get_mut(..number) else { return false };
     standing.sort_unstable_by_key(|line| line.serial);
     standing.windows(2).all(|pair| pair[0].serial != pair[1].serial)
         && standing.iter().all(|line| links_mutual(line, standing))

@@ -105,7 +105,8 @@ impl Coverage {
                     self.note_if("placeholder emptied by a failure: Object Not Found", not_found && issued);
                 }
                 Ok(Order::Target(Target::Identifier(text), _)) => {
-                    let lower = table.standing().any(|record| identifier(record.serial).to_lowercase() == text);
+                    let lower = text.bytes().any(|byte| byte.is_ascii_lowercase())
+                        && table.standing().any(|record| identifier(record.serial) == text.to_uppercase());
                     self.note_if("identifier of a record in lower case: Object Not Found", not_found && lower);
                     self.note_if("identifier of eight zeros: Object Not Found", not_found && text == "00000000");
                     self.note_if("no usage limit: Invalid Field", invalid);

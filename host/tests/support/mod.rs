@@ -140,8 +140,9 @@ fn odd_sized(rng: &mut Rng) -> Vec<u8> {
 fn any_table(rng: &mut Rng, table: &Table) -> Vec<u8> {
     let mut bytes = table.encode();
     match rng.below(100) {
-        0..=84 => {}
-        85..=94 => return tables::broken(rng),
+        0..=83 => {}
+        84..=93 => return tables::broken(rng),
+        94 => return tables::self_linked(rng),
         95..=97 => {
             let at = rng.index(bytes.len());
             bytes[at] ^= 1 << rng.below(8);

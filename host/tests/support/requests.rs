@@ -7,7 +7,7 @@ use junctionmoth::model::table::{Record, Table};
 
 const SUPPORTED: [u32; 7] = [0x01, 0x04, 0x0B, 0x11, 0x12, 0x13, 0x14];
 
-/// A request with a right frame and right numbers.
+/// A request with a right frame and right numbers; once in a long while an ID is too short or too long.
 pub fn accepted(rng: &mut Rng, table: &Table) -> Node {
     let number = rng.between(1, 16);
     let number = rng.pick(&[1, 1, 1, 1, 2, 3, 5, 16, number]);
@@ -18,7 +18,7 @@ pub fn accepted(rng: &mut Rng, table: &Table) -> Node {
 pub fn batch_item(rng: &mut Rng, table: &Table) -> Node {
     let operation = if rng.one_in(30) { unsupported(rng) } else { rng.pick(&SUPPORTED) };
     let mut payload = structure(0x420079, payload(rng, table, operation));
-    if rng.one_in(16) {
+    if rng.one_in(10) {
         edit_inside(rng, &mut payload);
     }
     let Body::Nodes(fields) = payload.body else {
@@ -33,6 +33,9 @@ fn unsupported(rng: &mut Rng) -> u32 {
 }
 
 fn id(rng: &mut Rng) -> Option<Vec<u8>> {
+    if rng.one_in(400) {
+        return Some(vec![7; rng.pick(&[0, 17, 24])]);
+    }
     let any = rng.between(1, 16);
     let length = rng.pick(&[0, 0, 1, 7, 8, 9, 15, 16, any]);
     (length > 0).then(|| rng.bytes(length as usize))
@@ -178,10 +181,11 @@ fn nth<'a>(node: &'a mut Node, index: &mut usize) -> Option<&'a mut Node> {
 }
 
 fn edit(rng: &mut Rng, node: &mut Node) {
-    match rng.below(6) {
+    match rng.below(8) {
         0 => node.tag = other_tag(rng, node.tag),
         1 => node.kind = rng.below(14) as u8,
         2 => *node = well_formed(rng, node.tag),
+        3 => *node = ill_formed(rng, node.tag),
         _ => match &mut node.body {
             Body::Nodes(nodes) => edit_fields(rng, nodes),
             Body::Bytes(bytes) => edit_value(rng, bytes),
@@ -208,6 +212,32 @@ fn well_formed(rng: &mut Rng, tag: u32) -> Node {
         _ => rng.below(5).to_be_bytes().to_vec(),
     };
     Node { tag, kind, body: Body::Bytes(bytes) }
+}
+
+/// An item of some type whose length or value is just not allowed.
+fn ill_formed(rng: &mut Rng, tag: u32) -> Node {
+    let (kind, bytes): (u8, &[u8]) = rng.pick(&[
+        (0x01, b"\x42\x00\x20\x08"),
+        (0x02, b""),
+        (0x02, b"\0\0\0\0\0\0\0\x01"),
+        (0x05, b"\0\0\x01"),
+        (0x0A, b"\0\0\0\0\x01"),
+        (0x03, b"\0\0\0\x01"),
+        (0x09, b"\0\0\0\0\0\0\0\x01\0"),
+        (0x0B, b"\0\0\0\0\0\0\x01"),
+        (0x04, b""),
+        (0x04, b"\0\0\0\x01"),
+        (0x04, b"\0\0\0\0\0\0\0\0\0\0\0\x01"),
+        (0x06, b"\0\0\0\x01"),
+        (0x06, b"\0\0\0\0\0\0\0\x02"),
+        (0x06, b"\x01\0\0\0\0\0\0\x01"),
+        (0x07, b"\x1F"),
+        (0x07, b"0000000\x7F"),
+        (0x07, b"\x8000000001"),
+        (0x07, b"\xC3\xA9"),
+        (0x07, b"00000001\0"),
+    ]);
+    Node { tag, kind, body: Body::Bytes(bytes.to_vec()) }
 }
 
 fn edit_value(rng: &mut Rng, bytes: &mut Vec<u8>) {

@@ -187,6 +187,16 @@ pub fn broken(rng: &mut Rng) -> Vec<u8> {
     table.encode()
 }
 
+/// A table with a record that is named as its own replacement, and as replaced by itself: each link names the other.
+pub fn self_linked(rng: &mut Rng) -> Vec<u8> {
+    let mut table = sound(rng);
+    if let Some(place) = standing(rng, &table) {
+        let record = &mut table.places[place];
+        (record.replaced, record.replacement) = (record.serial, record.serial);
+    }
+    table.encode()
+}
+
 fn break_place_count(rng: &mut Rng, table: &mut Table) -> Option<()> {
     table.place_count = rng.pick(&[0, 1, 63, 65, 256, 0x4000_0000, u32::MAX]);
     Some(())
