@@ -130,7 +130,8 @@ counted-edit : (n : ℕ) (t u : List ℕ) (i : ℕ) (r : Record) (s : ℕ) (g : 
 counted-edit n t u i r s g begun z st o others had = record {
   places = λ j l h. inl (elim (ℕ-discrete j i) [
     | yes e ↦ subst (λ (k : ℕ). Old n t g k (placeAt n u k)) (sym e) (subst (Old n t g i) (sym (st .here)) o)
-    | no e ↦ away j l e ]);
+    | no e ↦ away j l e
+  ]);
   granted = had;
   issued = inl (z, st .issued);
 }
@@ -203,13 +204,14 @@ module _ (env : Env) (holder : ℕ) (t : List ℕ) (held : Held (env .places) t)
       (λ j l d. ifb-false (eqb (r .serial) (placeAt (env .places) t j .serial)) amount 0 (ne-eqb (r .serial) (placeAt (env .places) t j .serial) (apart x i e j l d)))
       (λ y. elim (ℕ-discrete (r .serial) y) [
         | yes s ↦ inr (record {
-            place = i;
-            below = find-below (env .places) t x i e;
-            stood = λ z. serial-stands x i e (s ∙ z);
-            serial = s;
-            enough = let a : ifb (eqb (r .serial) y) amount 0 ≡ amount = ifb-true (eqb (r .serial) y) amount 0 (eq-eqb (r .serial) y s) in omega arith;
-          })
-        | no s ↦ inl (ifb-false (eqb (r .serial) y) amount 0 (ne-eqb (r .serial) y s)) ]))
+          place = i;
+          below = find-below (env .places) t x i e;
+          stood = λ z. serial-stands x i e (s ∙ z);
+          serial = s;
+          enough = let a : ifb (eqb (r .serial) y) amount 0 ≡ amount = ifb-true (eqb (r .serial) y) amount 0 (eq-eqb (r .serial) y s) in omega arith;
+        })
+        | no s ↦ inl (ifb-false (eqb (r .serial) y) amount 0 (ne-eqb (r .serial) y s))
+      ]))
 
   create-counted : (wanted : Attributes) → Allowed wanted → (room : isFull (env .places) t ≡ false) → Counts (env .places) t holder (Create wanted) (createPlan env holder t wanted .did)
   unfolding createPlan issuedBy grantBy newRecord beginsWith
@@ -222,7 +224,8 @@ module _ (env : Env) (holder : ℕ) (t : List ℕ) (held : Held (env .places) t)
           places = λ j l h. elim (ℕ-discrete j (b .place)) [
             | yes q ↦ inr (subst (λ (k : ℕ). New t (lastSerial t + 1) (wanted .total) (placeAt (env .places) (withBorn (env .places) t (newRecord (nextSerial t) wanted (env .fresh))) k)) (sym q)
                 (subst (New t (lastSerial t + 1) (wanted .total)) (sym (b .stored .here)) (record { serial = refl; issued = refl; total = refl; count = refl })))
-            | no q ↦ inl (same-old (env .places) t _ j _ (other (env .places) t (b .place) _ _ _ (b .stored) j l q) (λ x. refl)) ];
+            | no q ↦ inl (same-old (env .places) t _ j _ (other (env .places) t (b .place) _ _ _ (b .stored) j l q) (λ x. refl))
+          ];
           granted = λ x. inl refl;
           issued = inr (refl, b .stored .issued);
         };
@@ -246,7 +249,7 @@ module _ (env : Env) (holder : ℕ) (t : List ℕ) (held : Held (env .places) t)
       let x = sought holder target in
       let r = placeAt (env .places) t i in
       let b : Replaced (env .places) t i (heirOf (nextSerial t) r (env .fresh)) _ =
-          heir-leaves (env .places) t held room (env .fresh) fresh-bytes i (find-below (env .places) t x i e) (found-stands (env .places) t x i e) alive in
+      heir-leaves (env .places) t held room (env .fresh) fresh-bytes i (find-below (env .places) t x i e) (found-stands (env .places) t x i e) alive in
       record {
         place = i;
         copies = λ other-target q _. subst (λ (y : Target). find (env .places) t (sought holder y) ≡ At i) (same-target q) e;
@@ -255,9 +258,11 @@ module _ (env : Env) (holder : ℕ) (t : List ℕ) (held : Held (env .places) t)
             | yes q ↦ inr (subst (λ (k : ℕ). New t (lastSerial t + 1) (r .total) (placeAt (env .places) (withHeir (env .places) t i (heirOf (nextSerial t) r (env .fresh))) k)) (sym q)
                 (subst (New t (lastSerial t + 1) (r .total)) (sym (b .new)) (record { serial = refl; issued = refl; total = refl; count = refl })))
             | no q ↦ inl (elim (ℕ-discrete j i) [
-                | yes p ↦ subst (λ (k : ℕ). Old (env .places) t (λ y. 0) k (placeAt (env .places) (withHeir (env .places) t i (heirOf (nextSerial t) r (env .fresh))) k)) (sym p)
-                    (subst (Old (env .places) t (λ y. 0) i) (sym (b .old)) (record { serial = refl; total = refl; count = omega arith }))
-                | no p ↦ same-old (env .places) t _ j _ (b .others j l q p) (λ y. refl) ]) ];
+              | yes p ↦ subst (λ (k : ℕ). Old (env .places) t (λ y. 0) k (placeAt (env .places) (withHeir (env .places) t i (heirOf (nextSerial t) r (env .fresh))) k)) (sym p)
+                  (subst (Old (env .places) t (λ y. 0) i) (sym (b .old)) (record { serial = refl; total = refl; count = omega arith }))
+              | no p ↦ same-old (env .places) t _ j _ (b .others j l q p) (λ y. refl)
+            ])
+          ];
           granted = λ y. inl refl;
           issued = inr (refl, b .issued);
         };
@@ -273,6 +278,7 @@ module _ (env : Env) (holder : ℕ) (t : List ℕ) (held : Held (env .places) t)
       targetIn (Revoke target code) d = d
       targetIn (Destroy target) d = d
       targetIn (GetAttributes target) d = d
+
       same-target : {other : Target} → Rekey target ≡ Rekey other → target ≡ other
       same-target q = ap (λ (c : Command). targetIn c target) q
 

@@ -5,3 +5,4 @@ pub mod Chains
 pub mod Ladder
 pub mod Meets
 pub mod Counted
+pub mod Logged

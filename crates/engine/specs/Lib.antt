@@ -2,3 +2,4 @@
 -- Assumes nothing.
 pub mod Batch
 pub mod Serving
+pub mod Calls
