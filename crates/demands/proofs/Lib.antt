@@ -6,3 +6,4 @@ pub mod Ladder
 pub mod Meets
 pub mod Counted
 pub mod Logged
+pub mod Paired
