@@ -7,3 +7,4 @@ pub mod Meets
 pub mod Counted
 pub mod Logged
 pub mod Paired
+pub mod Runs

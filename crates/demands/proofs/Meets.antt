@@ -40,7 +40,7 @@ Bounded = (c : Call) → Lent c → (a : Accepted c) → Small (a .frame .items)
 
 module _ (small : Bounded) (c : Call) (lent : Lent c) (a : Accepted c) where
   -- 1 to 16 items
-  count-facts : (1 ≤ length (a .frame .items)) × (length (a .frame .items) ≤ batchMost)
+  pub count-facts : (1 ≤ length (a .frame .items)) × (length (a .frame .items) ≤ batchMost)
   count-facts =
       let n = a .frame .header .count in
       let m = length (a .frame .items) in

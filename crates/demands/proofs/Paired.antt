@@ -68,6 +68,13 @@ unfolding paired
 paired-end held [] log = refl
 paired-end held (asked ∷ items) log = refl
 
+-- what is known of a serial x that was issued and does not stand: its units stay the same
+pub record Gone (places x units : ℕ) (log : List Event) (t : List ℕ) : Type 0 where
+  pub inv : Inv places log t
+  pub same : granted x log ≡ units
+  pub known : x ≤ lastSerial t
+  pub away : (i : ℕ) → i < places → placeAt places t i .serial ≡ x → ⊥
+
 module _ (places clock : ℕ) (strip : List ℕ) (option : ℕ) (strip-bytes : Bytes strip) where
   -- what is shown of a batch: of its answers, with the log before them, and of the table behind them
   abbrev Claim : (List Event → List ℕ → Type 0) → ℕ → List Asked → List Event → Ran → Type 0
@@ -108,19 +115,12 @@ module _ (places clock : ℕ) (strip : List ℕ) (option : ℕ) (strip-bytes : B
       (kind-counts env holder t (inv .held) (own-bytes places clock strip option strip-bytes i l) _ _ (step-kind env holder t asked) (commanded (asked .operation) (asked .payload)))
       (step-held env holder t (inv .held) (own-bytes places clock strip option strip-bytes i l) (own-long places clock strip option strip-bytes i l) asked)
 
-  -- what is known of a serial x that was issued and does not stand: nothing more is granted
-  pub record Gone (x : ℕ) (units : ℕ) (log : List Event) (t : List ℕ) : Type 0 where
-    pub inv : Inv places log t
-    pub units-same : granted x log ≡ units
-    pub known : x ≤ lastSerial t
-    pub away : (i : ℕ) → i < places → placeAt places t i .serial ≡ x → ⊥
-
-  pub step-gone : (x units : ℕ) → (x ≡ 0 → ⊥) → (i holder : ℕ) (t : List ℕ) (asked : Asked) (log : List Event) → materialSize * i + materialSize ≤ length strip → Gone x units log t
-      → Gone x units (eventOf holder asked (step (envAt places clock strip i) holder t asked) ∷ log) (step (envAt places clock strip i) holder t asked .table)
+  pub step-gone : (x units : ℕ) → (x ≡ 0 → ⊥) → (i holder : ℕ) (t : List ℕ) (asked : Asked) (log : List Event) → materialSize * i + materialSize ≤ length strip → Gone places x units log t
+      → Gone places x units (eventOf holder asked (step (envAt places clock strip i) holder t asked) ∷ log) (step (envAt places clock strip i) holder t asked .table)
   step-gone x units z i holder t asked log l g =
       let env = envAt places clock strip i in
       let own = own-bytes places clock strip option strip-bytes i l in
       let q = gone-event places log t (g .inv) (eventOf holder asked (step env holder t asked)) (step env holder t asked) refl
           (kind-counts env holder t (g .inv .held) own _ _ (step-kind env holder t asked) (commanded (asked .operation) (asked .payload)))
           (step-held env holder t (g .inv .held) own (own-long places clock strip option strip-bytes i l) asked) x z (g .known) (g .away) in
-      record { inv = step-inv i holder t asked log l (g .inv); units-same = q .0 ∙ g .units-same; known = q .1; away = q .2 }
+      record { inv = step-inv i holder t asked log l (g .inv); same = q .0 ∙ g .same; known = q .1; away = q .2 }

@@ -36,7 +36,7 @@ pub data Run (B : Box) : List Event → List ℕ → Type 0 where
 -- a later point of the same run
 pub data Later (B : Box) (log : List Event) (t : List ℕ) : List Event → List ℕ → Type 0 where
   here : Later B log t log t
-  calls : {log′ : List Event} {t′ : List ℕ} (c : Call) (e : Effect) → Later B log t log′ t′ → c .table ≡ t′ → Lent c → B c e → Later B log t (logged c e log′) (e .table)
+  further : {log′ : List Event} {t′ : List ℕ} (c : Call) (e : Effect) → Later B log t log′ t′ → c .table ≡ t′ → Lent c → B c e → Later B log t (logged c e log′) (e .table)
 
 -- the record with serial x stands at place i
 pub record Stands (x : ℕ) (t : List ℕ) (i : ℕ) : Type 0 where
