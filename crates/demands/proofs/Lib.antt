@@ -8,3 +8,4 @@ pub mod Counted
 pub mod Logged
 pub mod Paired
 pub mod Runs
+pub mod Tame

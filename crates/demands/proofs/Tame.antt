@@ -1,0 +1,148 @@
+-- What one item may do to the records: states change only by the listed transitions, and untouched records stay.
+-- Assumes nothing.
+use Prim.Native.Nat.{ℕ, zero, suc, _+_, _*_, _≤_, _<_}
+use native.Mathlib.Omega.{arith}
+use native.Mathlib.Decide.{ℕ-discrete}
+use mathlib.Core.Path.{_≡_, refl, sym, ap, subst, _∙_}
+use mathlib.Core.Logic.{_⊎_, inl, inr, ⊎-elim}
+use mathlib.Core.Bool.{Bool, true, false, not, _&&_, _||_, true≢false}
+use mathlib.Core.Option.{Option, none, some}
+use mathlib.Core.List.{List, [], _∷_}
+use lib.ListN.{length}
+use lib.Dec.{eqb}
+use borrow.Author.Tests.{eq-eqb, eqb-true}
+use Rattle.octets.specs.Octets.{Bytes}
+use Rattle.table.specs.declared.Record.{Record}
+use Rattle.table.specs.declared.Found.{Found}
+use Rattle.table.specs.declared.Found.the-variants.{At, Nothing}
+use Rattle.table.specs.Layout.{placeCount, materialSize}
+use Rattle.table.specs.Records.{placeAt, serialAt, lastSerial}
+use Rattle.table.specs.Search.{find, newPlace}
+use Rattle.table.proofs.Places.{serial-is}
+use Rattle.table.proofs.Finds.{find-below}
+use Rattle.rules.specs.declared.Reason.{Reason}
+use Rattle.rules.specs.Numbers.{activate, revoke, destroy}
+use Rattle.rules.specs.States.{isCompromise}
+use Rattle.rules.specs.Tests.{due}
+use Rattle.rules.specs.Records.{newRecord, heirOf, linkedTo, inState, movedTo, withCount}
+use Rattle.rules.specs.Changes.{nextSerial}
+use Rattle.rules.proofs.States.{three}
+use Rattle.rules.proofs.Moves.{Move, activates, compromises, compromises-destroyed, deactivates, destroys, destroys-compromised, move}
+use Rattle.keeps.proofs.Stores.{Stored, other}
+use Rattle.keeps.proofs.Keeps.{Held, facts, found-stands}
+use Rattle.keeps.proofs.Begun.{Allowed}
+use Rattle.keeps.proofs.Leaves.{Born, Replaced, moved-leaves, count-leaves, born-leaves, heir-leaves}
+use Rattle.frame.specs.Frame.{Asked}
+use Rattle.payload.specs.declared.Target.{Target}
+use Rattle.payload.specs.declared.Command.{Command}
+use Rattle.payload.specs.declared.Command.the-variants.{Create}
+use Rattle.payload.specs.Payload.{command}
+use Rattle.act.specs.Act.{Env, Did, envAt, sought, carried, createPlan, rekeyPlan, step, isFailed}
+use Rattle.act.proofs.Went.{Moving, activating, revoking, destroying, Kind, fails, creates, rekeys, grants, moves, shows, step-kind}
+use Rattle.engine.proofs.Commands.{Commanded, to-create, to-activate, to-revoke, to-destroy, commanded}
+use Rattle.engine.proofs.Steps.{step-held}
+use Rattle.engine.proofs.Batches.{own-bytes, own-long}
+use Rattle.demands.specs.Box.{Call}
+use Rattle.demands.specs.Demand2.{Link, planOf, Due, linkAt, Chain, none-left, stops, goes-on}
+use Rattle.demands.specs.Demand3.{namedBy, takesPlace, codeOf, isAt, names, takes, listed, Moved, Tame, Every, no-link, link}
+
+-- ---- the listed transitions
+
+move-listed : {operation code state next : ℕ} → Move operation code state next → listed operation code state next ≡ true
+unfolding listed
+move-listed (activates o s n) = rw (o, s, n)
+move-listed {code} {state} (compromises o c h k n) = rw (o, c, n) (⊎-elim (λ e. rw e) (⊎-elim (λ e. rw e) (λ e. rw e)) (three state 1 h k))
+move-listed (compromises-destroyed o c s n) = rw (o, c, s, n)
+move-listed (deactivates o c s n) = rw (o, c, s, n)
+move-listed {state} (destroys o s n) = rw (o, n) (⊎-elim (λ (e : state ≡ 1). rw e) (λ (e : state ≡ 3). rw e) s)
+move-listed (destroys-compromised o s n) = rw (o, s, n)
+
+-- ---- places
+
+is-at : (i : ℕ) (f : Found) → f ≡ At i → isAt i f ≡ true
+unfolding isAt
+is-at i f e = rw e (eq-eqb i i refl)
+
+not-at : (i k : ℕ) (f : Found) → f ≡ At k → isAt i f ≡ false → i ≡ k → ⊥
+unfolding isAt
+not-at i k f e n q = true≢false (sym (is-at i f (e ∙ ap At (sym q))) ∙ n)
+
+-- ---- kinds
+
+-- an item on place i, as the demand says it, for a command c of an operation
+pub record TameAt (n holder : ℕ) (t : List ℕ) (operation : ℕ) (c : Command) (did : Did) (i : ℕ) : Type 0 where
+  pub moves : (serialAt t i ≡ 0 → ⊥) → serialAt (did .table) i ≡ serialAt t i → (placeAt n (did .table) i .state ≡ placeAt n t i .state → ⊥)
+      → (isFailed (did .outcome) ≡ false) × (isAt i (find n t (namedBy holder c)) ≡ true) × (listed operation (codeOf c) (placeAt n t i .state) (placeAt n (did .table) i .state) ≡ true)
+  pub others : isAt i (find n t (namedBy holder c)) ≡ false → (takesPlace c && isAt i (newPlace n t)) ≡ false → placeAt n (did .table) i ≡ placeAt n t i
+
+create-allowed : {operation : ℕ} {wanted : _} → Commanded operation (Create wanted) → Allowed wanted
+create-allowed (to-create o a) = a
+
+move-code : (holder : ℕ) {c : Command} {operation code o : ℕ} {target : Target} → Moving c operation code target → Commanded o c → (o ≡ operation) × (codeOf c ≡ code) × (namedBy holder c ≡ sought holder target)
+unfolding codeOf namedBy
+move-code holder activating (to-activate e) = (e, refl, refl)
+move-code holder revoking (to-revoke e) = (e, refl, refl)
+move-code holder destroying (to-destroy e) = (e, refl, refl)
+
+-- a record that stayed the same does neither
+stayed : {n holder operation : ℕ} {t : List ℕ} {c : Command} {did : Did} (i : ℕ) → placeAt n (did .table) i ≡ placeAt n t i → TameAt n holder t operation c did i
+stayed i e = record { moves = λ s q d. absurd (d (ap (λ (r : Record). r .state) e)); others = λ a b. e }
+
+module _ (env : Env) (holder : ℕ) (t : List ℕ) (held : Held (env .places) t) (fresh-bytes : Bytes (env .fresh)) (i : ℕ) (low : i < env .places) where
+  -- a record that took a place has a serial that no record had
+  new-serial : (u : List ℕ) → placeAt (env .places) u i .serial ≡ lastSerial t + 1 → serialAt u i ≡ serialAt t i → ⊥
+  new-serial u e s =
+      let a : serialAt t i ≤ lastSerial t = facts (env .places) t held .issued i low in
+      let b : serialAt u i ≡ lastSerial t + 1 = serial-is (env .places) u i ∙ e in
+      omega arith
+
+  pub kind-tame : {operation : ℕ} (c : Command) (did : Did) → Kind env holder t c did → Commanded operation c → TameAt (env .places) holder t operation c did i
+  unfolding createPlan rekeyPlan newRecord heirOf linkedTo withCount movedTo inState namedBy takesPlace isFailed
+  kind-tame c did (fails reason) m = stayed i refl
+  kind-tame c did (shows target k e) m = stayed i refl
+  kind-tame c did (creates wanted room) m =
+      let b = born-leaves (env .places) t held room (env .fresh) fresh-bytes wanted (create-allowed m) in
+      elim (ℕ-discrete i (b .place)) [
+        | no q ↦ stayed i (other (env .places) t (b .place) _ _ _ (b .stored) i low q)
+        | yes q ↦ record {
+            moves = λ s z d. absurd (new-serial _ (ap (λ (k : ℕ). placeAt (env .places) (did .table) k .serial) q ∙ ap (λ (r : Record). r .serial) (b .stored .here)) z);
+            others = λ a z. absurd (not-at i (b .place) (newPlace (env .places) t) (b .due) z q);
+          } ]
+  kind-tame c did (rekeys target k e alive single room) m =
+      let x = sought holder target in
+      let b = heir-leaves (env .places) t held room (env .fresh) fresh-bytes k (find-below (env .places) t x k e) (found-stands (env .places) t x k e) alive in
+      elim (ℕ-discrete i (b .place)) [
+        | yes q ↦ record {
+            moves = λ s z d. absurd (new-serial _ (ap (λ (j : ℕ). placeAt (env .places) (did .table) j .serial) q ∙ ap (λ (r : Record). r .serial) (b .new)) z);
+            others = λ a z. absurd (not-at i (b .place) (newPlace (env .places) t) (b .due) z q);
+          }
+        | no q ↦ elim (ℕ-discrete i k) [
+            | yes p ↦ record {
+                moves = λ s z d. absurd (d (ap (λ (j : ℕ). placeAt (env .places) (did .table) j .state) p ∙ ap (λ (r : Record). r .state) (b .old) ∙ ap (λ (j : ℕ). placeAt (env .places) t j .state) (sym p)));
+                others = λ a z. absurd (not-at i k (find (env .places) t x) e a p);
+              }
+            | no p ↦ stayed i (b .others i low q p) ] ]
+  kind-tame c did (grants target amount k e g) m =
+      let x = sought holder target in
+      let st = count-leaves (env .places) t held k (find-below (env .places) t x k e) (found-stands (env .places) t x k e) amount _ g in
+      elim (ℕ-discrete i k) [
+        | no p ↦ stayed i (other (env .places) t k _ _ _ st i low p)
+        | yes p ↦ record {
+            moves = λ s z d. absurd (d (ap (λ (j : ℕ). placeAt (env .places) (did .table) j .state) p ∙ ap (λ (r : Record). r .state) (st .here) ∙ ap (λ (j : ℕ). placeAt (env .places) t j .state) (sym p)));
+            others = λ a z. absurd (not-at i k (find (env .places) t x) e a p);
+          } ]
+  kind-tame {operation} c did (moves {operation = op} {code} {target} v k next e g) m =
+      let x = sought holder target in
+      let st = moved-leaves (env .places) t held k (find-below (env .places) t x k e) (found-stands (env .places) t x k e) op code next g in
+      let w = move-code holder v m in
+      let found : find (env .places) t (namedBy holder c) ≡ At k = ap (find (env .places) t) (w .2) ∙ e in
+      elim (ℕ-discrete i k) [
+        | no p ↦ stayed i (other (env .places) t k _ _ _ st i low p)
+        | yes p ↦ record {
+            moves = λ s z d. (refl, is-at i _ (found ∙ ap At (sym p)),
+                subst (λ (j : ℕ). listed operation (codeOf c) (placeAt (env .places) t j .state) (placeAt (env .places) (did .table) j .state) ≡ true) (sym p)
+                (subst (λ (r : Record). listed operation (codeOf c) (placeAt (env .places) t k .state) (r .state) ≡ true) (sym (st .here))
+                (subst (λ (o : ℕ). listed o (codeOf c) (placeAt (env .places) t k .state) next ≡ true) (sym (w .0))
+                (subst (λ (o : ℕ). listed op o (placeAt (env .places) t k .state) next ≡ true) (sym (w .1)) (move-listed (move op code (placeAt (env .places) t k .state) next g))))));
+            others = λ a z. absurd (not-at i k _ found a p);
+          } ]
