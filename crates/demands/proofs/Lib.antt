@@ -9,3 +9,4 @@ pub mod Logged
 pub mod Paired
 pub mod Runs
 pub mod Tame
+pub mod Meets3

@@ -83,7 +83,7 @@ module _ (places clock : ℕ) (strip : List ℕ) (option : ℕ) (strip-bytes : B
   -- a claim that each item keeps holds behind a batch
   pub batch-keeps : (P : List Event → List ℕ → Type 0) → ((log : List Event) (t : List ℕ) → P log t → Held places t)
       → ((i holder : ℕ) (t : List ℕ) (asked : Asked) (log : List Event) → materialSize * i + materialSize ≤ length strip → P log t
-        → P (eventOf holder asked (step (envAt places clock strip i) holder t asked) ∷ log) (step (envAt places clock strip i) holder t asked .table))
+      → P (eventOf holder asked (step (envAt places clock strip i) holder t asked) ∷ log) (step (envAt places clock strip i) holder t asked .table))
       → (items : List Asked) (i holder : ℕ) (t : List ℕ) (log : List Event) → materialSize * (i + length items) ≤ length strip → P log t
       → Claim P holder items log (batch places clock strip option i holder t items)
   unfolding batch paired
@@ -96,15 +96,16 @@ module _ (places clock : ℕ) (strip : List ℕ) (option : ℕ) (strip-bytes : B
     where
       after : P (eventOf holder asked (step (envAt places clock strip i) holder t asked) ∷ log) (step (envAt places clock strip i) holder t asked .table)
       after = one i holder t asked log (omega arith) h
+
       turn : (did : Did) → P (eventOf holder asked did ∷ log) (did .table) → heldAfter holder (answerTo asked did) (did .outcome) ≡ did .holder
           → Claim P (did .holder) later (eventOf holder asked did ∷ log) (batch places clock strip option (i + 1) (did .holder) (did .table) later)
           → Claim P holder (asked ∷ later) log
-            (ifb (endsBatch option did) (lastly (answerTo asked did) (did .table)) (firstly (answerTo asked did) (batch places clock strip option (i + 1) (did .holder) (did .table) later)))
+          (ifb (endsBatch option did) (lastly (answerTo asked did) (did .table)) (firstly (answerTo asked did) (batch places clock strip option (i + 1) (did .holder) (did .table) later)))
       turn did a e rest =
           on-if (Claim P holder (asked ∷ later) log)
           (λ _. subst (λ (l : List Event). P l (did .table)) (sym (paired-end _ later (eventOf holder asked did ∷ log))) a)
           (λ _. subst (λ (k : ℕ). P (paired k later (batch places clock strip option (i + 1) (did .holder) (did .table) later .answers) (eventOf holder asked did ∷ log))
-              (batch places clock strip option (i + 1) (did .holder) (did .table) later .table)) (sym e) rest)
+          (batch places clock strip option (i + 1) (did .holder) (did .table) later .table)) (sym e) rest)
 
   -- one item keeps the invariant
   pub step-inv : (i holder : ℕ) (t : List ℕ) (asked : Asked) (log : List Event) → materialSize * i + materialSize ≤ length strip → Inv places log t
@@ -121,6 +122,6 @@ module _ (places clock : ℕ) (strip : List ℕ) (option : ℕ) (strip-bytes : B
       let env = envAt places clock strip i in
       let own = own-bytes places clock strip option strip-bytes i l in
       let q = gone-event places log t (g .inv) (eventOf holder asked (step env holder t asked)) (step env holder t asked) refl
-          (kind-counts env holder t (g .inv .held) own _ _ (step-kind env holder t asked) (commanded (asked .operation) (asked .payload)))
-          (step-held env holder t (g .inv .held) own (own-long places clock strip option strip-bytes i l) asked) x z (g .known) (g .away) in
+      (kind-counts env holder t (g .inv .held) own _ _ (step-kind env holder t asked) (commanded (asked .operation) (asked .payload)))
+      (step-held env holder t (g .inv .held) own (own-long places clock strip option strip-bytes i l) asked) x z (g .known) (g .away) in
       record { inv = step-inv i holder t asked log l (g .inv); same = q .0 ∙ g .same; known = q .1; away = q .2 }

@@ -105,32 +105,36 @@ module _ (env : Env) (holder : ℕ) (t : List ℕ) (held : Held (env .places) t)
       elim (ℕ-discrete i (b .place)) [
         | no q ↦ stayed i (other (env .places) t (b .place) _ _ _ (b .stored) i low q)
         | yes q ↦ record {
-            moves = λ s z d. absurd (new-serial _ (ap (λ (k : ℕ). placeAt (env .places) (did .table) k .serial) q ∙ ap (λ (r : Record). r .serial) (b .stored .here)) z);
-            others = λ a z. absurd (not-at i (b .place) (newPlace (env .places) t) (b .due) z q);
-          } ]
+          moves = λ s z d. absurd (new-serial _ (ap (λ (k : ℕ). placeAt (env .places) (did .table) k .serial) q ∙ ap (λ (r : Record). r .serial) (b .stored .here)) z);
+          others = λ a z. absurd (not-at i (b .place) (newPlace (env .places) t) (b .due) z q);
+        }
+      ]
   kind-tame c did (rekeys target k e alive single room) m =
       let x = sought holder target in
       let b = heir-leaves (env .places) t held room (env .fresh) fresh-bytes k (find-below (env .places) t x k e) (found-stands (env .places) t x k e) alive in
       elim (ℕ-discrete i (b .place)) [
         | yes q ↦ record {
-            moves = λ s z d. absurd (new-serial _ (ap (λ (j : ℕ). placeAt (env .places) (did .table) j .serial) q ∙ ap (λ (r : Record). r .serial) (b .new)) z);
-            others = λ a z. absurd (not-at i (b .place) (newPlace (env .places) t) (b .due) z q);
-          }
+          moves = λ s z d. absurd (new-serial _ (ap (λ (j : ℕ). placeAt (env .places) (did .table) j .serial) q ∙ ap (λ (r : Record). r .serial) (b .new)) z);
+          others = λ a z. absurd (not-at i (b .place) (newPlace (env .places) t) (b .due) z q);
+        }
         | no q ↦ elim (ℕ-discrete i k) [
-            | yes p ↦ record {
-                moves = λ s z d. absurd (d (ap (λ (j : ℕ). placeAt (env .places) (did .table) j .state) p ∙ ap (λ (r : Record). r .state) (b .old) ∙ ap (λ (j : ℕ). placeAt (env .places) t j .state) (sym p)));
-                others = λ a z. absurd (not-at i k (find (env .places) t x) e a p);
-              }
-            | no p ↦ stayed i (b .others i low q p) ] ]
+          | yes p ↦ record {
+            moves = λ s z d. absurd (d (ap (λ (j : ℕ). placeAt (env .places) (did .table) j .state) p ∙ ap (λ (r : Record). r .state) (b .old) ∙ ap (λ (j : ℕ). placeAt (env .places) t j .state) (sym p)));
+            others = λ a z. absurd (not-at i k (find (env .places) t x) e a p);
+          }
+          | no p ↦ stayed i (b .others i low q p)
+        ]
+      ]
   kind-tame c did (grants target amount k e g) m =
       let x = sought holder target in
       let st = count-leaves (env .places) t held k (find-below (env .places) t x k e) (found-stands (env .places) t x k e) amount _ g in
       elim (ℕ-discrete i k) [
         | no p ↦ stayed i (other (env .places) t k _ _ _ st i low p)
         | yes p ↦ record {
-            moves = λ s z d. absurd (d (ap (λ (j : ℕ). placeAt (env .places) (did .table) j .state) p ∙ ap (λ (r : Record). r .state) (st .here) ∙ ap (λ (j : ℕ). placeAt (env .places) t j .state) (sym p)));
-            others = λ a z. absurd (not-at i k (find (env .places) t x) e a p);
-          } ]
+          moves = λ s z d. absurd (d (ap (λ (j : ℕ). placeAt (env .places) (did .table) j .state) p ∙ ap (λ (r : Record). r .state) (st .here) ∙ ap (λ (j : ℕ). placeAt (env .places) t j .state) (sym p)));
+          others = λ a z. absurd (not-at i k (find (env .places) t x) e a p);
+        }
+      ]
   kind-tame {operation} c did (moves {operation = op} {code} {target} v k next e g) m =
       let x = sought holder target in
       let st = moved-leaves (env .places) t held k (find-below (env .places) t x k e) (found-stands (env .places) t x k e) op code next g in
@@ -139,10 +143,49 @@ module _ (env : Env) (holder : ℕ) (t : List ℕ) (held : Held (env .places) t)
       elim (ℕ-discrete i k) [
         | no p ↦ stayed i (other (env .places) t k _ _ _ st i low p)
         | yes p ↦ record {
-            moves = λ s z d. (refl, is-at i _ (found ∙ ap At (sym p)),
-                subst (λ (j : ℕ). listed operation (codeOf c) (placeAt (env .places) t j .state) (placeAt (env .places) (did .table) j .state) ≡ true) (sym p)
+          moves = λ s z d. (
+            refl,
+            is-at i _ (found ∙ ap At (sym p)),
+            subst (λ (j : ℕ). listed operation (codeOf c) (placeAt (env .places) t j .state) (placeAt (env .places) (did .table) j .state) ≡ true) (sym p)
                 (subst (λ (r : Record). listed operation (codeOf c) (placeAt (env .places) t k .state) (r .state) ≡ true) (sym (st .here))
                 (subst (λ (o : ℕ). listed o (codeOf c) (placeAt (env .places) t k .state) next ≡ true) (sym (w .0))
-                (subst (λ (o : ℕ). listed op o (placeAt (env .places) t k .state) next ≡ true) (sym (w .1)) (move-listed (move op code (placeAt (env .places) t k .state) next g))))));
-            others = λ a z. absurd (not-at i k _ found a p);
-          } ]
+                (subst (λ (o : ℕ). listed op o (placeAt (env .places) t k .state) next ≡ true) (sym (w .1)) (move-listed (move op code (placeAt (env .places) t k .state) next g))))),
+          );
+          others = λ a z. absurd (not-at i k _ found a p);
+        }
+      ]
+
+-- ---- links and chains
+
+-- an item that is due is the one that is carried out
+pub due-step : (l : Link) → Due l → l .did ≡ step (l .env) (l .holder) (l .table) (l .asked)
+unfolding step carried
+due-step l d = go (due (planOf l .tests)) refl
+  where
+    go : (o : Option Reason) → due (planOf l .tests) ≡ o → l .did ≡ carried (l .table) (planOf l .did) (due (planOf l .tests))
+    go none e = d .succeeds e ∙ sym (ap (carried (l .table) (planOf l .did)) e)
+    go (some reason) e = d .fails reason e ∙ sym (ap (carried (l .table) (planOf l .did)) e)
+
+link-tame : (l : Link) → Due l → Held (l .env .places) (l .table) → Bytes (l .env .fresh) → Tame l
+link-tame l d h b = record {
+  moves = λ i low s z n. (let k = at i low .moves s z n in record { done = k .0; named = k .1; way = k .2 });
+  others = λ i low a z. at i low .others a z;
+}
+  where
+    at : (i : ℕ) → i < l .env .places → TameAt (l .env .places) (l .holder) (l .table) (l .asked .operation) (command (l .asked .operation) (l .asked .payload)) (l .did) i
+    at i low =
+        subst (λ (did : Did). TameAt (l .env .places) (l .holder) (l .table) (l .asked .operation) (command (l .asked .operation) (l .asked .payload)) did i) (sym (due-step l d))
+        (kind-tame (l .env) (l .holder) (l .table) h b i low (command (l .asked .operation) (l .asked .payload)) (step (l .env) (l .holder) (l .table) (l .asked))
+        (step-kind (l .env) (l .holder) (l .table) (l .asked)) (commanded (l .asked .operation) (l .asked .payload)))
+
+module _ (c : Call) (strip-bytes : Bytes (c .strip)) (option : ℕ) where
+  -- along a chain on a sound table every link is tame
+  pub chain-tame : {i holder : ℕ} {t u : List ℕ} {items : List Asked} {links : List Link} → Chain c option i holder t items links u → Held placeCount t
+      → materialSize * (i + length items) ≤ length (c .strip) → Every Tame links
+  chain-tame none-left h l = no-link
+  chain-tame (stops {i} {holder} {t} asked did d f o) h l = link (link-tame (linkAt c i holder t asked did) d h (own-bytes placeCount (c .clock) (c .strip) option strip-bytes i (omega arith))) no-link
+  chain-tame (goes-on {i} {holder} {t} asked did d f rest) h l =
+      let own = own-bytes placeCount (c .clock) (c .strip) option strip-bytes i (omega arith) in
+      let long = own-long placeCount (c .clock) (c .strip) option strip-bytes i (omega arith) in
+      link (link-tame (linkAt c i holder t asked did) d h own)
+      (chain-tame rest (subst (λ (x : Did). Held placeCount (x .table)) (sym (due-step (linkAt c i holder t asked did) d)) (step-held (envAt placeCount (c .clock) (c .strip) i) holder t h own long asked)) (omega arith))
