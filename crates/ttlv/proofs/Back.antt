@@ -1,23 +1,21 @@
 -- What is written is read back, and no two well-formed runs have the same bytes.
 -- Assumes nothing.
 use mathlib.Core.Path.{_≡_, refl, sym, ap, ap₂, _∙_}
-use Prim.Native.Nat.{ℕ, zero, suc, _+_, _-_, _*_, _/_, _%_, _^_, _≤_, _<_}
+use Prim.Native.Nat.{ℕ, zero, suc, _+_, _-_, _/_, _%_, _^_, _≤_, _<_}
 use native.Mathlib.Omega.{arith}
-use mathlib.Core.Bool.{Bool, true, false, _&&_, false≢true}
-use mathlib.Core.Option.{Option, none, some}
-use mathlib.Core.List.{List, [], _∷_, _++_, append-assoc}
-use lib.ListN.{length, take, drop, getD, replicate, length-append, length-replicate}
+use mathlib.Core.Bool.{true, false≢true}
+use mathlib.Core.Option.{some}
+use mathlib.Core.List.{List, _++_, append-assoc}
+use lib.ListN.{length, take, drop, replicate, length-append, length-replicate}
 use lib.Seq.{drop-drop, take-at, drop-at}
-use lib.Dec.{eqb}
 use borrow.Author.Tests.{eq-eqb}
 use Rattle.octets.specs.If.{ifb}
-use Rattle.octets.specs.Octets.{be, fromBe, part, all, allZero}
+use Rattle.octets.specs.Octets.{be, part, all, allZero}
 use Rattle.octets.proofs.Numbers.{fromBe-be}
-use Rattle.ttlv.specs.Types.{structure, tagLead, padded, lengthOk, valueOk}
+use Rattle.ttlv.specs.Types.{structure, tagLead, padded, lengthOk}
 use Rattle.ttlv.specs.Items.{Items, nil, value, group, head, padding, encode, wellFormed}
 use Rattle.ttlv.specs.Parse.{firstOf, putValue, putGroup, more, walk, parse}
-use Rattle.ttlv.specs.declared.First.{First}
-use Rattle.ttlv.specs.declared.First.the-variants.{End, Bad, Value, Group}
+use Rattle.ttlv.specs.declared.First.the-variants.{Value, Group}
 use Rattle.ttlv.proofs.View.{Head, first-value, first-group}
 use Rattle.ttlv.proofs.Turns.{parse-step}
 use Rattle.ttlv.proofs.Fine.{FineValue, FineGroup, well-value, well-group}

@@ -1,10 +1,10 @@
 -- A number reader reads at most eight bytes: of a shorter part that is the whole part.
 -- Assumes nothing.
-use mathlib.Core.Path.{_≡_, refl, sym, ap, _∙_}
+use mathlib.Core.Path.{_≡_}
 use Prim.Native.Nat.{ℕ, _+_, _^_, _≤_, _<_}
 use native.Mathlib.Omega.{arith}
 use mathlib.Core.List.{List}
-use lib.ListN.{length, take, drop, length-take}
+use lib.ListN.{length, take, length-take}
 use lib.Seq.{take-all}
 use Rattle.octets.specs.Octets.{part}
 use Rattle.octets.proofs.Stores.{length-part}

@@ -1,14 +1,14 @@
 -- What a well-formed item is, fact by fact: the tests of `wellFormed` taken apart and put together.
 -- Assumes nothing.
-use mathlib.Core.Path.{_≡_, refl, sym, ap, _∙_}
-use Prim.Native.Nat.{ℕ, zero, suc, _+_, _-_, _*_, _/_, _%_, _^_, _≤_, _<_}
-use mathlib.Core.Bool.{Bool, true, false, not, _&&_, false≢true}
+use mathlib.Core.Path.{_≡_, ap}
+use Prim.Native.Nat.{ℕ, suc, _/_, _^_, _<_}
+use mathlib.Core.Bool.{true, not}
 use mathlib.Core.List.{List}
 use lib.ListN.{length}
 use lib.Dec.{ltb, eqb}
 use borrow.Author.Tests.{eqb-true, eqb-false, ltb-true, not-true, eq-eqb, ne-eqb, lt-ltb}
 use Rattle.ttlv.specs.Types.{structure, tagLead, lengthOk, valueOk}
-use Rattle.ttlv.specs.Items.{Items, nil, value, group, encode, tagOk, itemOk, wellFormed}
+use Rattle.ttlv.specs.Items.{Items, value, group, encode, tagOk, itemOk, wellFormed}
 use Rattle.ttlv.proofs.Bools.{both, and-i}
 
 -- an item that can be written

@@ -1,12 +1,12 @@
 -- From bytes to items: the answers of the field readers are the fields of the items that the bytes stand for.
 -- Assumes nothing. Each law asks that the bytes are a run of items; the body of a structure and the rest of a run are runs again.
 use mathlib.Core.Path.{_≡_, refl, sym, ap, _∙_}
-use Prim.Native.Nat.{ℕ, _+_, _-_, _^_, _≤_, _<_}
+use Prim.Native.Nat.{ℕ, _-_, _^_, _≤_, _<_}
 use native.Mathlib.Omega.{arith}
 use mathlib.Core.Bool.{Bool, true, false, _&&_, _||_}
 use mathlib.Core.Option.{Option, none, some}
-use mathlib.Core.List.{List, []}
-use lib.ListN.{length, take, drop, length-take}
+use mathlib.Core.List.{List}
+use lib.ListN.{length, take, drop}
 use lib.Dec.{eqb}
 use borrow.Author.Tests.{eqb-true}
 use Rattle.octets.specs.If.{ifb}
@@ -15,20 +15,21 @@ use Rattle.octets.specs.Octets.{fromBe, part, Bytes}
 use Rattle.octets.proofs.If.{ifb-true, ifb-false, on-bool}
 use Rattle.octets.proofs.Numbers.{fromBe-lt, bytes-take, bytes-drop}
 use Rattle.octets.proofs.Stores.{length-part}
-use Rattle.ttlv.specs.Types.{isWord, isLong, lengthOk, valueOk}
+use Rattle.ttlv.specs.Types.{isWord, isLong, lengthOk}
 use Rattle.ttlv.specs.Items.{Items, nil, value, group}
-use Rattle.ttlv.specs.Parse.{firstOf, depthMost, parse}
+use Rattle.ttlv.specs.Parse.{firstOf}
 use Rattle.ttlv.specs.Tree.{isRun, treeOf}
 use Rattle.ttlv.specs.Fields.{startsWith, ended, bytesOf, bodyOf, numberOf}
 use Rattle.ttlv.specs.Found.{startsIn, startsAt, bytesIn, bytesAt, numberIn, numberAt, bodyIn, bodyAt}
 use Rattle.ttlv.specs.declared.First.{First}
-use Rattle.ttlv.specs.declared.First.the-variants.{End, Bad, Value, Group}
+use Rattle.ttlv.specs.declared.First.the-variants.{End, Value, Group}
 use Rattle.ttlv.specs.declared.BytesField.{BytesField}
 use Rattle.ttlv.specs.declared.BytesField.the-variants.{Span, NoSpan}
 use Rattle.ttlv.specs.declared.NumberField.{NumberField}
 use Rattle.ttlv.specs.declared.NumberField.the-variants.{Number, NoNumber}
 use Rattle.ttlv.specs.declared.BodyField.{BodyField}
 use Rattle.ttlv.specs.declared.BodyField.the-variants.{Body, NoBody}
+use Rattle.ttlv.proofs.Step.{rest}
 use Rattle.ttlv.proofs.Eight.{eight-part}
 use Rattle.ttlv.proofs.One.{parse-ended}
 use Rattle.ttlv.proofs.Found.{bytes-first, bytes-ends, number-bytes, body-first}
@@ -108,6 +109,12 @@ module _ (s : List ℕ) (run : isRun s ≡ true) where
     unfolding bytesAt
     bytes-lifts = bytes-at s tag kind (treeOf s) (firstOf s) (tree s run)
 
+    pub bytes-found : {n next : ℕ} → bytesAt s tag kind ≡ Span n next → bytesOf tag kind (treeOf s) ≡ some (part s 8 n, treeOf (drop next s))
+    bytes-found h = bytes-lifts ∙ ap (bytesRead s) h
+
+    pub bytes-missing : bytesAt s tag kind ≡ NoSpan → bytesOf tag kind (treeOf s) ≡ none
+    bytes-missing h = bytes-lifts ∙ ap (bytesRead s) h
+
     pub bytes-rest : {n next : ℕ} → bytesAt s tag kind ≡ Span n next → Rest s next
     bytes-rest h = value-rest s run (bytes-first s tag kind h)
 
@@ -126,16 +133,37 @@ module _ (s : List ℕ) (run : isRun s ≡ true) where
     unfolding numberOf numberAt
     number-lifts k = ap (λ (o : Option (List ℕ × Items)). o >>= λ (v, rest). some (fromBe v, rest)) bytes-lifts ∙ numbers k (bytesAt s tag kind) refl
 
+    pub number-found : isNumber kind ≡ true → {v next : ℕ} → numberAt s tag kind ≡ Number v next → numberOf tag kind (treeOf s) ≡ some (v, treeOf (drop next s))
+    number-found k h = number-lifts k ∙ ap (numberRead s) h
+
+    pub number-missing : isNumber kind ≡ true → numberAt s tag kind ≡ NoNumber → numberOf tag kind (treeOf s) ≡ none
+    number-missing k h = number-lifts k ∙ ap (numberRead s) h
+
   module _ (tag : ℕ) where
     pub body-lifts : bodyOf tag (treeOf s) ≡ bodyRead s (bodyAt s tag)
     unfolding bodyAt
     body-lifts = body-at s tag (treeOf s) (firstOf s) (tree s run)
+
+    pub body-found : {next : ℕ} → bodyAt s tag ≡ Body next → bodyOf tag (treeOf s) ≡ some (treeOf (part s 8 (next - 8)), treeOf (drop next s))
+    body-found h = body-lifts ∙ ap (bodyRead s) h
+
+    pub body-missing : bodyAt s tag ≡ NoBody → bodyOf tag (treeOf s) ≡ none
+    body-missing h = body-lifts ∙ ap (bodyRead s) h
 
     pub body-rest : {next : ℕ} → bodyAt s tag ≡ Body next → Rest s next
     body-rest h = group-rest s run (body-first s tag h)
 
     pub body-is-run : {next : ℕ} → bodyAt s tag ≡ Body next → isRun (part s 8 (next - 8)) ≡ true
     body-is-run h = body-run s run (body-first s tag h)
+
+-- ---- the rest as code cuts it
+
+-- `&s[next..]` is a run, and stands for the items of the rest
+pub cut-run : (s : List ℕ) (next : ℕ) → Rest s next → isRun (take (length s - next) (drop next s)) ≡ true
+cut-run s next r = rw (rest s next) (r .run)
+
+pub cut-tree : (s : List ℕ) (next : ℕ) → treeOf (take (length s - next) (drop next s)) ≡ treeOf (drop next s)
+cut-tree s next = ap treeOf (rest s next)
 
 -- ---- how great a number is
 

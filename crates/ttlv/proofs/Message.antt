@@ -1,30 +1,20 @@
 -- One item and nothing behind it: the laws of `message`, and by what `is_message` decides.
 -- Assumes nothing.
 use mathlib.Core.Path.{_≡_, refl, sym, ap, _∙_}
-use Prim.Native.Nat.{ℕ, zero, suc, _+_, _-_, _≤_, _<_}
-use native.Mathlib.Omega.{arith}
-use mathlib.Core.Bool.{Bool, true, false, _&&_, false≢true}
+use Prim.Native.Nat.{ℕ}
+use mathlib.Core.Bool.{Bool, true, false}
 use mathlib.Core.Option.{Option, none, some}
-use mathlib.Core.List.{List, [], _∷_}
-use lib.ListN.{length, drop, length-drop, drop-of-length-le}
-use lib.Dec.{eqb}
-use borrow.Author.Tests.{eq-eqb, ne-eqb}
-use Rattle.octets.specs.If.{ifb}
+use mathlib.Core.List.{List}
 use Rattle.octets.specs.Maybe.{_>>=_, _>>_, isSome}
-use Rattle.octets.specs.Octets.{part, Bytes}
-use Rattle.octets.proofs.If.{on-bool}
-use Rattle.ttlv.specs.Items.{Items, nil, value, group, encode, wellFormed}
-use Rattle.ttlv.specs.Parse.{firstOf, putValue, putGroup, more, walk, parse, depthMost, isOne, message}
-use Rattle.ttlv.specs.Tree.{isRun, treeOf}
-use Rattle.ttlv.specs.declared.First.{First}
-use Rattle.ttlv.specs.declared.First.the-variants.{End, Bad, Value, Group}
-use Rattle.ttlv.proofs.View.{empty}
+use Rattle.octets.specs.Octets.{Bytes}
+use Rattle.ttlv.specs.Items.{Items, encode, wellFormed}
+use Rattle.ttlv.specs.Parse.{parse, depthMost, isOne, message}
+use Rattle.ttlv.specs.Tree.{isRun, orNone, treeOf}
 use Rattle.ttlv.proofs.Put.{no-some, same-some}
-use Rattle.ttlv.proofs.Turns.{parse-step}
 use Rattle.ttlv.proofs.Spells.{parse-spells}
 use Rattle.ttlv.proofs.Back.{parse-back}
 use Rattle.ttlv.proofs.Well.{parse-well}
-use Rattle.ttlv.proofs.Tree.{Reads, r-end, r-value, r-group, reads, parse-run, parse-tree}
+use Rattle.ttlv.proofs.Tree.{some-is, parse-run, parse-tree}
 
 -- ---- a message is a run that is one item
 
@@ -63,3 +53,9 @@ message-well s t h e = (parse-well depthMost s t h (message-is s t e .0), messag
 -- the item of a message is what its bytes stand for
 pub message-tree : (s : List ℕ) (t : Items) → message s ≡ some t → (isRun s ≡ true) × (treeOf s ≡ t)
 message-tree s t e = (parse-run s t (message-is s t e .0), parse-tree s t (message-is s t e .0))
+
+-- bytes that are a message are read as the items that they stand for
+pub message-run : (s : List ℕ) → isSome (message s) ≡ true → message s ≡ some (treeOf s)
+message-run s h =
+    let e = some-is (message s) h in
+    e ∙ ap some (sym (message-tree s (orNone (message s)) e .1))

@@ -1,9 +1,9 @@
 -- Whether bytes are one item and nothing behind it, by the item at the front: what `is_message` goes by.
 -- Assumes nothing.
-use mathlib.Core.Path.{_≡_, refl, sym, ap, ap₂, _∙_}
-use Prim.Native.Nat.{ℕ, zero, suc, _+_, _-_, _≤_, _<_}
+use mathlib.Core.Path.{_≡_, refl, sym, ap, _∙_}
+use Prim.Native.Nat.{ℕ, suc, _-_, _≤_}
 use native.Mathlib.Omega.{arith}
-use mathlib.Core.Bool.{Bool, true, false, _&&_}
+use mathlib.Core.Bool.{Bool, false, _&&_}
 use mathlib.Core.Option.{Option, none, some}
 use mathlib.Core.List.{List, [], _∷_}
 use lib.ListN.{length, drop, length-drop}
@@ -15,7 +15,7 @@ use Rattle.octets.specs.Octets.{part}
 use Rattle.octets.proofs.If.{on-bool}
 use Rattle.ttlv.specs.Items.{Items, nil, value, group}
 use Rattle.ttlv.specs.Fields.{ended}
-use Rattle.ttlv.specs.Parse.{firstOf, putValue, putGroup, more, walk, parse, depthMost, isOne, message}
+use Rattle.ttlv.specs.Parse.{firstOf, putValue, putGroup, more, walk, parse, isOne, message}
 use Rattle.ttlv.specs.declared.First.{First}
 use Rattle.ttlv.specs.declared.First.the-variants.{End, Bad, Value, Group}
 use Rattle.ttlv.proofs.Turns.{parse-step}

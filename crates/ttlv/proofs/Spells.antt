@@ -1,10 +1,10 @@
 -- One spelling: what is read is written as it was.
 -- Assumes nothing.
 use mathlib.Core.Path.{_≡_, refl, sym, ap, ap₂, _∙_}
-use Prim.Native.Nat.{ℕ, zero, suc, _+_, _-_, _*_, _/_, _%_, _^_, _≤_, _<_}
+use Prim.Native.Nat.{ℕ, zero, suc, _+_, _-_, _≤_}
 use native.Mathlib.Omega.{arith}
-use mathlib.Core.Bool.{Bool, true, false, _&&_}
-use mathlib.Core.Option.{Option, none, some}
+use mathlib.Core.Bool.{true}
+use mathlib.Core.Option.{Option, some}
 use mathlib.Core.List.{List, [], _∷_, _++_}
 use lib.ListN.{length, take, drop, getD, replicate, take-append-drop}
 use lib.Seq.{take-add, drop-drop, drop-cons}
@@ -13,9 +13,9 @@ use borrow.Author.Tests.{eqb-true}
 use Rattle.octets.specs.Octets.{be, fromBe, part, all, allZero, Bytes}
 use Rattle.octets.proofs.Numbers.{be-part, bytes-take, bytes-drop}
 use Rattle.octets.proofs.Stores.{length-part}
-use Rattle.ttlv.specs.Types.{structure, padded, lengthOk}
-use Rattle.ttlv.specs.Items.{Items, nil, value, group, head, padding, encode}
-use Rattle.ttlv.specs.Parse.{firstOf, putValue, putGroup, more, walk, parse}
+use Rattle.ttlv.specs.Types.{structure, padded}
+use Rattle.ttlv.specs.Items.{Items, nil, head, padding, encode}
+use Rattle.ttlv.specs.Parse.{firstOf, more, walk, parse}
 use Rattle.ttlv.specs.declared.First.{First}
 use Rattle.ttlv.specs.declared.First.the-variants.{End, Bad, Value, Group}
 use Rattle.ttlv.proofs.View.{Head, View, end, bad, val, grp, view}

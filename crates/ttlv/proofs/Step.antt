@@ -1,10 +1,10 @@
 -- One step of the check: what the item at the front says of whether bytes are a run of items.
 -- Assumes nothing.
-use mathlib.Core.Path.{_≡_, refl, sym, ap, _∙_}
-use Prim.Native.Nat.{ℕ, zero, suc, _+_, _-_, _*_, _/_, _≤_, _<_}
+use mathlib.Core.Path.{_≡_, refl}
+use Prim.Native.Nat.{ℕ, zero, suc, _+_, _-_, _≤_}
 use native.Mathlib.Omega.{arith}
-use mathlib.Core.Bool.{Bool, true, false, _&&_}
-use mathlib.Core.Option.{Option, none, some}
+use mathlib.Core.Bool.{true, false, _&&_}
+use mathlib.Core.Option.{Option}
 use mathlib.Core.List.{List, [], _∷_}
 use lib.ListN.{length, take, drop, length-drop}
 use lib.Seq.{take-all}
@@ -12,9 +12,9 @@ use lib.Dec.{eqb}
 use borrow.Author.Tests.{ne-eqb}
 use Rattle.octets.specs.Maybe.{isSome}
 use Rattle.octets.specs.Octets.{part}
-use Rattle.ttlv.specs.Types.{padded, lengthOk, valueOk}
+use Rattle.ttlv.specs.Types.{lengthOk, valueOk}
 use Rattle.ttlv.specs.Items.{Items}
-use Rattle.ttlv.specs.Parse.{firstOf, putValue, putGroup, more, parse}
+use Rattle.ttlv.specs.Parse.{firstOf, more, parse}
 use Rattle.ttlv.specs.declared.First.{First}
 use Rattle.ttlv.specs.declared.First.the-variants.{End, Bad, Value, Group}
 use Rattle.ttlv.proofs.View.{View, end, bad, val, grp, view}

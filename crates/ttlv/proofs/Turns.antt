@@ -1,13 +1,12 @@
 -- The equation of reading a run, with no count of turns: behind `items-step` nobody sees one again.
 -- Assumes nothing.
-use mathlib.Core.Path.{_≡_, refl, sym, ap, _∙_}
-use Prim.Native.Nat.{ℕ, zero, suc, _+_, _-_, _*_, _/_, _%_, _≤_, _<_}
+use mathlib.Core.Path.{_≡_, refl, ap}
+use Prim.Native.Nat.{ℕ, zero, suc, _+_, _-_, _%_, _≤_, _<_}
 use native.Mathlib.Omega.{arith}
-use mathlib.Core.Bool.{Bool, true, false}
-use mathlib.Core.Option.{Option, none, some}
-use mathlib.Core.List.{List, [], _∷_}
-use lib.ListN.{length, take, drop, length-drop}
-use lib.Dec.{eqb}
+use mathlib.Core.Bool.{true}
+use mathlib.Core.Option.{Option}
+use mathlib.Core.List.{List}
+use lib.ListN.{length, drop, length-drop}
 use borrow.Author.Tests.{eqb-true}
 use Rattle.octets.specs.If.{ifb}
 use Rattle.octets.specs.Octets.{part}

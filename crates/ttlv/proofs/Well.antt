@@ -1,22 +1,22 @@
 -- What is read is well-formed: the runs that can be written are just those that can be read, and each has bytes of its own.
 -- Assumes nothing.
-use mathlib.Core.Path.{_≡_, refl, sym, ap, _∙_}
-use Prim.Native.Nat.{ℕ, zero, suc, _+_, _-_, _*_, _/_, _%_, _^_, _≤_, _<_}
+use mathlib.Core.Path.{_≡_, sym, ap, _∙_}
+use Prim.Native.Nat.{ℕ, zero, suc, _+_, _-_, _/_, _^_, _≤_, _<_}
 use native.Mathlib.Omega.{arith}
-use mathlib.Core.Bool.{Bool, true, false}
-use mathlib.Core.Option.{Option, none, some}
+use mathlib.Core.Bool.{true}
+use mathlib.Core.Option.{Option, some}
 use mathlib.Core.List.{List, [], _∷_}
-use lib.ListN.{length, take, drop, getD}
+use lib.ListN.{length, drop, getD}
 use Rattle.octets.specs.Octets.{fromBe, fromBeAfter, part, Bytes}
 use Rattle.octets.proofs.Numbers.{fromBe-lt, bytes-take, bytes-drop}
 use Rattle.octets.proofs.Stores.{length-part}
 use Rattle.ttlv.specs.Types.{structure, tagLead, padded}
-use Rattle.ttlv.specs.Items.{Items, nil, value, group, encode, wellFormed}
-use Rattle.ttlv.specs.Parse.{firstOf, putValue, putGroup, more, walk, parse}
+use Rattle.ttlv.specs.Items.{Items, nil, encode, wellFormed}
+use Rattle.ttlv.specs.Parse.{firstOf, more, walk, parse}
 use Rattle.ttlv.specs.declared.First.{First}
 use Rattle.ttlv.specs.declared.First.the-variants.{End, Bad, Value, Group}
 use Rattle.ttlv.proofs.View.{Head, View, end, bad, val, grp, view}
-use Rattle.ttlv.proofs.Put.{inv-value, inv-group, no-some, same-some}
+use Rattle.ttlv.proofs.Put.{inv-value, inv-group, no-some}
 use Rattle.ttlv.proofs.Turns.{group-room}
 use Rattle.ttlv.proofs.Fine.{FineValue, FineGroup, value-well, group-well}
 use Rattle.ttlv.proofs.Spells.{parse-spells}

@@ -1,7 +1,7 @@
 -- The fields of a run as the bytes have them: what the readers of fields answer. The laws lift each to the definition of the same name in Fields.
 -- Assumes nothing. An answer says where the value or the body ends; what follows it is the run from `next` on.
 use Prim.Native.Nat.{ℕ}
-use mathlib.Core.Bool.{Bool, true, false, _&&_}
+use mathlib.Core.Bool.{Bool, false, _&&_}
 use mathlib.Core.List.{List}
 use lib.ListN.{take}
 use lib.Dec.{eqb}

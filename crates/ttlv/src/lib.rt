@@ -1,10 +1,9 @@
 // The TTLV reader: what stands at the front of some bytes, whether bytes are items by the rules, and the fields of a run. It knows nothing of keys.
 // Assumes nothing: no public function asks anything of its bytes.
 ghost use mathlib.Core.Path.{_≡_};
-ghost use Prim.Native.Nat.{ℕ, _+_, _^_, _≤_, _<_};
+ghost use Prim.Native.Nat.{_^_, _≤_, _<_};
 ghost use lib.ListN.{length};
 ghost use lib.Dec.{leb};
-ghost use mathlib.Core.Bool.{true, false};
 ghost use Rattle.octets.specs.Maybe.{isSome};
 ghost use Rattle.octets.specs.Octets.{fromBe};
 ghost use Rattle.ttlv.specs.Types.{isWord, isLong, text, lengthOk, valueOk};
@@ -37,7 +36,7 @@ pub const DATE_TIME_EXTENDED: u8 = 0x0B;
 // The first byte of every tag.
 const TAG_LEAD: u8 = 0x42;
 
-// The depth at which an item's body may still hold items: "an item at depth 9 is malformed".
+// How deep an item may stand: the outermost has depth 1, and an item at depth 9 is malformed.
 const DEPTH_MOST: usize = 8;
 
 // What stands at the front of some bytes.
@@ -270,9 +269,9 @@ pub fn starts_with(s: &[u8], tag: u32) -> bool
             next: _,
         } => found == tag,
         First::Group {
-            tag: found,
+            tag: named,
             next: _,
-        } => found == tag,
+        } => named == tag,
     }
 }
 
@@ -316,10 +315,10 @@ pub fn number_field(s: &[u8], tag: u32, kind: u8) -> NumberField
 pub fn body_field(s: &[u8], tag: u32) -> BodyField
     ensures { λ r. ⌜ r ≡ bodyAt (now (s .entry)) tag ⌝ }
 {
-    let First::Group { tag: found, next } = read_first(s) else {
+    let First::Group { tag: named, next } = read_first(s) else {
         return BodyField::NoBody;
     };
-    if found != tag {
+    if named != tag {
         return BodyField::NoBody;
     }
     BodyField::Body { next }

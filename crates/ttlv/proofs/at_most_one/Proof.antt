@@ -1,13 +1,11 @@
 -- `ttlv::at_most_one`. All but the last byte are zero, and the last is 0 or 1.
 -- Assumes nothing.
-use mathlib.Core.Path.{_≡_, refl, sym, ap, _∙_}
-use mathlib.Core.Bool.{Bool, true, false}
-use Prim.Native.Nat.{ℕ, _-_, _<_}
+use mathlib.Core.Path.{sym, _∙_}
+use Prim.Native.Nat.{_<_}
 use native.Mathlib.Omega.{arith}
-use lib.ListN.{length, take}
+use lib.ListN.{length}
 use lib.Seq.{length-take-le}
 use borrow.Author.Tests.{not-true, not-false}
-use Rattle.octets.specs.Octets.{allZero}
 use Rattle.ttlv.proofs.Small.{small-none, small-no, small-last}
 use borrow.Author.Needs.{needs}
 use Rattle.ttlv.proofs.at_most_one.Statement.{statement}

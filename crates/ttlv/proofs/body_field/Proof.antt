@@ -1,6 +1,6 @@
 -- `ttlv::body_field`. By cases on the item at the front and its tag.
 -- Assumes nothing.
-use mathlib.Core.Path.{_≡_, refl, sym, ap, _∙_}
+use mathlib.Core.Path.{sym, ap, _∙_}
 use Rattle.ttlv.specs.Found.{bodyIn, bodyAt}
 use Rattle.ttlv.proofs.Found.{no-group-first, other-group, wanted-group}
 use borrow.Author.Needs.{needs}
@@ -13,8 +13,8 @@ use Rattle.ttlv.proofs.read_first.Reads as read-first-reads
 read-first-requires : tie.Need-read-first-requires
 read-first-requires c κs = search needs
 
-enum-known-found : tie.Need-enum-known-found
-enum-known-found c = search needs
+enum-known-named : tie.Need-enum-known-named
+enum-known-named c = search needs
 
 returns : tie.Need-returns
 unfolding bodyAt
@@ -27,14 +27,14 @@ returns-2 : tie.Need-returns-2
 unfolding bodyAt
 returns-2 c =
     let a = c .before .before .before .before .before .before .args in
-    sym (ap (bodyIn (a .tag)) (sym (c .before .before .before .before .read-first .ensures) ∙ c .before .before .found .given .1) ∙ other-group (a .tag) _ _ (c .if1 .taken))
+    sym (ap (bodyIn (a .tag)) (sym (c .before .before .before .before .read-first .ensures) ∙ c .before .before .named .given .1) ∙ other-group (a .tag) _ _ (c .if1 .taken))
 
 returns-3 : tie.Need-returns-3
 unfolding bodyAt
 returns-3 c =
     let a = c .before .before .before .before .before .before .args in
-    sym (ap (bodyIn (a .tag)) (sym (c .before .before .before .before .read-first .ensures) ∙ c .before .before .found .given .1) ∙ wanted-group (a .tag) _ _ (c .if1 .left))
+    sym (ap (bodyIn (a .tag)) (sym (c .before .before .before .before .read-first .ensures) ∙ c .before .before .named .given .1) ∙ wanted-group (a .tag) _ _ (c .if1 .left))
 
 pub body-field-spec : {M : Type 1} → statement M
 body-field-spec =
-    tie.close (tie.spec read-first-requires enum-known-found returns returns-2 returns-3)
+    tie.close (tie.spec read-first-requires enum-known-named returns returns-2 returns-3)

@@ -1,6 +1,6 @@
 -- `ttlv::bytes_field`. By cases on the item at the front, its tag and its type.
 -- Assumes nothing.
-use mathlib.Core.Path.{_≡_, refl, sym, ap, _∙_}
+use mathlib.Core.Path.{sym, ap, _∙_}
 use Rattle.ttlv.specs.Found.{bytesIn, bytesAt}
 use Rattle.ttlv.proofs.Found.{no-value-first, other-tag, other-kind, wanted}
 use borrow.Author.Needs.{needs}

@@ -1,13 +1,12 @@
 -- `ttlv::head_first`. Each test of the code is one of the definition's, in the same order.
 -- Assumes nothing.
-use mathlib.Core.Path.{_≡_, refl, sym, ap, _∙_}
-use mathlib.Core.Bool.{Bool, true, false}
-use Prim.Native.Nat.{ℕ, _+_, _-_, _*_, _/_, _<_, _≤_}
+use mathlib.Core.Path.{_≡_, sym, ap, _∙_}
+use mathlib.Core.Bool.{true, false}
+use Prim.Native.Nat.{ℕ, _+_, _-_}
 use native.Mathlib.Omega.{arith}
-use lib.ListN.{length}
 use borrow.Author.Tests.{not-true, not-false}
 use Rattle.octets.specs.Octets.{part, allZero}
-use Rattle.ttlv.specs.Types.{structure, padded, lengthOk, valueOk}
+use Rattle.ttlv.specs.Types.{padded, lengthOk, valueOk}
 use Rattle.ttlv.specs.declared.First.the-variants.{Group}
 use Rattle.ttlv.proofs.View.{no-length, no-room, group-headed, no-value, no-zeros, value-headed}
 use Rattle.ttlv.proofs.Turns.{whole}

@@ -1,15 +1,10 @@
 -- `ttlv::is_message`. The item at the front has to end where the bytes do; a structure's own run is read one level less deep.
 -- Assumes nothing.
-use mathlib.Core.Path.{_≡_, refl, sym, ap, _∙_}
-use mathlib.Core.Bool.{Bool, true, false, _&&_}
-use Prim.Native.Nat.{ℕ, _-_, _≤_}
+use mathlib.Core.Path.{sym, _∙_}
 use native.Mathlib.Omega.{arith}
 use lib.ListN.{length}
 use lib.Dec.{eqb}
 use borrow.Author.Tests.{eq-eqb, ne-eqb}
-use Rattle.octets.specs.Maybe.{isSome}
-use Rattle.octets.specs.Octets.{part}
-use Rattle.ttlv.specs.Parse.{firstOf, parse}
 use Rattle.ttlv.proofs.Bools.{and-no, and-second}
 use Rattle.ttlv.proofs.Step.{group-ends}
 use Rattle.ttlv.proofs.One.{one-end, one-bad, one-value, one-group}

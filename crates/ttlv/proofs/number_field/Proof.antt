@@ -1,9 +1,9 @@
 -- `ttlv::number_field`. The bytes of the field, if there is one, spell the number.
 -- Assumes nothing.
-use mathlib.Core.Path.{_≡_, refl, sym, ap, _∙_}
-use Prim.Native.Nat.{ℕ, _+_, _-_, _≤_}
+use mathlib.Core.Path.{_≡_, sym, ap, _∙_}
+use Prim.Native.Nat.{ℕ, _+_, _-_}
 use native.Mathlib.Omega.{arith}
-use lib.ListN.{length, take}
+use lib.ListN.{take}
 use Rattle.octets.specs.Octets.{fromBe, part}
 use Rattle.ttlv.specs.Found.{numberIn, numberAt}
 use Rattle.ttlv.specs.declared.NumberField.the-variants.{Number}

@@ -1,9 +1,9 @@
 -- `ttlv::read_first`. Each test of the code is one of the definition's, in the same order.
 -- Assumes nothing.
-use mathlib.Core.Path.{_≡_, refl, sym, ap, ap₂, _∙_}
-use Prim.Native.Nat.{ℕ, _+_, _-_, _^_, _<_, _≤_}
+use mathlib.Core.Path.{_≡_, sym, ap, ap₂, _∙_}
+use Prim.Native.Nat.{ℕ, _^_, _<_}
 use native.Mathlib.Omega.{arith}
-use lib.ListN.{length, take, getD}
+use lib.ListN.{getD}
 use Rattle.octets.specs.Octets.{fromBe, part}
 use Rattle.ttlv.specs.Parse.{headed}
 use Rattle.ttlv.proofs.View.{first-end, first-short, no-lead, first-headed}

@@ -1,6 +1,6 @@
 -- `ttlv::starts_with`. By cases on the item at the front.
 -- Assumes nothing.
-use mathlib.Core.Path.{_≡_, refl, sym, ap, _∙_}
+use mathlib.Core.Path.{sym, ap, _∙_}
 use Rattle.ttlv.specs.Found.{startsIn, startsAt}
 use borrow.Author.Needs.{needs}
 use Rattle.ttlv.proofs.starts_with.Statement.{statement}
@@ -21,8 +21,8 @@ enum-told-2 c = search needs
 enum-known-found : tie.Need-enum-known-found
 enum-known-found c = search needs
 
-enum-known-found-2 : tie.Need-enum-known-found-2
-enum-known-found-2 c = search needs
+enum-known-named : tie.Need-enum-known-named
+enum-known-named c = search needs
 
 returns : tie.Need-returns
 unfolding startsAt startsIn
@@ -42,7 +42,7 @@ returns-3 c =
 returns-4 : tie.Need-returns-4
 unfolding startsAt startsIn
 returns-4 c =
-    sym (ap (startsIn (c .before .before .before .before .before .args .tag)) (sym (c .before .before .before .read-first .ensures) ∙ c .before .found2 .given .1))
+    sym (ap (startsIn (c .before .before .before .before .before .args .tag)) (sym (c .before .before .before .read-first .ensures) ∙ c .before .named .given .1))
 
 pub starts-with-spec : {M : Type 1} → statement M
 starts-with-spec =
@@ -52,7 +52,7 @@ starts-with-spec =
     enum-told
     enum-told-2
     enum-known-found
-    enum-known-found-2
+    enum-known-named
     returns
     returns-2
     returns-3

@@ -1,18 +1,30 @@
 -- `ttlv::text_ok`. What is left decides. Of all code and proofs only this knows that text goes byte by byte.
 -- Assumes nothing.
-use mathlib.Core.Path.{_≡_, refl, sym, ap, _∙_}
+use mathlib.Core.Path.{_≡_, sym, _∙_}
 use Prim.Native.Nat.{ℕ, _-_, _≤_, _<_}
 use native.Mathlib.Omega.{arith}
+use mathlib.Core.Bool.{true, false}
 use lib.ListN.{length, drop}
-use borrow.Author.Tests.{ne-eqb, eq-eqb, lt-leb, le-leb}
+use lib.Dec.{leb}
+use borrow.Author.Tests.{lt-leb, le-leb}
 use Rattle.octets.specs.Octets.{all}
 use Rattle.ttlv.specs.Types.{isTextByte, text}
+use Rattle.ttlv.proofs.Bools.{and-i, and-second, and-no}
 use Rattle.octets.proofs.All.{all-go, all-stop, all-end}
 use borrow.Author.Needs.{needs}
 use Rattle.ttlv.proofs.text_ok.Statement.{statement}
 use Rattle.ttlv.proofs.text_ok.Tie as tie
 use Rattle.ttlv.proofs.text_ok.Reads as reads
 use Rattle.ttlv.proofs.text_ok.Lts as lts
+
+below-text : (x : ℕ) → x < 0x20 → isTextByte x ≡ false
+below-text x h = and-no (leb 0x20 x) (leb x 0x7E) (lt-leb 0x20 x h)
+
+above-text : (x : ℕ) → 0x20 ≤ x → 0x7E < x → isTextByte x ≡ false
+above-text x l h = and-second (leb 0x20 x) (leb x 0x7E) (le-leb 0x20 x l) ∙ lt-leb x 0x7E h
+
+in-text : (x : ℕ) → 0x20 ≤ x → x ≤ 0x7E → isTextByte x ≡ true
+in-text x l h = and-i (leb 0x20 x) (leb x 0x7E) (le-leb 0x20 x l) (le-leb x 0x7E h)
 
 abbrev Inv-loop : tie.InvT-loop
 Inv-loop s i₀ i = (i ≤ length s) × (all isTextByte s ≡ all isTextByte (drop i s))
@@ -32,7 +44,7 @@ returns c =
     let l = c .before .before .before .loop in
     let s = c .before .before .before .before .args .s .now in
     let h : l .i < length s = omega arith in
-    sym (l .inv .1 ∙ all-stop isTextByte s (l .i) h (rw (lt-leb _ _ (c .if1 .taken))))
+    sym (l .inv .1 ∙ all-stop isTextByte s (l .i) h (below-text _ (c .if1 .taken)))
 
 returns-2 : tie.Need-returns-2 Inv-loop μ-loop
 unfolding text
@@ -40,7 +52,7 @@ returns-2 c =
     let l = c .before .before .before .before .loop in
     let s = c .before .before .before .before .before .args .s .now in
     let h : l .i < length s = omega arith in
-    sym (l .inv .1 ∙ all-stop isTextByte s (l .i) h (rw (le-leb _ _ (c .before .if1 .left), lt-leb _ _ (c .if2 .taken))))
+    sym (l .inv .1 ∙ all-stop isTextByte s (l .i) h (above-text _ (c .before .if1 .left) (c .if2 .taken)))
 
 add-i : tie.Need-add-i Inv-loop μ-loop
 add-i c = search needs
@@ -53,7 +65,7 @@ loop-again c =
     let l = c .before .before .before .before .loop in
     let s = c .before .before .before .before .before .args .s .now in
     let h : l .i < length s = omega arith in
-    (omega arith, l .inv .1 ∙ all-go isTextByte s (l .i) h (rw (le-leb _ _ (c .before .if1 .left), le-leb _ _ (c .if2 .left))))
+    (omega arith, l .inv .1 ∙ all-go isTextByte s (l .i) h (in-text _ (c .before .if1 .left) (c .if2 .left)))
 
 returns-3 : tie.Need-returns-3 Inv-loop μ-loop
 unfolding text

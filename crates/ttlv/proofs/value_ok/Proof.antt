@@ -1,6 +1,6 @@
 -- `ttlv::value_ok`. Each test of the code is one of the definition's, in the same order.
 -- Assumes nothing.
-use mathlib.Core.Path.{_≡_, sym, _∙_}
+use mathlib.Core.Path.{sym, _∙_}
 use borrow.Author.Tests.{eq-eqb, ne-eqb}
 use Rattle.octets.proofs.If.{ifb-true, ifb-false}
 use Rattle.ttlv.specs.Types.{boolean, textString, valueOk}
