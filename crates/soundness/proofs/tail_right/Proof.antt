@@ -29,7 +29,7 @@ part-all-zero-end c =
     let p = c .before .before .before .before .args .p in
     let g = c .before .before .before .before .good in
     let long : length (p .material) ≡ 32 = search needs in
-    let few : c .before .fewer .result ≤ 32 = rw (c .before .fewer .ensures) (min-le-right (p .bits / 8) 32) in
+    let few : c .before .fewer .result ≤ 32 = rw (c .before .fewer .ensures) (min-le-right _ 32) in
     omega (arith, long)
 
 all-zero-requires : tie.Need-all-zero-requires
