@@ -1,3 +1,10 @@
--- Worked cases of the frame.
--- Assumes nothing.
+-- Laws of the frame, for its readers and for those above; no second answer; worked cases.
+-- Assumes nothing. Those above use Frame (where an accepted request's batch items stand), Items (stepping), Item (the parts of one) and Bounds.
+pub mod Runs
+pub mod Header
+pub mod Item
+pub mod Items
+pub mod Frame
+pub mod Bounds
+pub mod Unique
 pub mod Worked

@@ -1,0 +1,148 @@
+-- `frame::find_item`. Each way through by its law.
+-- Assumes nothing.
+use mathlib.Core.Path.{_≡_, refl, sym, ap, _∙_}
+use Prim.Native.Nat.{ℕ, _+_, _-_, _≤_}
+use native.Mathlib.Omega.{arith}
+use lib.ListN.{length, take, drop}
+use Rattle.ttlv.specs.Types.{integer, enumeration, byteString}
+use Rattle.frame.specs.Tags.{batchCount, batchErrorContinuationOption, batchItem, operationTag, protocolVersion, protocolVersionMajor, protocolVersionMinor, requestHeader, requestMessage, requestPayload, uniqueBatchItemId}
+use Rattle.octets.proofs.Numbers.{bytes-of}
+use Rattle.ttlv.proofs.Found.{number-ends}
+use Rattle.ttlv.proofs.Lift.{word-below}
+use Rattle.frame.specs.Readers.{itemRead}
+use Rattle.frame.proofs.Runs.{tail}
+use Rattle.frame.proofs.Item.{id-some, item-no-operation, item-behind, item-bad-id, item-no-payload, item-room, item-more, item-reads}
+use borrow.Author.Needs.{needs}
+use Rattle.frame.proofs.find_item.Statement.{statement}
+use Rattle.frame.proofs.find_item.Tie as tie
+use Rattle.frame.proofs.find_item.Reads as reads
+use Rattle.frame.proofs.find_item.Lts as lts
+use Rattle.frame.proofs.read_id.Reads as read-id-reads
+use Rattle.ttlv.proofs.body_field.Reads as body-field-reads
+use Rattle.ttlv.proofs.number_field.Reads as number-field-reads
+
+number-field-requires : tie.Need-number-field-requires
+number-field-requires c κs = search needs
+
+enum-known-operation : tie.Need-enum-known-operation
+enum-known-operation c = search needs
+
+enum-told : tie.Need-enum-told
+enum-told c = search needs
+
+returns : tie.Need-returns
+unfolding itemRead
+returns c =
+    sym (ap (itemRead (c .before .before .before .before .args .body .now)) (item-no-operation (c .before .before .before .before .args .body .now) (c .before .before .before .before .pre) (sym (c .before .before .number-field .ensures) ∙ c .enum-told .given .1)))
+
+sub-t : tie.Need-sub-t
+sub-t c =
+    let w = number-ends (c .before .before .before .before .before .args .body .now) operationTag enumeration (sym (c .before .before .before .number-field .ensures) ∙ c .before .operation .given .1) in
+    omega arith
+
+part-t-start : tie.Need-part-t-start
+part-t-start c =
+    let w = number-ends (c .before .before .before .before .before .args .body .now) operationTag enumeration (sym (c .before .before .before .number-field .ensures) ∙ c .before .operation .given .1) in
+    omega arith
+
+part-t-end : tie.Need-part-t-end
+part-t-end c = search needs
+
+read-id-requires : tie.Need-read-id-requires
+read-id-requires c κs = search needs
+
+enum-known-len : tie.Need-enum-known-len
+enum-known-len c = search needs
+
+enum-told-2 : tie.Need-enum-told-2
+enum-told-2 c = search needs
+
+returns-2 : tie.Need-returns-2
+unfolding itemRead
+returns-2 c =
+    sym (ap (itemRead (c .before .before .before .before .before .before .before .before .before .args .body .now)) (item-bad-id (c .before .before .before .before .before .before .before .before .before .args .body .now) (c .before .before .before .before .before .before .before .before .before .pre) (sym (c .before .before .before .before .before .before .before .number-field .ensures) ∙ c .before .before .before .before .before .operation .given .1) (sym (c .before .before .read-id .ensures) ∙ c .enum-told2 .given .1)))
+
+sub-u : tie.Need-sub-u
+sub-u c =
+    let w = id-some (tail (c .before .before .before .before .before .before .before .before .before .before .args .body .now) (c .before .before .before .before .before .before .operation .given .0 .1 .0)) (item-behind (c .before .before .before .before .before .before .before .before .before .before .args .body .now) (c .before .before .before .before .before .before .before .before .before .before .pre) (sym (c .before .before .before .before .before .before .before .before .number-field .ensures) ∙ c .before .before .before .before .before .before .operation .given .1)) (sym (c .before .before .before .read-id .ensures) ∙ c .before .len .given .1) .within in
+    omega arith
+
+part-u-start : tie.Need-part-u-start
+part-u-start c =
+    let w = id-some (tail (c .before .before .before .before .before .before .before .before .before .before .args .body .now) (c .before .before .before .before .before .before .operation .given .0 .1 .0)) (item-behind (c .before .before .before .before .before .before .before .before .before .before .args .body .now) (c .before .before .before .before .before .before .before .before .before .before .pre) (sym (c .before .before .before .before .before .before .before .before .number-field .ensures) ∙ c .before .before .before .before .before .before .operation .given .1)) (sym (c .before .before .before .read-id .ensures) ∙ c .before .len .given .1) .within in
+    omega arith
+
+part-u-end : tie.Need-part-u-end
+part-u-end c = search needs
+
+body-field-requires : tie.Need-body-field-requires
+body-field-requires c κs = search needs
+
+enum-known-end : tie.Need-enum-known-end
+enum-known-end c = search needs
+
+enum-told-3 : tie.Need-enum-told-3
+enum-told-3 c = search needs
+
+returns-3 : tie.Need-returns-3
+unfolding itemRead
+returns-3 c =
+    sym (ap (itemRead (c .before .before .before .before .before .before .before .before .before .before .before .before .before .before .args .body .now)) (item-no-payload (c .before .before .before .before .before .before .before .before .before .before .before .before .before .before .args .body .now) (c .before .before .before .before .before .before .before .before .before .before .before .before .before .before .pre) (sym (c .before .before .before .before .before .before .before .before .before .before .before .before .number-field .ensures) ∙ c .before .before .before .before .before .before .before .before .before .before .operation .given .1) (sym (c .before .before .before .before .before .before .before .read-id .ensures) ∙ c .before .before .before .before .before .len .given .1) (sym (c .before .before .body-field .ensures) ∙ c .enum-told3 .given .1)))
+
+returns-4 : tie.Need-returns-4
+unfolding itemRead
+returns-4 c =
+    sym (ap (itemRead (c .before .before .before .before .before .before .before .before .before .before .before .before .before .before .before .before .args .body .now)) (item-more (c .before .before .before .before .before .before .before .before .before .before .before .before .before .before .before .before .args .body .now) (c .before .before .before .before .before .before .before .before .before .before .before .before .before .before .before .before .pre) (sym (c .before .before .before .before .before .before .before .before .before .before .before .before .before .before .number-field .ensures) ∙ c .before .before .before .before .before .before .before .before .before .before .before .before .operation .given .1) (sym (c .before .before .before .before .before .before .before .before .before .read-id .ensures) ∙ c .before .before .before .before .before .before .before .len .given .1) (sym (c .before .before .before .before .body-field .ensures) ∙ c .before .before .end .given .1) (c .if1 .taken)))
+
+cast-t18 : tie.Need-cast-t18
+cast-t18 c =
+    let w = word-below (c .before .before .before .before .before .before .before .before .before .before .before .before .before .before .before .before .args .body .now) operationTag enumeration (bytes-of (c .before .before .before .before .before .before .before .before .before .before .before .before .before .before .before .before .args .body .now) (λ i. c .before .before .before .before .before .before .before .before .before .before .before .before .before .before .before .shared-slice-known .given i .fits)) refl (sym (c .before .before .before .before .before .before .before .before .before .before .before .before .before .before .number-field .ensures) ∙ c .before .before .before .before .before .before .before .before .before .before .before .before .operation .given .1) in
+    omega arith
+
+add-t11 : tie.Need-add-t11
+add-t11 c =
+    let r = item-room (c .before .before .before .before .before .before .before .before .before .before .before .before .before .before .before .before .args .body .now) (c .before .before .before .before .before .before .before .before .before .before .before .before .before .before .before .before .pre) (sym (c .before .before .before .before .before .before .before .before .before .before .before .before .before .before .number-field .ensures) ∙ c .before .before .before .before .before .before .before .before .before .before .before .before .operation .given .1) (sym (c .before .before .before .before .before .before .before .before .before .read-id .ensures) ∙ c .before .before .before .before .before .before .before .len .given .1) (sym (c .before .before .before .before .body-field .ensures) ∙ c .before .before .end .given .1) in
+    omega arith
+
+add-t19 : tie.Need-add-t19
+add-t19 c =
+    let r = item-room (c .before .before .before .before .before .before .before .before .before .before .before .before .before .before .before .before .args .body .now) (c .before .before .before .before .before .before .before .before .before .before .before .before .before .before .before .before .pre) (sym (c .before .before .before .before .before .before .before .before .before .before .before .before .before .before .number-field .ensures) ∙ c .before .before .before .before .before .before .before .before .before .before .before .before .operation .given .1) (sym (c .before .before .before .before .before .before .before .before .before .read-id .ensures) ∙ c .before .before .before .before .before .before .before .len .given .1) (sym (c .before .before .before .before .body-field .ensures) ∙ c .before .before .end .given .1) in
+    omega arith
+
+add-t20 : tie.Need-add-t20
+add-t20 c =
+    let r = item-room (c .before .before .before .before .before .before .before .before .before .before .before .before .before .before .before .before .args .body .now) (c .before .before .before .before .before .before .before .before .before .before .before .before .before .before .before .before .pre) (sym (c .before .before .before .before .before .before .before .before .before .before .before .before .before .before .number-field .ensures) ∙ c .before .before .before .before .before .before .before .before .before .before .before .before .operation .given .1) (sym (c .before .before .before .before .before .before .before .before .before .read-id .ensures) ∙ c .before .before .before .before .before .before .before .len .given .1) (sym (c .before .before .before .before .body-field .ensures) ∙ c .before .before .end .given .1) in
+    omega arith
+
+returns-5 : tie.Need-returns-5
+returns-5 c =
+    sym (item-reads (c .before .before .before .before .before .before .before .before .before .before .before .before .before .before .before .before .args .body .now) (c .before .before .before .before .before .before .before .before .before .before .before .before .before .before .before .before .pre) (sym (c .before .before .before .before .before .before .before .before .before .before .before .before .before .before .number-field .ensures) ∙ c .before .before .before .before .before .before .before .before .before .before .before .before .operation .given .1) (sym (c .before .before .before .before .before .before .before .before .before .read-id .ensures) ∙ c .before .before .before .before .before .before .before .len .given .1) (sym (c .before .before .before .before .body-field .ensures) ∙ c .before .before .end .given .1) (c .if1 .left))
+
+pub find-item-spec : {M : Type 1} → statement M
+find-item-spec =
+    tie.close
+    (tie.spec
+    number-field-requires
+    enum-known-operation
+    enum-told
+    returns
+    sub-t
+    part-t-start
+    part-t-end
+    read-id-requires
+    enum-known-len
+    enum-told-2
+    returns-2
+    sub-u
+    part-u-start
+    part-u-end
+    body-field-requires
+    enum-known-end
+    enum-told-3
+    returns-3
+    returns-4
+    cast-t18
+    add-t11
+    add-t19
+    add-t20
+    returns-5)
