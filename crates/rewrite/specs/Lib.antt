@@ -1,0 +1,3 @@
+-- What writing a read message again leaves.
+-- Assumes nothing.
+pub mod Again
