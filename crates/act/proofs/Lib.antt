@@ -1,3 +1,5 @@
--- Laws of one item.
+-- The laws of an item carried out.
 -- Assumes nothing.
-pub mod Went
+pub mod Plans
+pub mod Kept
+pub mod Unique

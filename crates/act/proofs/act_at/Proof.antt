@@ -1,0 +1,106 @@
+-- `act_at` meets its contract, deed by deed.
+-- Assumes nothing.
+use mathlib.Core.Path.{_≡_, refl, sym, ap, ap₂, _∙_}
+use Prim.Native.Nat.{ℕ, _+_}
+use mathlib.Core.List.{List, []}
+use Rattle.table.specs.Records.{placeAt}
+use Rattle.act.specs.declared.Deed.{Deed}
+use Rattle.act.specs.declared.Performed.{Performed}
+use Rattle.act.specs.Act.{rekeyPlan, allocationPlan, showPlan}
+use Rattle.act.specs.Perform.{leaves, showing, carriedOut, inPlaces, deedPlan}
+use Rattle.act.proofs.Plans.{is-done}
+use borrow.Author.Needs.{needs}
+use Rattle.act.proofs.act_at.Statement.{statement}
+use Rattle.act.proofs.act_at.Tie as tie
+use Rattle.act.proofs.act_at.Reads as reads
+use Rattle.act.proofs.act_at.Lts as lts
+use Rattle.act.proofs.allocate_at.Reads as allocate-at-reads
+use Rattle.act.proofs.move_at.Reads as move-at-reads
+use Rattle.act.proofs.rekey_at.Reads as rekey-at-reads
+use Rattle.act.proofs.show_at.Reads as show-at-reads
+
+enum-told : tie.Need-enum-told
+enum-told c = search needs
+
+rekey-at-requires : tie.Need-rekey-at-requires
+rekey-at-requires c κs = search needs
+
+enum-known-deed : tie.Need-enum-known-deed
+enum-known-deed c = search needs
+
+allocate-at-requires : tie.Need-allocate-at-requires
+allocate-at-requires c κs = search needs
+
+enum-known-deed-2 : tie.Need-enum-known-deed-2
+enum-known-deed-2 c = search needs
+
+move-at-requires : tie.Need-move-at-requires
+move-at-requires c κs = search needs
+
+enum-told-2 : tie.Need-enum-told-2
+enum-told-2 c = search needs
+
+show-at-requires : tie.Need-show-at-requires
+show-at-requires c κs = search needs
+
+same-length : tie.Need-same-length
+same-length c = search needs
+
+returns : tie.Need-returns
+unfolding deedPlan rekeyPlan
+returns c =
+    let a = c .before .before .before .before .before .before .before .before .args in
+    c .before .before .rekey-at .ensures
+    ∙ sym (ap (λ (d : Deed). carriedOut (a .t .now) (deedPlan (inPlaces (a .n) (a .fresh .now)) (a .holder) (a .t .now) d (a .i) (placeAt (a .n) (a .t .now) (a .i)))) (c .before .before .before .before .enum-told .given .1))
+
+same-length-2 : tie.Need-same-length-2
+same-length-2 c = search needs
+
+returns-2 : tie.Need-returns-2
+unfolding deedPlan allocationPlan
+returns-2 c =
+    let a = c .before .before .before .before .before .before .before .before .before .args in
+    c .before .before .allocate-at .ensures
+    ∙ sym (ap (λ (d : Deed). carriedOut (a .t .now) (deedPlan (inPlaces (a .n) (a .fresh .now)) (a .holder) (a .t .now) d (a .i) (placeAt (a .n) (a .t .now) (a .i)))) (c .before .before .before .before .before .deed .given .1))
+
+same-length-3 : tie.Need-same-length-3
+same-length-3 c = search needs
+
+returns-3 : tie.Need-returns-3
+unfolding deedPlan
+returns-3 c =
+    let a = c .before .before .before .before .before .before .before .before .before .args in
+    c .before .before .move-at .ensures
+    ∙ sym (ap (λ (d : Deed). carriedOut (a .t .now) (deedPlan (inPlaces (a .n) (a .fresh .now)) (a .holder) (a .t .now) d (a .i) (placeAt (a .n) (a .t .now) (a .i)))) (c .before .before .before .before .before .deed2 .given .1))
+
+same-length-4 : tie.Need-same-length-4
+same-length-4 c = search needs
+
+returns-4 : tie.Need-returns-4
+unfolding deedPlan showPlan
+returns-4 c =
+    let a = c .before .before .before .before .before .before .args in
+    ap (λ (r : Performed). leaves r (a .t .now)) (c .show-at .ensures)
+    ∙ sym (is-done (a .t .now) (leaves (showing (a .holder) (placeAt (a .n) (a .t .now) (a .i))) (a .t .now)))
+    ∙ sym (ap (λ (d : Deed). carriedOut (a .t .now) (deedPlan (inPlaces (a .n) (a .fresh .now)) (a .holder) (a .t .now) d (a .i) (placeAt (a .n) (a .t .now) (a .i)))) (c .before .before .enum-told2 .given .1))
+
+pub act-at-spec : {M : Type 1} → statement M
+act-at-spec =
+    tie.close
+    (tie.spec
+    enum-told
+    rekey-at-requires
+    enum-known-deed
+    allocate-at-requires
+    enum-known-deed-2
+    move-at-requires
+    enum-told-2
+    show-at-requires
+    same-length
+    returns
+    same-length-2
+    returns-2
+    same-length-3
+    returns-3
+    same-length-4
+    returns-4)

@@ -1,0 +1,98 @@
+-- `create` meets its contract: a new record in the place that is due, or no room.
+-- Assumes nothing.
+use mathlib.Core.Path.{_≡_, refl, sym, ap, ap₂, _∙_}
+use Prim.Native.Nat.{ℕ, _+_}
+use mathlib.Core.List.{List, []}
+use native.Mathlib.Omega.{arith}
+use Rattle.table.specs.declared.Record.{Record}
+use Rattle.table.specs.declared.Found.the-variants.{At, Nothing}
+use Rattle.table.specs.Records.{lastSerial}
+use Rattle.table.proofs.Finds.{new-below}
+use Rattle.act.specs.declared.Performed.{Performed}
+use Rattle.rules.specs.Records.{newRecord}
+use Rattle.rules.specs.Changes.{nextSerial, bornAt}
+use Rattle.act.specs.declared.Outcome.the-variants.{Created}
+use Rattle.act.specs.Act.{Did}
+use Rattle.act.specs.Perform.{leaves, roomFor}
+use Rattle.act.proofs.Plans.{room-serial, room-place, create-full, create-at}
+use borrow.Author.Needs.{needs}
+use Rattle.act.proofs.create.Statement.{statement}
+use Rattle.act.proofs.create.Tie as tie
+use Rattle.act.proofs.create.Reads as reads
+use Rattle.act.proofs.create.Lts as lts
+use Rattle.act.proofs.fail.Reads as fail-reads
+use Rattle.act.proofs.put_born.Reads as put-born-reads
+use Rattle.act.proofs.room.Reads as room-reads
+use Rattle.rules.proofs.new_record.Reads as new-record-reads
+use Rattle.table.proofs.last_serial.Reads as last-serial-reads
+
+room-requires : tie.Need-room-requires
+room-requires c κs = search needs
+
+enum-known-i : tie.Need-enum-known-i
+enum-known-i c = search needs
+
+last-serial-requires : tie.Need-last-serial-requires
+last-serial-requires c κs = search needs
+
+add-serial : tie.Need-add-serial
+add-serial c =
+    let a = c .before .before .before .before .before .before .before .before .before .args in
+    let e : roomFor (a .n) (a .t .now) ≡ At (c .before .before .before .i .given .0 .0) = sym (c .before .before .before .before .before .room .ensures) ∙ c .before .before .before .i .given .1 in
+    let s : c .last-serial .result ≡ lastSerial (a .t .now) = c .last-serial .ensures in
+    let k = room-serial (a .n) (a .t .now) _ e in
+    omega arith
+
+new-record-requires : tie.Need-new-record-requires
+new-record-requires c κs = search needs
+
+put-born-requires : tie.Need-put-born-requires
+put-born-requires c κs =
+    let a = c .before .before .before .before .before .before .before .before .before .before .before .args in
+    let e : roomFor (a .n) (a .t .now) ≡ At (c .before .before .before .before .before .i .given .0 .0) = sym (c .before .before .before .before .before .before .before .room .ensures) ∙ c .before .before .before .before .before .i .given .1 in
+    (c .before .before .before .before .before .before .before .before .before .before .before .pre, new-below (a .n) (a .t .now) _ (room-place (a .n) (a .t .now) _ e))
+
+enum-told : tie.Need-enum-told
+enum-told c = search needs
+
+fail-requires : tie.Need-fail-requires
+fail-requires c κs = search needs
+
+same-length : tie.Need-same-length
+same-length c = search needs
+
+returns : tie.Need-returns
+returns c =
+    let a = c .before .before .before .before .before .before .before .before .before .before .before .before .before .before .args in
+    let e : roomFor (a .n) (a .t .now) ≡ At (c .before .before .before .before .before .before .before .before .i .given .0 .0) = sym (c .before .before .before .before .before .before .before .before .before .before .room .ensures) ∙ c .before .before .before .before .before .before .before .before .i .given .1 in
+    let s : c .before .before .before .before .before .last-serial .result ≡ lastSerial (a .t .now) = c .before .before .before .before .before .last-serial .ensures in
+    let born : c .before .before .before .before .new-record .result ≡ newRecord (nextSerial (a .t .now)) (a .wanted) (a .fresh .now) = c .before .before .before .before .new-record .ensures ∙ ap (λ (k : ℕ). newRecord (k + 1) (a .wanted) (a .fresh .now)) s in
+    let table = c .before .before .put-born .ensures ∙ ap (λ (r : Record). bornAt (a .n) (a .t .now) r (At (c .before .before .before .before .before .before .before .before .i .given .0 .0))) born in
+    ap₂ (λ (k : ℕ) (u : List ℕ). record { outcome = Created (k + 1); table = u; holder = k + 1 }) s table
+    ∙ sym (create-at (a .n) (a .fresh .now) (a .t .now) (a .wanted) _ e)
+
+same-length-2 : tie.Need-same-length-2
+same-length-2 c = search needs
+
+returns-2 : tie.Need-returns-2
+returns-2 c =
+    let a = c .before .before .before .before .before .before .before .args in
+    ap (λ (r : Performed). leaves r (a .t .now)) (c .fail .ensures)
+    ∙ sym (create-full (a .n) (a .fresh .now) (a .t .now) (a .wanted) (sym (c .before .before .before .room .ensures) ∙ c .before .enum-told .given .1))
+
+pub create-spec : {M : Type 1} → statement M
+create-spec =
+    tie.close
+    (tie.spec
+    room-requires
+    enum-known-i
+    last-serial-requires
+    add-serial
+    new-record-requires
+    put-born-requires
+    enum-told
+    fail-requires
+    same-length
+    returns
+    same-length-2
+    returns-2)

@@ -1,0 +1,188 @@
+-- `perform` meets its contract, command by command.
+-- Assumes nothing.
+use mathlib.Core.Path.{_≡_, refl, sym, ap, ap₂, _∙_}
+use Prim.Native.Nat.{ℕ, _+_}
+use mathlib.Core.List.{List, []}
+use Rattle.octets.specs.If.{ifb}
+use Rattle.rules.specs.declared.Reason.the-variants.{OperationNotSupported, InvalidField}
+use Rattle.rules.specs.States.{moveTests}
+use Rattle.act.specs.declared.Performed.{Performed}
+use Rattle.act.specs.Act.{createPlan, activatePlan, revokePlan, destroyPlan, plan}
+use Rattle.act.specs.Perform.{leaves, performing, movePlan, deedPlan}
+use Rattle.act.proofs.Plans.{refused}
+use borrow.Author.Needs.{needs}
+use Rattle.act.proofs.perform.Statement.{statement}
+use Rattle.act.proofs.perform.Tie as tie
+use Rattle.act.proofs.perform.Reads as reads
+use Rattle.act.proofs.perform.Lts as lts
+use Rattle.act.proofs.act_on.Reads as act-on-reads
+use Rattle.act.proofs.create.Reads as create-reads
+use Rattle.act.proofs.fail.Reads as fail-reads
+
+enum-told : tie.Need-enum-told
+enum-told c = search needs
+
+fail-requires : tie.Need-fail-requires
+fail-requires c κs = search needs
+
+enum-told-2 : tie.Need-enum-told-2
+enum-told-2 c = search needs
+
+fail-requires-2 : tie.Need-fail-requires-2
+fail-requires-2 c κs = search needs
+
+enum-known-command : tie.Need-enum-known-command
+enum-known-command c = search needs
+
+create-requires : tie.Need-create-requires
+create-requires c κs = search needs
+
+enum-known-command-2 : tie.Need-enum-known-command-2
+enum-known-command-2 c = search needs
+
+act-on-requires : tie.Need-act-on-requires
+act-on-requires c κs = search needs
+
+enum-known-command-3 : tie.Need-enum-known-command-3
+enum-known-command-3 c = search needs
+
+act-on-requires-2 : tie.Need-act-on-requires-2
+act-on-requires-2 c κs = search needs
+
+enum-known-command-4 : tie.Need-enum-known-command-4
+enum-known-command-4 c = search needs
+
+act-on-requires-3 : tie.Need-act-on-requires-3
+act-on-requires-3 c κs = search needs
+
+enum-known-command-5 : tie.Need-enum-known-command-5
+enum-known-command-5 c = search needs
+
+act-on-requires-4 : tie.Need-act-on-requires-4
+act-on-requires-4 c κs = search needs
+
+enum-known-command-6 : tie.Need-enum-known-command-6
+enum-known-command-6 c = search needs
+
+act-on-requires-5 : tie.Need-act-on-requires-5
+act-on-requires-5 c κs = search needs
+
+enum-known-command-7 : tie.Need-enum-known-command-7
+enum-known-command-7 c = search needs
+
+act-on-requires-6 : tie.Need-act-on-requires-6
+act-on-requires-6 c κs = search needs
+
+returns : tie.Need-returns
+unfolding performing plan
+returns c =
+    let a = c .before .before .before .before .before .args in
+    ap (λ (r : Performed). leaves r (a .t .now)) (c .fail .ensures) ∙ sym (refused (a .t .now) OperationNotSupported) ∙ sym (ap (performing (a .n) (a .fresh .now) (a .holder) (a .t .now)) (c .before .enum-told .given .1))
+
+returns-2 : tie.Need-returns-2
+unfolding performing plan
+returns-2 c =
+    let a = c .before .before .before .before .before .args in
+    ap (λ (r : Performed). leaves r (a .t .now)) (c .fail2 .ensures) ∙ sym (refused (a .t .now) InvalidField) ∙ sym (ap (performing (a .n) (a .fresh .now) (a .holder) (a .t .now)) (c .before .enum-told2 .given .1))
+
+same-length : tie.Need-same-length
+same-length c = search needs
+
+returns-3 : tie.Need-returns-3
+unfolding performing plan createPlan
+returns-3 c =
+    let a = c .before .before .before .before .before .before .before .before .before .args in
+    c .before .before .create .ensures ∙ sym (ap (performing (a .n) (a .fresh .now) (a .holder) (a .t .now)) (c .before .before .before .before .before .command .given .1))
+
+same-length-2 : tie.Need-same-length-2
+same-length-2 c = search needs
+
+returns-4 : tie.Need-returns-4
+unfolding performing plan deedPlan
+returns-4 c =
+    let a = c .before .before .before .before .before .before .before .before .before .args in
+    c .before .before .act-on .ensures ∙ sym (ap (performing (a .n) (a .fresh .now) (a .holder) (a .t .now)) (c .before .before .before .before .before .command2 .given .1))
+
+same-length-3 : tie.Need-same-length-3
+same-length-3 c = search needs
+
+returns-5 : tie.Need-returns-5
+unfolding performing plan deedPlan
+returns-5 c =
+    let a = c .before .before .before .before .before .before .before .before .before .args in
+    c .before .before .act-on2 .ensures ∙ sym (ap (performing (a .n) (a .fresh .now) (a .holder) (a .t .now)) (c .before .before .before .before .before .command3 .given .1))
+
+same-length-4 : tie.Need-same-length-4
+same-length-4 c = search needs
+
+returns-6 : tie.Need-returns-6
+unfolding performing plan deedPlan movePlan activatePlan moveTests ifb
+returns-6 c =
+    let a = c .before .before .before .before .before .before .before .before .before .args in
+    c .before .before .act-on3 .ensures ∙ sym (ap (performing (a .n) (a .fresh .now) (a .holder) (a .t .now)) (c .before .before .before .before .before .command4 .given .1))
+
+same-length-5 : tie.Need-same-length-5
+same-length-5 c = search needs
+
+returns-7 : tie.Need-returns-7
+unfolding performing plan deedPlan movePlan revokePlan moveTests ifb
+returns-7 c =
+    let a = c .before .before .before .before .before .before .before .before .before .args in
+    c .before .before .act-on4 .ensures ∙ sym (ap (performing (a .n) (a .fresh .now) (a .holder) (a .t .now)) (c .before .before .before .before .before .command5 .given .1))
+
+same-length-6 : tie.Need-same-length-6
+same-length-6 c = search needs
+
+returns-8 : tie.Need-returns-8
+unfolding performing plan deedPlan movePlan destroyPlan moveTests ifb
+returns-8 c =
+    let a = c .before .before .before .before .before .before .before .before .before .args in
+    c .before .before .act-on5 .ensures ∙ sym (ap (performing (a .n) (a .fresh .now) (a .holder) (a .t .now)) (c .before .before .before .before .before .command6 .given .1))
+
+same-length-7 : tie.Need-same-length-7
+same-length-7 c = search needs
+
+returns-9 : tie.Need-returns-9
+unfolding performing plan deedPlan
+returns-9 c =
+    let a = c .before .before .before .before .before .before .before .before .before .args in
+    c .before .before .act-on6 .ensures ∙ sym (ap (performing (a .n) (a .fresh .now) (a .holder) (a .t .now)) (c .before .before .before .before .before .command7 .given .1))
+
+pub perform-spec : {M : Type 1} → statement M
+perform-spec =
+    tie.close
+    (tie.spec
+    enum-told
+    fail-requires
+    enum-told-2
+    fail-requires-2
+    enum-known-command
+    create-requires
+    enum-known-command-2
+    act-on-requires
+    enum-known-command-3
+    act-on-requires-2
+    enum-known-command-4
+    act-on-requires-3
+    enum-known-command-5
+    act-on-requires-4
+    enum-known-command-6
+    act-on-requires-5
+    enum-known-command-7
+    act-on-requires-6
+    returns
+    returns-2
+    same-length
+    returns-3
+    same-length-2
+    returns-4
+    same-length-3
+    returns-5
+    same-length-4
+    returns-6
+    same-length-5
+    returns-7
+    same-length-6
+    returns-8
+    same-length-7
+    returns-9)

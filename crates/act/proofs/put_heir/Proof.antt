@@ -1,0 +1,52 @@
+-- `put_heir` meets its contract: the old record names its replacement, which is stored after it.
+-- Assumes nothing.
+use mathlib.Core.Path.{_≡_, refl, sym, ap, ap₂, _∙_}
+use Prim.Native.Nat.{ℕ, _+_}
+use mathlib.Core.List.{List, []}
+use Rattle.table.specs.declared.Found.the-variants.{At, Nothing}
+use Rattle.table.specs.Records.{withPlace}
+use Rattle.rules.specs.Records.{linkedTo}
+use Rattle.rules.specs.Changes.{bornAt}
+use Rattle.act.specs.Perform.{linkedAt}
+use borrow.Author.Needs.{needs}
+use Rattle.act.proofs.put_heir.Statement.{statement}
+use Rattle.act.proofs.put_heir.Tie as tie
+use Rattle.act.proofs.put_heir.Reads as reads
+use Rattle.act.proofs.put_heir.Lts as lts
+use Rattle.act.proofs.put_born.Reads as put-born-reads
+use Rattle.rules.proofs.linked_to.Reads as linked-to-reads
+use Rattle.table.proofs.load.Reads as load-reads
+use Rattle.table.proofs.store.Reads as store-reads
+
+load-requires : tie.Need-load-requires
+load-requires c κs = search needs
+
+linked-to-requires : tie.Need-linked-to-requires
+linked-to-requires c κs = search needs
+
+store-requires : tie.Need-store-requires
+store-requires c κs = search needs
+
+put-born-requires : tie.Need-put-born-requires
+put-born-requires c κs = search needs
+
+same-length : tie.Need-same-length
+same-length c = search needs
+
+returns : tie.Need-returns
+unfolding linkedAt
+returns c =
+    let a = c .before .before .before .before .before .before .before .before .before .before .before .before .args in
+    let linked = c .before .before .before .before .before .before .before .before .linked-to .ensures ∙ ap (linkedTo (a .heir .serial)) (c .before .before .before .before .before .before .before .before .before .load .ensures) in
+    c .before .before .put-born .ensures ∙ ap (λ (u : List ℕ). bornAt (a .n) u (a .heir) (At (a .place))) (c .before .before .before .before .before .before .store .ensures ∙ ap (withPlace (a .n) (a .t .now) (a .i)) linked)
+
+pub put-heir-spec : {M : Type 1} → statement M
+put-heir-spec =
+    tie.close
+    (tie.spec
+    load-requires
+    linked-to-requires
+    store-requires
+    put-born-requires
+    same-length
+    returns)

@@ -1,0 +1,21 @@
+-- `show_at` meets its contract: what it shows is the record at the place.
+-- Assumes nothing.
+use mathlib.Core.Path.{_≡_, refl, sym, ap, ap₂, _∙_}
+use Rattle.act.specs.Act.{shownOf}
+use Rattle.act.specs.Perform.{showing}
+use borrow.Author.Needs.{needs}
+use Rattle.act.proofs.show_at.Statement.{statement}
+use Rattle.act.proofs.show_at.Tie as tie
+use Rattle.act.proofs.show_at.Reads as reads
+use Rattle.act.proofs.show_at.Lts as lts
+use Rattle.table.proofs.load.Reads as load-reads
+
+load-requires : tie.Need-load-requires
+load-requires c κs = search needs
+
+returns : tie.Need-returns
+unfolding shownOf
+returns c = ap (showing (c .before .before .args .holder)) (c .load .ensures)
+
+pub show-at-spec : {M : Type 1} → statement M
+show-at-spec = tie.close (tie.spec load-requires returns)

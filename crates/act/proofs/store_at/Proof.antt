@@ -1,0 +1,27 @@
+-- `store_at` meets its contract: one store, and the record's serial.
+-- Assumes nothing.
+use mathlib.Core.Path.{_≡_, refl, sym, ap, ap₂, _∙_}
+use Prim.Native.Nat.{ℕ, _+_}
+use mathlib.Core.List.{List, []}
+use Rattle.act.specs.declared.Outcome.the-variants.{Done}
+use Rattle.act.specs.Act.{Did}
+use borrow.Author.Needs.{needs}
+use Rattle.act.proofs.store_at.Statement.{statement}
+use Rattle.act.proofs.store_at.Tie as tie
+use Rattle.act.proofs.store_at.Reads as reads
+use Rattle.act.proofs.store_at.Lts as lts
+use Rattle.table.proofs.store.Reads as store-reads
+
+store-requires : tie.Need-store-requires
+store-requires c κs = search needs
+
+same-length : tie.Need-same-length
+same-length c = search needs
+
+returns : tie.Need-returns
+returns c =
+    let a = c .before .before .before .before .before .args in
+    ap (λ (u : List ℕ). record { outcome = Done (a .changed .serial); table = u; holder = a .holder }) (c .before .before .store .ensures)
+
+pub store-at-spec : {M : Type 1} → statement M
+store-at-spec = tie.close (tie.spec store-requires same-length returns)

@@ -1,0 +1,94 @@
+-- What `perform` and the functions below it leave, said by the plans.
+-- Assumes nothing.
+use Prim.Native.Nat.{ℕ, _+_, _-_}
+use mathlib.Core.Bool.{Bool, true, false}
+use mathlib.Core.List.{List, []}
+use lib.Dec.{eqb}
+use Rattle.octets.specs.If.{ifb}
+use Rattle.table.specs.declared.Record.{Record}
+use Rattle.table.specs.declared.Found.{Found}
+use Rattle.table.specs.declared.Found.the-variants.{At, Nothing}
+use Rattle.table.specs.Records.{placeAt, withPlace, lastSerial}
+use Rattle.table.specs.Search.{newPlace}
+use Rattle.rules.specs.declared.Reason.{Reason}
+use Rattle.rules.specs.declared.Reason.the-variants.{ServerLimitExceeded}
+use Rattle.rules.specs.Tests.{due}
+use Rattle.rules.specs.States.{moveTests}
+use Rattle.rules.specs.Records.{heirOf, linkedTo}
+use Rattle.rules.specs.Changes.{serialMost, nextSerial, bornAt}
+use Rattle.payload.specs.declared.Target.{Target}
+use Rattle.payload.specs.declared.Command.{Command}
+use Rattle.act.specs.declared.Outcome.{Outcome}
+use Rattle.act.specs.declared.Outcome.the-variants.{Failed, Done, Showed}
+use Rattle.act.specs.declared.Performed.{Performed}
+use Rattle.act.specs.declared.Deed.{Deed}
+use Rattle.act.specs.declared.Deed.the-variants.{Replace, Allocate, Move, Show}
+use Rattle.act.specs.Act.{Env, Did, Plan, failing, carried, shownOf, rekeyPlan, allocationPlan, showPlan, changed, moved, targeted, plan}
+
+-- ---- the answer of a function
+
+-- what an item leaves: a function's answer, and the table after it
+abbrev pub leaves : Performed → List ℕ → Did
+leaves r t = record { outcome = r .outcome; table = t; holder = r .holder }
+
+-- "a failed item empties" the placeholder
+abbrev pub failed : Reason → Performed
+failed reason = record { outcome = Failed reason; holder = 0 }
+
+-- Get Attributes shows the record and keeps the placeholder
+abbrev pub showing : ℕ → Record → Performed
+showing holder r = record { outcome = Showed (shownOf r); holder = holder }
+
+-- ---- a command carried out
+
+-- the reason that is due in a plan, or what it does
+abbrev pub carriedOut : List ℕ → Plan → Did
+carriedOut t p = carried t (p .did) (due (p .tests))
+
+-- what an item meets, but for the clock, which plays no part
+abbrev pub inPlaces : ℕ → List ℕ → Env
+inPlaces n fresh = record { places = n; clock = 0; fresh = fresh }
+
+-- a command carried out on a table of n places with an item's part of the fresh strip
+unfoldable pub performing : ℕ → List ℕ → ℕ → List ℕ → Command → Did
+performing n fresh holder t command = carriedOut t (plan (inPlaces n fresh) holder t command)
+
+-- ---- by parts
+
+-- where a new object goes: nowhere if every serial is issued
+unfoldable pub roomFor : ℕ → List ℕ → Found
+roomFor n t = ifb (eqb (lastSerial t) serialMost) Nothing (newPlace n t)
+
+-- the table in which the record at place i names its replacement
+unfoldable pub linkedAt : ℕ → List ℕ → ℕ → Record → List ℕ
+linkedAt n t i heir = withPlace n t i (linkedTo (heir .serial) (placeAt n t i))
+
+-- Re-key of a record that may be replaced, by where the new object goes
+unfoldable pub replacing : ℕ → List ℕ → List ℕ → ℕ → Record → Found → Did
+replacing n fresh t i old (At place) =
+    let heir = heirOf (nextSerial t) old fresh in
+    record { outcome = Done (nextSerial t); table = bornAt n (linkedAt n t i heir) heir (At place); holder = nextSerial t }
+replacing n fresh t i old Nothing = failing t ServerLimitExceeded
+
+-- a record stored anew at place i
+abbrev pub storing : ℕ → ℕ → List ℕ → ℕ → Record → Did
+storing n holder t i r = changed (inPlaces n []) holder t i r
+
+-- Activate, Revoke and Destroy as one
+unfoldable pub movePlan : ℕ → ℕ → List ℕ → ℕ → ℕ → ℕ → Record → Plan
+movePlan n holder t operation code i r = record {
+  tests = moveTests operation code (r .state);
+  did = moved (inPlaces n []) holder t operation code i r;
+}
+
+module _ (env : Env) (holder : ℕ) (t : List ℕ) where
+  -- what is asked of the record at place i
+  unfoldable pub deedPlan : Deed → ℕ → Record → Plan
+  deedPlan Replace = rekeyPlan env holder t
+  deedPlan (Allocate amount) = allocationPlan env holder t amount
+  deedPlan (Move operation code) = movePlan (env .places) holder t operation code
+  deedPlan Show = showPlan env holder t
+
+  -- what is asked of the record that an item is about
+  abbrev pub aboutPlan : Deed → Target → Plan
+  aboutPlan deed target = targeted env holder t (deedPlan deed) target
