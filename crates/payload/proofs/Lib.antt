@@ -1,3 +1,8 @@
--- Worked cases of payloads.
+-- Laws of the payload readers, that no second outcome satisfies a contract, and worked cases.
 -- Assumes nothing.
+pub mod Steps
+pub mod Targets
+pub mod Wanted
+pub mod Commands
+pub mod Unique
 pub mod Worked

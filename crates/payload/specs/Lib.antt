@@ -2,3 +2,4 @@
 -- Assumes nothing.
 pub mod Tags
 pub mod Payload
+pub mod Readers

@@ -1,6 +1,60 @@
 // Payloads: what an item asks for, as a command, or that it is not allowed or not supported.
-// It knows TTLV by its items alone, and looks at no table.
+// It knows TTLV by its items alone, and looks at no table. A function that asks for a run of items is given one by the frame's reader, whose items are runs.
 use rules::Attributes;
+use ttlv::BodyField;
+use ttlv::BytesField;
+use ttlv::NumberField;
+ghost use mathlib.Core.Path.{_≡_};
+ghost use mathlib.Core.Bool.{true};
+ghost use Rattle.ttlv.specs.Tree.{isRun, treeOf};
+ghost use Rattle.rules.specs.States.{codeOk};
+ghost use Rattle.payload.specs.Payload.{limitIn, attributesIn, createIn, aloneIn, amountOk, allocationIn, revokeIn, orInvalid, command};
+ghost use Rattle.payload.specs.Readers.{onlyNumberAt, onlyBodyAt, targetAt, limitRead, limitsIn, limitsRead, maskedIn, attributesRead, aloneOf};
+
+// The operations.
+const CREATE: u32 = 0x01;
+
+const REKEY: u32 = 0x04;
+
+const GET_ATTRIBUTES: u32 = 0x0B;
+
+const GET_USAGE_ALLOCATION: u32 = 0x11;
+
+const ACTIVATE: u32 = 0x12;
+
+const REVOKE: u32 = 0x13;
+
+const DESTROY: u32 = 0x14;
+
+// The tags.
+const CRYPTOGRAPHIC_ALGORITHM: u32 = 0x420028;
+
+const CRYPTOGRAPHIC_LENGTH: u32 = 0x42002A;
+
+const CRYPTOGRAPHIC_USAGE_MASK: u32 = 0x42002C;
+
+const OBJECT_TYPE: u32 = 0x420057;
+
+const REVOCATION_REASON: u32 = 0x420081;
+
+const REVOCATION_REASON_CODE: u32 = 0x420082;
+
+const UNIQUE_IDENTIFIER: u32 = 0x420094;
+
+const USAGE_LIMITS: u32 = 0x420095;
+
+const USAGE_LIMITS_COUNT: u32 = 0x420096;
+
+const USAGE_LIMITS_TOTAL: u32 = 0x420097;
+
+const USAGE_LIMITS_UNIT: u32 = 0x420098;
+
+const ATTRIBUTES: u32 = 0x420125;
+
+// The one Object Type and the one algorithm: a symmetric key, AES.
+const SYMMETRIC_KEY: u64 = 2;
+
+const AES: u64 = 3;
 
 // The record that an item is about: the one whose serial its identifier text names, 0 where it names none; or the placeholder's.
 pub enum Target {
@@ -21,4 +75,324 @@ pub enum Command {
     Revoke { target: Target, code: u32 },
     Destroy { target: Target },
     GetAttributes { target: Target },
+}
+
+// The target at the front, with the rest of the run from next on. Or an identifier that is no Text String stands there.
+pub enum TargetRead {
+    Is { target: Target, next: usize },
+    NoTarget,
+}
+
+// A usage limit, with unit 0 and total 0 where there is none. Or something that is no limit by the rules.
+pub enum LimitRead {
+    Limited { unit: u8, total: u64 },
+    NoLimit,
+}
+
+// The attributes of a new key, or that there are none by the rules.
+pub enum AttributesRead {
+    Wanted { wanted: Attributes },
+    NoAttributes,
+}
+
+// The number of the item at the front, if it has this tag and type and nothing is behind it.
+fn only_number(s: &[u8], tag: u32, kind: u8) -> NumberField
+    ensures { λ r. ⌜ r ≡ onlyNumberAt (now (s .entry)) tag kind ⌝ }
+{
+    let NumberField::Number { value, next } = ttlv::number_field(s, tag, kind) else {
+        return NumberField::NoNumber;
+    };
+    if next != s.len() {
+        return NumberField::NoNumber;
+    }
+    NumberField::Number { value, next }
+}
+
+// The structure at the front, if it has this tag and nothing is behind it.
+fn only_body(s: &[u8], tag: u32) -> BodyField
+    ensures { λ r. ⌜ r ≡ onlyBodyAt (now (s .entry)) tag ⌝ }
+{
+    let BodyField::Body { next: end } = ttlv::body_field(s, tag) else {
+        return BodyField::NoBody;
+    };
+    if end != s.len() {
+        return BodyField::NoBody;
+    }
+    BodyField::Body { next: end }
+}
+
+// The target at the front: an item with the identifier's tag has to be a Text String.
+fn read_target(s: &[u8]) -> TargetRead
+    ensures { λ r. ⌜ r ≡ targetAt (now (s .entry)) ⌝ }
+{
+    if !ttlv::starts_with(s, UNIQUE_IDENTIFIER) {
+        return TargetRead::Is {
+            target: Target::Placeholder,
+            next: 0,
+        };
+    }
+    let BytesField::Span { len, next } = ttlv::bytes_field(s, UNIQUE_IDENTIFIER, ttlv::TEXT_STRING)
+    else {
+        return TargetRead::NoTarget;
+    };
+    let stop = 8 + len;
+    TargetRead::Is {
+        target: Target::Serial {
+            serial: identifier::serial_of(&s[8..stop]),
+        },
+        next,
+    }
+}
+
+// The items of Usage Limits.
+fn read_limit(s: &[u8]) -> LimitRead
+    requires { ⌜ isRun (now s) ≡ true ⌝ }
+    ensures { λ r. ⌜ r ≡ limitRead (limitIn (treeOf (now (s .entry)))) ⌝ }
+{
+    let NumberField::Number { value: total, next } = ttlv::number_field(
+        s,
+        USAGE_LIMITS_TOTAL,
+        ttlv::LONG_INTEGER,
+    ) else {
+        return LimitRead::NoLimit;
+    };
+    if !soundness::total_ok(total) {
+        return LimitRead::NoLimit;
+    }
+    let NumberField::Number {
+        value: unit,
+        next: _,
+    } = only_number(&s[next..], USAGE_LIMITS_UNIT, ttlv::ENUMERATION)
+    else {
+        return LimitRead::NoLimit;
+    };
+    if !soundness::unit_ok(unit) {
+        return LimitRead::NoLimit;
+    }
+    LimitRead::Limited {
+        unit: unit as u8,
+        total,
+    }
+}
+
+// The items behind the mask: Usage Limits, or nothing.
+fn read_limits(s: &[u8]) -> LimitRead
+    requires { ⌜ isRun (now s) ≡ true ⌝ }
+    ensures { λ r. ⌜ r ≡ limitsRead (limitsIn (treeOf (now (s .entry)))) ⌝ }
+{
+    if s.len() == 0 {
+        return LimitRead::Limited { unit: 0, total: 0 };
+    }
+    let BodyField::Body { next } = only_body(s, USAGE_LIMITS) else {
+        return LimitRead::NoLimit;
+    };
+    read_limit(&s[8..next])
+}
+
+// The items from the mask on, with the length that stands in front of them.
+fn read_masked(s: &[u8], bits: u16) -> AttributesRead
+    requires { ⌜ isRun (now s) ≡ true ⌝ }
+    ensures { λ r. ⌜ r ≡ attributesRead (maskedIn bits (treeOf (now (s .entry)))) ⌝ }
+{
+    let NumberField::Number { value: mask, next } = ttlv::number_field(
+        s,
+        CRYPTOGRAPHIC_USAGE_MASK,
+        ttlv::INTEGER,
+    ) else {
+        return AttributesRead::NoAttributes;
+    };
+    if !soundness::mask_ok(mask) {
+        return AttributesRead::NoAttributes;
+    }
+    let LimitRead::Limited { unit, total } = read_limits(&s[next..]) else {
+        return AttributesRead::NoAttributes;
+    };
+    AttributesRead::Wanted {
+        wanted: Attributes {
+            bits,
+            mask: mask as u32,
+            unit,
+            total,
+        },
+    }
+}
+
+// The items of Attributes.
+fn read_attributes(s: &[u8]) -> AttributesRead
+    requires { ⌜ isRun (now s) ≡ true ⌝ }
+    ensures { λ r. ⌜ r ≡ attributesRead (attributesIn (treeOf (now (s .entry)))) ⌝ }
+{
+    let NumberField::Number {
+        value: algorithm,
+        next,
+    } = ttlv::number_field(s, CRYPTOGRAPHIC_ALGORITHM, ttlv::ENUMERATION)
+    else {
+        return AttributesRead::NoAttributes;
+    };
+    if algorithm != AES {
+        return AttributesRead::NoAttributes;
+    }
+    let t = &s[next..];
+    let NumberField::Number {
+        value: bits,
+        next: after,
+    } = ttlv::number_field(t, CRYPTOGRAPHIC_LENGTH, ttlv::INTEGER)
+    else {
+        return AttributesRead::NoAttributes;
+    };
+    if !soundness::bits_ok(bits) {
+        return AttributesRead::NoAttributes;
+    }
+    read_masked(&t[after..], bits as u16)
+}
+
+// The payload of Create.
+fn read_create(s: &[u8]) -> Command
+    requires { ⌜ isRun (now s) ≡ true ⌝ }
+    ensures { λ r. ⌜ r ≡ orInvalid (createIn (treeOf (now (s .entry)))) ⌝ }
+{
+    let NumberField::Number { value: kind, next } = ttlv::number_field(
+        s,
+        OBJECT_TYPE,
+        ttlv::ENUMERATION,
+    ) else {
+        return Command::Invalid;
+    };
+    if kind != SYMMETRIC_KEY {
+        return Command::Invalid;
+    }
+    let t = &s[next..];
+    let BodyField::Body { next: end } = only_body(t, ATTRIBUTES) else {
+        return Command::Invalid;
+    };
+    let AttributesRead::Wanted { wanted } = read_attributes(&t[8..end]) else {
+        return Command::Invalid;
+    };
+    Command::Create { wanted }
+}
+
+// The command of an operation that asks for nothing but its target.
+fn alone(operation: u32, target: Target) -> Command
+    ensures { λ r. ⌜ r ≡ aloneOf operation target ⌝ }
+{
+    if operation == REKEY {
+        return Command::Rekey { target };
+    }
+    if operation == ACTIVATE {
+        return Command::Activate { target };
+    }
+    if operation == DESTROY {
+        return Command::Destroy { target };
+    }
+    Command::GetAttributes { target }
+}
+
+// The payload of Re-key, Activate, Destroy or Get Attributes.
+fn read_alone(operation: u32, s: &[u8]) -> Command
+    requires { ⌜ isRun (now s) ≡ true ⌝ }
+    ensures { λ r. ⌜ r ≡ orInvalid (aloneIn (aloneOf operation) (treeOf (now (s .entry)))) ⌝ }
+{
+    let TargetRead::Is {
+        target,
+        next: after,
+    } = read_target(s)
+    else {
+        return Command::Invalid;
+    };
+    if after != s.len() {
+        return Command::Invalid;
+    }
+    alone(operation, target)
+}
+
+// Whether an amount of units can be asked for.
+fn amount_ok(amount: u64) -> bool
+    ensures { λ r. ⌜ r ≡ amountOk amount ⌝ }
+{
+    (1 <= amount) & (amount < 0x8000_0000_0000_0000)
+}
+
+// The payload of Get Usage Allocation.
+fn read_allocation(s: &[u8]) -> Command
+    requires { ⌜ isRun (now s) ≡ true ⌝ }
+    ensures { λ r. ⌜ r ≡ orInvalid (allocationIn (treeOf (now (s .entry)))) ⌝ }
+{
+    let TargetRead::Is { target, next } = read_target(s) else {
+        return Command::Invalid;
+    };
+    let NumberField::Number {
+        value: amount,
+        next: _,
+    } = only_number(&s[next..], USAGE_LIMITS_COUNT, ttlv::LONG_INTEGER)
+    else {
+        return Command::Invalid;
+    };
+    if !amount_ok(amount) {
+        return Command::Invalid;
+    }
+    Command::GetUsageAllocation { target, amount }
+}
+
+// Whether there is a revocation code of this number.
+fn code_ok(code: u64) -> bool
+    ensures { λ r. ⌜ r ≡ codeOk code ⌝ }
+{
+    (1 <= code) & (code <= 7)
+}
+
+// The payload of Revoke.
+fn read_revoke(s: &[u8]) -> Command
+    requires { ⌜ isRun (now s) ≡ true ⌝ }
+    ensures { λ r. ⌜ r ≡ orInvalid (revokeIn (treeOf (now (s .entry)))) ⌝ }
+{
+    let TargetRead::Is { target, next } = read_target(s) else {
+        return Command::Invalid;
+    };
+    let t = &s[next..];
+    let BodyField::Body { next: end } = only_body(t, REVOCATION_REASON) else {
+        return Command::Invalid;
+    };
+    let NumberField::Number {
+        value: code,
+        next: _,
+    } = only_number(&t[8..end], REVOCATION_REASON_CODE, ttlv::ENUMERATION)
+    else {
+        return Command::Invalid;
+    };
+    if !code_ok(code) {
+        return Command::Invalid;
+    }
+    Command::Revoke {
+        target,
+        code: code as u32,
+    }
+}
+
+// What an item with this operation and this payload asks for. The frame's reader shows that a payload is a run of items.
+pub fn read_command(operation: u32, s: &[u8]) -> Command
+    requires { ⌜ isRun (now s) ≡ true ⌝ }
+    ensures { λ r. ⌜ r ≡ command operation (treeOf (now (s .entry))) ⌝ }
+{
+    if operation == CREATE {
+        return read_create(s);
+    }
+    if operation == REKEY {
+        return read_alone(operation, s);
+    }
+    if operation == GET_USAGE_ALLOCATION {
+        return read_allocation(s);
+    }
+    if operation == ACTIVATE {
+        return read_alone(operation, s);
+    }
+    if operation == REVOKE {
+        return read_revoke(s);
+    }
+    if operation == DESTROY {
+        return read_alone(operation, s);
+    }
+    if operation == GET_ATTRIBUTES {
+        return read_alone(operation, s);
+    }
+    Command::Unsupported
 }

@@ -1,0 +1,106 @@
+-- What the payload readers answer of lent bytes: the fields, where they end, and each part of a payload on its own.
+-- Assumes nothing. The bytes are a run of items, whose items are `treeOf`.
+use Prim.Native.Nat.{ℕ}
+use mathlib.Core.Option.{Option, none, some}
+use mathlib.Core.List.{List}
+use lib.ListN.{length}
+use lib.Dec.{eqb}
+use Rattle.octets.specs.If.{ifb}
+use Rattle.octets.specs.Maybe.{_>>=_, _>>_}
+use Rattle.octets.specs.Octets.{part}
+use Rattle.ttlv.specs.Types.{integer, textString}
+use Rattle.ttlv.specs.Items.{Items}
+use Rattle.ttlv.specs.Fields.{ended, numberOf, optional}
+use Rattle.ttlv.specs.Found.{startsAt, bytesAt, numberAt, bodyAt}
+use Rattle.ttlv.specs.declared.BytesField.{BytesField}
+use Rattle.ttlv.specs.declared.BytesField.the-variants.{Span, NoSpan}
+use Rattle.ttlv.specs.declared.NumberField.{NumberField}
+use Rattle.ttlv.specs.declared.NumberField.the-variants.{Number, NoNumber}
+use Rattle.ttlv.specs.declared.BodyField.{BodyField}
+use Rattle.ttlv.specs.declared.BodyField.the-variants.{Body, NoBody}
+use Rattle.identifier.specs.Identifier.{serialOf}
+use Rattle.soundness.specs.Sound.{maskOk}
+use Rattle.rules.specs.declared.Attributes.{Attributes}
+use Rattle.rules.specs.Numbers.{rekey, activate, destroy}
+use Rattle.payload.specs.Tags.{cryptographicUsageMask, uniqueIdentifier, usageLimits}
+use Rattle.payload.specs.Payload.{Limit, limitFirst, wantedOf}
+use Rattle.payload.specs.declared.Target.{Target}
+use Rattle.payload.specs.declared.Target.the-variants.{Placeholder, Serial}
+use Rattle.payload.specs.declared.Command.{Command}
+use Rattle.payload.specs.declared.Command.the-variants.{Rekey, Activate, Destroy, GetAttributes}
+use Rattle.payload.specs.declared.TargetRead.{TargetRead}
+use Rattle.payload.specs.declared.TargetRead.the-variants.{Is, NoTarget}
+use Rattle.payload.specs.declared.LimitRead.{LimitRead}
+use Rattle.payload.specs.declared.LimitRead.the-variants.{Limited, NoLimit}
+use Rattle.payload.specs.declared.AttributesRead.{AttributesRead}
+use Rattle.payload.specs.declared.AttributesRead.the-variants.{Wanted, NoAttributes}
+
+-- ---- a field with nothing behind it
+
+unfoldable pub lastNumber : ℕ → NumberField → NumberField
+lastNumber n (Number v next) = ifb (eqb next n) (Number v next) NoNumber
+lastNumber n NoNumber = NoNumber
+
+-- the number at the front of s, which ends where s ends
+unfoldable pub onlyNumberAt : List ℕ → ℕ → ℕ → NumberField
+onlyNumberAt s tag kind = lastNumber (length s) (numberAt s tag kind)
+
+unfoldable pub lastBody : ℕ → BodyField → BodyField
+lastBody n (Body next) = ifb (eqb next n) (Body next) NoBody
+lastBody n NoBody = NoBody
+
+-- the structure at the front of s, which ends where s ends
+unfoldable pub onlyBodyAt : List ℕ → ℕ → BodyField
+onlyBodyAt s tag = lastBody (length s) (bodyAt s tag)
+
+-- ---- the target
+
+unfoldable pub targetSpan : List ℕ → BytesField → TargetRead
+targetSpan s (Span n next) = Is (Serial (serialOf (part s 8 n))) next
+targetSpan s NoSpan = NoTarget
+
+-- the target at the front of s and where it ends: the placeholder, which ends at 0, where no identifier is given
+unfoldable pub targetAt : List ℕ → TargetRead
+targetAt s = ifb (startsAt s uniqueIdentifier) (targetSpan s (bytesAt s uniqueIdentifier textString)) (Is Placeholder 0)
+
+-- the command of an operation that asks for nothing but its target
+unfoldable pub aloneOf : ℕ → Target → Command
+aloneOf operation target =
+    ifb (eqb operation rekey) (Rekey target)
+    (ifb (eqb operation activate) (Activate target)
+    (ifb (eqb operation destroy) (Destroy target)
+    (GetAttributes target)))
+
+-- ---- attributes
+
+-- a limit as the reader answers it
+unfoldable pub limitRead : Option Limit → LimitRead
+limitRead none = NoLimit
+limitRead (some limit) = Limited (limit .unit) (limit .total)
+
+-- the end of Attributes: "[Usage Limits]"
+unfoldable pub limitsIn : Items → Option (Option Limit)
+limitsIn t = do
+  (limit, v) ← optional usageLimits limitFirst t
+  ended v
+  some limit
+
+-- the same as the reader answers it: no limit is unit 0 and total 0
+unfoldable pub limitsRead : Option (Option Limit) → LimitRead
+limitsRead none = NoLimit
+limitsRead (some none) = Limited 0 0
+limitsRead (some (some limit)) = Limited (limit .unit) (limit .total)
+
+-- Attributes from the mask on, with the length that stands in front
+unfoldable pub maskedIn : ℕ → Items → Option Attributes
+maskedIn bits t = do
+  (mask, u) ← numberOf cryptographicUsageMask integer t
+  maskOk mask
+  (limit, v) ← optional usageLimits limitFirst u
+  ended v
+  some (wantedOf bits mask limit)
+
+-- attributes as the reader answers them
+unfoldable pub attributesRead : Option Attributes → AttributesRead
+attributesRead none = NoAttributes
+attributesRead (some wanted) = Wanted wanted
