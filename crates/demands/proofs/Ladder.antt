@@ -10,7 +10,7 @@ use lib.Dec.{ltb, eqb}
 use native.Mathlib.Omega.{arith}
 use borrow.Author.Tests.{ltb-false, eqb-true, not-false}
 use Rattle.octets.specs.If.{ifb}
-use Rattle.octets.proofs.If.{on-if}
+use Rattle.octets.proofs.If.{ifb-false, on-if}
 use Rattle.octets.specs.Maybe.{_>>=_, isSome}
 use Rattle.ttlv.specs.Items.{Items}
 use Rattle.ttlv.specs.Parse.{message}
@@ -98,6 +98,10 @@ lowest-most k (b ∷ bs) h = on-if (λ (n : ℕ). n < k + suc (length bs)) (λ e
 
 -- ---- a refusal
 
+-- the request that an accepted call makes
+abbrev pub requestOf : Frame → Request
+requestOf frame = record { option = optionOf (frame .header .option); items = frame .items }
+
 -- what an accepted call has
 pub record Accepted (c : Call) : Type 0 where
   pub room : roomLeast ≤ length (c .output)
@@ -108,10 +112,7 @@ pub record Accepted (c : Call) : Type 0 where
   pub reads : message (c .request) ≡ some items
   pub framed : frameIn items ≡ some frame
   pub counted : countOk frame ≡ true
-
--- the request that an accepted call makes
-abbrev pub requestOf : Frame → Request
-requestOf frame = record { option = optionOf (frame .header .option); items = frame .items }
+  pub asks : framing (some frame) ≡ asked (requestOf frame)
 
 -- what an accepted call runs
 abbrev pub ranBy : (c : Call) → Accepted c → Ran
@@ -132,11 +133,21 @@ module _ (c : Call) where
   by-frame room strip right items m (some f) e =
       on-if (λ (x : Framed). Told c (carryOut (c .clock) (c .table) (c .strip) (c .output) x))
       (λ n. away 6)
-      (λ n. on-if (λ (x : Framed). Told c (carryOut (c .clock) (c .table) (c .strip) (c .output) x))
+      (λ version. on-if (λ (x : Framed). Told c (carryOut (c .clock) (c .table) (c .strip) (c .output) x))
       (λ n. away 7)
       (λ counted. on-if (λ (x : Framed). Told c (carryOut (c .clock) (c .table) (c .strip) (c .output) x))
       (λ n. away 8)
-      (λ n. accepted (record { room = room; strip = strip; right = right; items = items; frame = f; reads = m; framed = e; counted = not-false (countOk f) counted }))))
+      (λ option. accepted (record {
+        room = room;
+        strip = strip;
+        right = right;
+        items = items;
+        frame = f;
+        reads = m;
+        framed = e;
+        counted = not-false (countOk f) counted;
+        asks = ifb-false _ _ _ version ∙ ifb-false _ _ _ counted ∙ ifb-false _ _ _ option;
+      }))))
 
   by-reading : roomLeast ≤ length (c .output) → length (c .strip) ≡ stripSize → sound placeCount (c .table) ≡ true
       → (m : Option Items) → message (c .request) ≡ m → Told c (carryOut (c .clock) (c .table) (c .strip) (c .output) (requested m))

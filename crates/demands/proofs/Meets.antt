@@ -18,7 +18,8 @@ use Rattle.ttlv.proofs.Message.{message-spells}
 use Rattle.table.specs.Layout.{placeCount, materialSize}
 use Rattle.soundness.proofs.Bools.{and-l, and-r, and-i}
 use Rattle.keeps.proofs.Keeps.{Held}
-use Rattle.frame.specs.Frame.{Asked, Frame, Request, optionOf, countOk, batchMost}
+use Rattle.frame.specs.Frame.{Asked, Frame, Request, framing, framed, optionOf, countOk, batchMost}
+use Rattle.frame.proofs.Bounds.{AllBounded, request-bounded}
 use Rattle.answer.specs.Respond.{Answer, Response, respond}
 use Rattle.answer.specs.Read.{answersIn, answerOk, allowed}
 use Rattle.answer.specs.Front.{responseMost}
@@ -27,18 +28,19 @@ use Rattle.answer.proofs.Answers.{answers-back}
 use Rattle.answer.proofs.One.{response-message, bytes-one}
 use Rattle.engine.specs.Batch.{Ran, batch, running}
 use Rattle.engine.specs.Serving.{Effect, roomLeast, stripSize, turnedAway, responseTo, answered, serving}
-use Rattle.engine.proofs.Batches.{Small, Leaves, batch-leaves}
+use Rattle.engine.proofs.Batches.{Leaves, batch-leaves}
 use Rattle.demands.specs.Box.{Call, Box, Lent}
 use Rattle.demands.specs.Demand1.{Demand1, Untouched, Within, refusals}
 use Rattle.demands.specs.Demand2.{Demand2, Answered, Link, answerOf, Chain, refusalConditions, lowest}
 use Rattle.demands.proofs.Chains.{Chained, batch-chain}
 use Rattle.demands.proofs.Ladder.{served, served-number, lowest-most, Accepted, requestOf, ranBy, Told, away, accepted, told}
 
--- the items of an accepted request, as its frame bounds them
-abbrev pub Bounded : Type 0
-Bounded = (c : Call) → Lent c → (a : Accepted c) → Small (a .frame .items)
+module _ (c : Call) (lent : Lent c) (a : Accepted c) where
+  -- its items are bounded as the frame bounds them
+  bounded : AllBounded (a .frame .items)
+  unfolding framed
+  bounded = request-bounded (c .request) (a .items) (requestOf (a .frame)) (lent .request) (a .reads) (ap framing (a .framed) ∙ a .asks)
 
-module _ (small : Bounded) (c : Call) (lent : Lent c) (a : Accepted c) where
   -- 1 to 16 items
   pub count-facts : (1 ≤ length (a .frame .items)) × (length (a .frame .items) ≤ batchMost)
   count-facts =
@@ -55,7 +57,7 @@ module _ (small : Bounded) (c : Call) (lent : Lent c) (a : Accepted c) where
   unfolding running
   ran-leaves =
       batch-leaves placeCount (c .clock) (c .strip) (optionOf (a .frame .header .option)) (lent .strip) (a .frame .items) 0 0 (c .table)
-      (record { right = a .right; bytes = lent .table }) (small c lent a) (omega (arith, count-facts .1, a .strip))
+      (record { right = a .right; bytes = lent .table }) bounded (omega (arith, count-facts .1, a .strip))
 
   -- its response is one that there is
   pub ran-allowed : allowed (responseTo (c .clock) (ranBy c a)) ≡ true
@@ -109,7 +111,7 @@ module _ (small : Bounded) (c : Call) (lent : Lent c) (a : Accepted c) where
 
 -- ---- the demands
 
-module _ (small : Bounded) (B : Box) (is : (c : Call) (e : Effect) → Lent c → B c e → e ≡ served c) (has : (c : Call) → Lent c → (e : Effect) × B c e) where
+module _ (B : Box) (is : (c : Call) (e : Effect) → Lent c → B c e → e ≡ served c) (has : (c : Call) → Lent c → (e : Effect) × B c e) where
   -- what holds of every outcome that the definitions give holds of the box
   by-told : (P : (c : Call) → Effect → Type 0) → ((c : Call) (e : Effect) → Lent c → Told c e → P c e) → (c : Call) (e : Effect) → Lent c → B c e → P c e
   by-told P f c e lent b = subst (P c) (sym (is c e lent b)) (f c (served c) lent (told c))
@@ -121,11 +123,11 @@ module _ (small : Bounded) (B : Box) (is : (c : Call) (e : Effect) → Lent c �
 
   told-within : (c : Call) (e : Effect) → Lent c → Told c e → e .number ≡ 0 → Within c e
   told-within c e lent (away k) h = absurd (omega arith)
-  told-within c e lent (accepted a) h = within small c lent a
+  told-within c e lent (accepted a) h = within c lent a
 
   told-given : (c : Call) (e : Effect) → Lent c → Told c e → e .number ≡ 0 → Answered c e
   told-given c e lent (away k) h = absurd (omega arith)
-  told-given c e lent (accepted a) h = given small c lent a
+  told-given c e lent (accepted a) h = given c lent a
 
   pub meets-1 : Demand1 B
   unfolding refusalConditions

@@ -28,7 +28,7 @@ use Rattle.demands.specs.Log.{Event, issued, granted, limit}
 use Rattle.demands.specs.Demand2.{Link, Chain, frameOf}
 use Rattle.demands.specs.Demand3.{Run, Later, Stands, Tame, Every, Demand3}
 use Rattle.demands.proofs.Ladder.{served, Accepted, Told, away, accepted, told}
-use Rattle.demands.proofs.Meets.{Bounded, count-facts}
+use Rattle.demands.proofs.Meets.{count-facts}
 use Rattle.demands.proofs.Logged.{Inv, Balanced}
 use Rattle.demands.proofs.Paired.{Gone}
 use Rattle.demands.proofs.Runs.{run-inv, later-gone}
@@ -71,33 +71,33 @@ wiped-zero t held i low d = go (eqb (serialAt t i) 0) refl
         pass-zeros (placeAt placeCount t i .material) (facts placeCount t held .fit i low (λ z. true≢false (sym (ap (λ (k : ℕ). eqb k 0) z) ∙ e)) .wiped d)
         ∙ ap (λ (k : ℕ). replicate k 0) long
 
-module _ (small : Bounded) (B : Box) (is : (c : Call) (e : Effect) → Lent c → B c e → e ≡ served c) where
+module _ (B : Box) (is : (c : Call) (e : Effect) → Lent c → B c e → e ≡ served c) where
   -- an accepted call has a part of the strip for each of its items
   told-fits : (c : Call) (e : Effect) → Lent c → Told c e → e .number ≡ 0 → (f : Frame) → frameOf c ≡ some f → materialSize * (0 + length (f .items)) ≤ length (c .strip)
   unfolding frameOf _>>=_
   told-fits c e lent (away k) n f g = absurd (omega arith)
   told-fits c e lent (accepted a) n f g =
       let same : a .frame ≡ f = some-is (sym (ap (λ m. m >>= frameIn) (a .reads) ∙ a .framed) ∙ g) in
-      subst (λ (x : Frame). materialSize * (0 + length (x .items)) ≤ length (c .strip)) same (omega (arith, count-facts small c lent a .1, a .strip))
+      subst (λ (x : Frame). materialSize * (0 + length (x .items)) ≤ length (c .strip)) same (omega (arith, count-facts c lent a .1, a .strip))
 
   pub meets-3 : Demand3 B
   meets-3 = record {
-    balance = λ log t r x i z s. balanced log t (run-inv small B is r) x i z s .0;
-    total = λ log t r x i z s. balanced log t (run-inv small B is r) x i z s .1;
-    within = λ log t r x z. run-inv small B is r .within x z;
+    balance = λ log t r x i z s. balanced log t (run-inv B is r) x i z s .0;
+    total = λ log t r x i z s. balanced log t (run-inv B is r) x i z s .1;
+    within = λ log t r x z. run-inv B is r .within x z;
     gone = λ log t r x z l away log′ t′ more.
-        later-gone small B is x (granted x log) z
+        later-gone B is x (granted x log) z
         (record {
-          inv = run-inv small B is r;
+          inv = run-inv B is r;
           same = refl;
-          known = issued-known log t (run-inv small B is r) x l;
+          known = issued-known log t (run-inv B is r) x l;
           away = λ i low k. away i (record { below = low; serial = serial-is placeCount t i ∙ k });
         }) more .same;
-    once = λ log t r x z. run-inv small B is r .once x z;
-    known = λ log t r x i z s. balanced log t (run-inv small B is r) x i z s .2;
+    once = λ log t r x z. run-inv B is r .once x z;
+    known = λ log t r x i z s. balanced log t (run-inv B is r) x i z s .2;
     tame = λ log t r c e same lent b n f g links chain.
-        chain-tame c (lent .strip) (optionOf (f .header .option)) chain (run-inv small B is r .held)
+        chain-tame c (lent .strip) (optionOf (f .header .option)) chain (run-inv B is r .held)
         (told-fits c (served c) lent (told c) (sym (ap (λ (x : Effect). x .number) (is c e lent b)) ∙ n) f g);
-    wiped = λ log t r i low d. wiped-zero t (run-inv small B is r .held) i low d;
-    stays-sound = λ log t r. run-inv small B is r .held .right;
+    wiped = λ log t r i low d. wiped-zero t (run-inv B is r .held) i low d;
+    stays-sound = λ log t r. run-inv B is r .held .right;
   }

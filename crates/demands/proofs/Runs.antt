@@ -28,7 +28,7 @@ use Rattle.demands.specs.Box.{Call, Box, Lent}
 use Rattle.demands.specs.Log.{Event, itemsOf, answersOf, itemsAsked, answersGiven, paired, logged, issued, granted, limit}
 use Rattle.demands.specs.Demand3.{Run, begins, calls, Later, here, further}
 use Rattle.demands.proofs.Ladder.{served, Accepted, ranBy, Told, away, accepted, told}
-use Rattle.demands.proofs.Meets.{Bounded, count-facts, ran-allowed, spelling, front-is}
+use Rattle.demands.proofs.Meets.{count-facts, ran-allowed, spelling, front-is}
 use Rattle.demands.proofs.Logged.{Inv}
 use Rattle.demands.proofs.Paired.{paired-end, batch-keeps, step-inv, Gone, step-gone}
 
@@ -44,19 +44,19 @@ logged-away : (c : Call) (k : ℕ) (log : List Event) → logged c (turnedAway (
 unfolding logged answersOf _>>=_
 logged-away c k log = ap (λ (m : Option Items). paired 0 (itemsAsked c) (answersOf (m >>= answersIn)) log) no-message ∙ paired-end 0 (itemsAsked c) log
 
-module _ (small : Bounded) (c : Call) (lent : Lent c) (a : Accepted c) where
+module _ (c : Call) (lent : Lent c) (a : Accepted c) where
   -- an accepted one adds its items with their answers
   logged-accepted : (log : List Event) → logged c (answered (c .clock) (c .output) (ranBy c a)) log ≡ paired 0 (a .frame .items) (ranBy c a .answers) log
   unfolding logged answered answersOf itemsOf _>>=_
   logged-accepted log =
       let r : Response = responseTo (c .clock) (ranBy c a) in
       let i : itemsAsked c ≡ a .frame .items = ap (λ (m : Option Items). itemsOf (m >>= frameIn)) (a .reads) ∙ ap itemsOf (a .framed) in
-      let g : (message (take (length (spelling small c lent a)) (over (spelling small c lent a) (c .output))) >>= answersIn) ≡ some r = ap (λ (s : List ℕ). message s >>= answersIn) (front-is small c lent a) ∙ response-back r (ran-allowed small c lent a) in
+      let g : (message (take (length (spelling c lent a)) (over (spelling c lent a) (c .output))) >>= answersIn) ≡ some r = ap (λ (s : List ℕ). message s >>= answersIn) (front-is c lent a) ∙ response-back r (ran-allowed c lent a) in
       ap (λ (m : Option Response). paired 0 (itemsAsked c) (answersOf m) log) g ∙ ap (λ (is : List Asked). paired 0 is (ranBy c a .answers) log) i
 
   -- the strip has its part for every item
   strip-fits : materialSize * (0 + length (a .frame .items)) ≤ length (c .strip)
-  strip-fits = omega (arith, count-facts small c lent a .1, a .strip)
+  strip-fits = omega (arith, count-facts c lent a .1, a .strip)
 
   -- what each item keeps, the call keeps
   accepted-inv : (log : List Event) → Inv placeCount log (c .table) → Inv placeCount (logged c (answered (c .clock) (c .output) (ranBy c a)) log) (ranBy c a .table)
@@ -88,16 +88,16 @@ blank-inv = record {
 
 -- ---- runs of a box whose outcome is that of the definitions
 
-module _ (small : Bounded) (B : Box) (is : (c : Call) (e : Effect) → Lent c → B c e → e ≡ served c) where
+module _ (B : Box) (is : (c : Call) (e : Effect) → Lent c → B c e → e ≡ served c) where
   told-inv : (c : Call) (e : Effect) → Lent c → Told c e → (log : List Event) → Inv placeCount log (c .table) → Inv placeCount (logged c e log) (e .table)
   unfolding answered
   told-inv c e lent (away k) log inv = subst (λ (l : List Event). Inv placeCount l (c .table)) (sym (logged-away c (suc k) log)) inv
-  told-inv c e lent (accepted a) log inv = accepted-inv small c lent a log inv
+  told-inv c e lent (accepted a) log inv = accepted-inv c lent a log inv
 
   told-gone : (x units : ℕ) → (x ≡ 0 → ⊥) → (c : Call) (e : Effect) → Lent c → Told c e → (log : List Event) → Gone placeCount x units log (c .table) → Gone placeCount x units (logged c e log) (e .table)
   unfolding answered
   told-gone x units z c e lent (away k) log g = subst (λ (l : List Event). Gone placeCount x units l (c .table)) (sym (logged-away c (suc k) log)) g
-  told-gone x units z c e lent (accepted a) log g = accepted-gone small c lent a x units z log g
+  told-gone x units z c e lent (accepted a) log g = accepted-gone c lent a x units z log g
 
   -- the invariant holds at every point of a run
   pub run-inv : {log : List Event} {t : List ℕ} → Run B log t → Inv placeCount log t

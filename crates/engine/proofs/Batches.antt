@@ -14,17 +14,13 @@ use Rattle.octets.proofs.Stores.{length-part}
 use Rattle.table.specs.Layout.{materialSize}
 use Rattle.soundness.proofs.Bools.{and-i}
 use Rattle.keeps.proofs.Keeps.{Held}
-use Rattle.frame.specs.Frame.{Asked, Request, idMost}
+use Rattle.frame.specs.Frame.{Asked, Request}
+use Rattle.frame.proofs.Bounds.{AllBounded}
 use Rattle.act.specs.Act.{Did, envAt, step}
 use Rattle.answer.specs.Respond.{Answer}
 use Rattle.answer.specs.Read.{answerOk}
 use Rattle.engine.specs.Batch.{Ran, answerTo, lastly, firstly, endsBatch, batch}
 use Rattle.engine.proofs.Steps.{step-held, step-ok}
-
--- items as a frame gives them: operations of 32 bits, IDs of at most 16 bytes
-abbrev pub Small : List Asked → Type 0
-Small [] = Unit {0}
-Small (asked ∷ items) = ((asked .operation < 256 ^ 4) × (length (asked .id) ≤ idMost)) × Small items
 
 module _ (places clock : ℕ) (strip : List ℕ) (option : ℕ) (strip-bytes : Bytes strip) where
   -- item i has 32 bytes of the strip for its own
@@ -42,13 +38,13 @@ module _ (places clock : ℕ) (strip : List ℕ) (option : ℕ) (strip-bytes : B
     pub few : length (ran .answers) ≤ length items
     pub some : 1 ≤ length items → 1 ≤ length (ran .answers)
 
-  pub batch-leaves : (items : List Asked) (i holder : ℕ) (t : List ℕ) → Held places t → Small items → materialSize * (i + length items) ≤ length strip
+  pub batch-leaves : (items : List Asked) (i holder : ℕ) (t : List ℕ) → Held places t → AllBounded items → materialSize * (i + length items) ≤ length strip
       → Leaves items (batch places clock strip option i holder t items)
   unfolding batch all
   batch-leaves [] i holder t h s l = record { held = h; ok = refl; few = omega arith; some = λ q. q }
   batch-leaves (asked ∷ later) i holder t h s l =
       turn (step (envAt places clock strip i) holder t asked) (step-held (envAt places clock strip i) holder t h own own-size asked)
-      (step-ok (envAt places clock strip i) holder t h own own-size asked (s .0 .0) (s .0 .1))
+      (step-ok (envAt places clock strip i) holder t h own own-size asked (s .0 .below) (s .0 .short))
       (batch-leaves later (i + 1) (step (envAt places clock strip i) holder t asked .holder) (step (envAt places clock strip i) holder t asked .table)
       (step-held (envAt places clock strip i) holder t h own own-size asked) (s .1) (omega arith))
     where

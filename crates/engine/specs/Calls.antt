@@ -1,6 +1,6 @@
 -- What the engine's functions answer, part by part; `serving` is the whole.
 -- Assumes nothing.
-use Prim.Native.Nat.{ℕ, _+_}
+use Prim.Native.Nat.{ℕ, _+_, _*_, _≤_}
 use mathlib.Core.Path.{_≡_}
 use mathlib.Core.Bool.{Bool, true, false, not, _||_}
 use mathlib.Core.Option.{Option, none, some}
@@ -12,15 +12,21 @@ use Rattle.octets.specs.Maybe.{isSome}
 use Rattle.octets.specs.Octets.{over}
 use Rattle.ttlv.specs.Items.{Items, nil, group, encode}
 use Rattle.ttlv.specs.Parse.{message}
-use Rattle.ttlv.specs.Tree.{treeOf}
-use Rattle.table.specs.Layout.{placeCount}
+use Rattle.ttlv.specs.Tree.{isRun, treeOf}
+use Rattle.ttlv_write.specs.Write.{Holds}
+use Rattle.table.specs.Layout.{placeCount, sizeOf}
 use Rattle.soundness.specs.Sound.{sound}
 use Rattle.frame.specs.Tags.{batchItem}
-use Rattle.frame.specs.Frame.{Asked, itemIn}
-use Rattle.act.specs.Act.{Env, Did, step, isFailed}
-use Rattle.answer.specs.Respond.{Answer, answerItems}
+use Rattle.frame.specs.Frame.{Asked, itemIn, itemsIn, batchMost}
+use Rattle.payload.specs.Payload.{command}
+use Rattle.act.specs.Act.{Did, isFailed}
+use Rattle.act.specs.Perform.{performing}
+use Rattle.answer.specs.Respond.{Answer, answerItems, batchItems}
+use Rattle.answer.specs.Front.{longestItem}
 use Rattle.engine.specs.declared.Served.{Served}
-use Rattle.engine.specs.Batch.{answerTo}
+use Rattle.engine.specs.declared.ItemDone.{ItemDone}
+use Rattle.engine.specs.declared.BatchDone.{BatchDone}
+use Rattle.engine.specs.Batch.{Ran, answerTo, batch}
 use Rattle.engine.specs.Serving.{Effect, roomLeast, stripSize, requestMost, serving}
 
 -- refusals 1 to 5, before the frame is read; 0 where none applies
@@ -42,9 +48,40 @@ askedOr (some asked) = asked
 abbrev pub askedIn : List ℕ → Asked
 askedIn body = askedOr (itemIn (treeOf body))
 
+-- the items that the bytes of a run of batch items say
+unfoldable pub askedAll : Option (List Asked) → List Asked
+askedAll none = []
+askedAll (some items) = items
+
 -- one answer as bytes
 abbrev pub answerBytes : Answer → List ℕ
 answerBytes a = encode (group batchItem (answerItems a) nil)
+
+-- what an item does on a table, with its part of the strip and a placeholder
+abbrev pub doing : Asked → List ℕ → ℕ → List ℕ → Did
+doing asked fresh holder t = performing placeCount fresh holder t (command (asked .operation) (asked .payload))
+
+-- one item carried out and answered
+pub record ItemIs (asked : Asked) (t fresh : List ℕ) (holder : ℕ) (out : List ℕ) (r : ItemDone) (t′ out′ : List ℕ) : Type 0 where
+  pub failed : r .failed ≡ isFailed (doing asked fresh holder t .outcome)
+  pub holder : r .holder ≡ doing asked fresh holder t .holder
+  pub table : t′ ≡ doing asked fresh holder t .table
+  pub bytes : Holds (answerBytes (answerTo asked (doing asked fresh holder t))) out out′ (r .used)
+
+-- a batch carried out and answered; the clock plays no part in what items do
+pub record RanIs (ran : Ran) (out : List ℕ) (r : BatchDone) (t′ out′ : List ℕ) : Type 0 where
+  pub count : r .count ≡ length (ran .answers)
+  pub table : t′ ≡ ran .table
+  pub bytes : Holds (encode (batchItems (ran .answers))) out out′ (r .used)
+
+-- a batch that can be run: its items were read, they are at most 16, and table, strip and room have their sizes
+pub record Runs (items t strip out : List ℕ) : Type 0 where
+  pub run : isRun items ≡ true
+  pub read : isSome (itemsIn (treeOf items)) ≡ true
+  pub few : length (askedAll (itemsIn (treeOf items))) ≤ batchMost
+  pub table : length t ≡ sizeOf placeCount
+  pub strip : length strip ≡ stripSize
+  pub room : batchMost * longestItem ≤ length out
 
 -- what a call leaves: number, length, table and output are those of `serving`
 pub record ServedIs (request t strip : List ℕ) (clock : ℕ) (out : List ℕ) (r : Served) (t′ out′ : List ℕ) : Type 0 where
