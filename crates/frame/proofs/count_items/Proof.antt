@@ -44,39 +44,65 @@ enum-told c = search needs
 
 returns : tie.Need-returns Inv-loop μ-loop
 returns c =
-    sym (c .before .before .before .before .loop .inv .1 ∙ ap (counted (c .before .before .before .before .loop .count)) (items-other (c .before .before .before .before .loop .t .now) (c .before .before .before .before .loop .inv .0) (c .before .before .before .loop-test .taken) (sym (c .before .before .body-field .ensures) ∙ c .enum-told .given .1)))
+    let l = c .before .before .before .before .loop in
+    let t = l .t .now in
+    let run = l .inv .0 in
+    sym (l .inv .1 ∙ ap (counted (l .count)) (items-other t run (c .before .before .before .loop-test .taken) (sym (c .before .before .body-field .ensures) ∙ c .enum-told .given .1)))
 
 sub-item-ok : tie.Need-sub-item-ok Inv-loop μ-loop
 sub-item-ok c =
-    let w = body-ends (c .before .before .before .before .before .loop .t .now) batchItem (sym (c .before .before .before .body-field .ensures) ∙ c .before .next .given .1) in
+    let l = c .before .before .before .before .before .loop in
+    let t = l .t .now in
+    let e = sym (c .before .before .before .body-field .ensures) ∙ c .before .next .given .1 in
+    let w = body-ends t batchItem e in
     omega arith
 
 part-item-ok-start : tie.Need-part-item-ok-start Inv-loop μ-loop
 part-item-ok-start c =
-    let w = body-ends (c .before .before .before .before .before .loop .t .now) batchItem (sym (c .before .before .before .body-field .ensures) ∙ c .before .next .given .1) in
+    let l = c .before .before .before .before .before .loop in
+    let t = l .t .now in
+    let e = sym (c .before .before .before .body-field .ensures) ∙ c .before .next .given .1 in
+    let w = body-ends t batchItem e in
     omega arith
 
 part-item-ok-end : tie.Need-part-item-ok-end Inv-loop μ-loop
 part-item-ok-end c =
-    let w = body-ends (c .before .before .before .before .before .loop .t .now) batchItem (sym (c .before .before .before .body-field .ensures) ∙ c .before .next .given .1) in
+    let l = c .before .before .before .before .before .loop in
+    let t = l .t .now in
+    let e = sym (c .before .before .before .body-field .ensures) ∙ c .before .next .given .1 in
+    let w = body-ends t batchItem e in
     omega arith
 
 item-ok-requires : tie.Need-item-ok-requires Inv-loop μ-loop
 item-ok-requires c κs =
-    body-is-run (c .before .before .before .before .before .before .loop .t .now) (c .before .before .before .before .before .before .loop .inv .0) batchItem (sym (c .before .before .before .before .body-field .ensures) ∙ c .before .before .next .given .1)
+    let l = c .before .before .before .before .before .before .loop in
+    let t = l .t .now in
+    let run = l .inv .0 in
+    let e = sym (c .before .before .before .before .body-field .ensures) ∙ c .before .before .next .given .1 in
+    body-is-run t run batchItem e
 
 returns-2 : tie.Need-returns-2 Inv-loop μ-loop
 returns-2 c =
-    sym (c .before .before .before .before .before .before .before .before .loop .inv .1 ∙ ap (counted (c .before .before .before .before .before .before .before .before .loop .count)) (items-bad (c .before .before .before .before .before .before .before .before .loop .t .now) (c .before .before .before .before .before .before .before .before .loop .inv .0) (sym (c .before .before .before .before .before .before .body-field .ensures) ∙ c .before .before .before .before .next .given .1) (sym (c .before .item-ok .ensures) ∙ not-true _ (c .if1 .taken))))
+    let l = c .before .before .before .before .before .before .before .before .loop in
+    let t = l .t .now in
+    let run = l .inv .0 in
+    let e = sym (c .before .before .before .before .before .before .body-field .ensures) ∙ c .before .before .before .before .next .given .1 in
+    sym (l .inv .1 ∙ ap (counted (l .count)) (items-bad t run e (sym (c .before .item-ok .ensures) ∙ not-true _ (c .if1 .taken))))
 
 sub-t : tie.Need-sub-t Inv-loop μ-loop
 sub-t c =
-    let w = body-ends (c .before .before .before .before .before .before .before .before .loop .t .now) batchItem (sym (c .before .before .before .before .before .before .body-field .ensures) ∙ c .before .before .before .before .next .given .1) in
+    let l = c .before .before .before .before .before .before .before .before .loop in
+    let t = l .t .now in
+    let e = sym (c .before .before .before .before .before .before .body-field .ensures) ∙ c .before .before .before .before .next .given .1 in
+    let w = body-ends t batchItem e in
     omega arith
 
 part-t-start : tie.Need-part-t-start Inv-loop μ-loop
 part-t-start c =
-    let w = body-ends (c .before .before .before .before .before .before .before .before .loop .t .now) batchItem (sym (c .before .before .before .before .before .before .body-field .ensures) ∙ c .before .before .before .before .next .given .1) in
+    let l = c .before .before .before .before .before .before .before .before .loop in
+    let t = l .t .now in
+    let e = sym (c .before .before .before .before .before .before .body-field .ensures) ∙ c .before .before .before .before .next .given .1 in
+    let w = body-ends t batchItem e in
     omega arith
 
 part-t-end : tie.Need-part-t-end Inv-loop μ-loop
@@ -84,24 +110,37 @@ part-t-end c = search needs
 
 add-count : tie.Need-add-count Inv-loop μ-loop
 add-count c =
-    let w = body-ends (c .before .before .before .before .before .before .before .before .before .loop .t .now) batchItem (sym (c .before .before .before .before .before .before .before .body-field .ensures) ∙ c .before .before .before .before .before .next .given .1) in
-    let i = c .before .before .before .before .before .before .before .before .before .loop .inv .2 in
+    let l = c .before .before .before .before .before .before .before .before .before .loop in
+    let t = l .t .now in
+    let e = sym (c .before .before .before .before .before .before .before .body-field .ensures) ∙ c .before .before .before .before .before .next .given .1 in
+    let w = body-ends t batchItem e in
+    let b = l .inv .2 in
     omega arith
 
 loop-less : tie.Need-loop-less Inv-loop μ-loop
 loop-less c =
-    let w = body-ends (c .before .before .before .before .before .before .before .before .before .loop .t .now) batchItem (sym (c .before .before .before .before .before .before .before .body-field .ensures) ∙ c .before .before .before .before .before .next .given .1) in
+    let l = c .before .before .before .before .before .before .before .before .before .loop in
+    let t = l .t .now in
+    let e = sym (c .before .before .before .before .before .before .before .body-field .ensures) ∙ c .before .before .before .before .before .next .given .1 in
+    let w = body-ends t batchItem e in
     rw (length-take, length-drop) (omega arith)
 
 loop-again : tie.Need-loop-again Inv-loop μ-loop
 loop-again c =
-    let w = body-ends (c .before .before .before .before .before .before .before .before .before .loop .t .now) batchItem (sym (c .before .before .before .before .before .before .before .body-field .ensures) ∙ c .before .before .before .before .before .next .given .1) in
-    let i = c .before .before .before .before .before .before .before .before .before .loop .inv .2 in
-    (run-behind (c .before .before .before .before .before .before .before .before .before .loop .t .now) (c .before .before .before .before .before .before .before .before .before .loop .inv .0) (body-rest (c .before .before .before .before .before .before .before .before .before .loop .t .now) (c .before .before .before .before .before .before .before .before .before .loop .inv .0) batchItem (sym (c .before .before .before .before .before .before .before .body-field .ensures) ∙ c .before .before .before .before .before .next .given .1)), c .before .before .before .before .before .before .before .before .before .loop .inv .1 ∙ items-more (c .before .before .before .before .before .before .before .before .before .loop .t .now) (c .before .before .before .before .before .before .before .before .before .loop .inv .0) (sym (c .before .before .before .before .before .before .before .body-field .ensures) ∙ c .before .before .before .before .before .next .given .1) (c .before .before .before .before .before .before .before .before .before .loop .count) (sym (c .before .before .item-ok .ensures) ∙ not-false _ (c .before .if1 .left)), rw (length-take, length-drop) (omega arith))
+    let l = c .before .before .before .before .before .before .before .before .before .loop in
+    let t = l .t .now in
+    let run = l .inv .0 in
+    let e = sym (c .before .before .before .before .before .before .before .body-field .ensures) ∙ c .before .before .before .before .before .next .given .1 in
+    let w = body-ends t batchItem e in
+    let b = l .inv .2 in
+    (run-behind t run (body-rest t run batchItem e), l .inv .1 ∙ items-more t run e (l .count) (sym (c .before .before .item-ok .ensures) ∙ not-false _ (c .before .if1 .left)), rw (length-take, length-drop) (omega arith))
 
 returns-3 : tie.Need-returns-3 Inv-loop μ-loop
 returns-3 c =
-    sym (c .before .loop .inv .1 ∙ ap (counted (c .before .loop .count)) (items-end (c .before .loop .t .now) (c .before .loop .inv .0) (c .loop-test .left)) ∙ ap Counted (omega arith))
+    let l = c .before .loop in
+    let t = l .t .now in
+    let run = l .inv .0 in
+    sym (l .inv .1 ∙ ap (counted (l .count)) (items-end t run (c .loop-test .left)) ∙ ap Counted (omega arith))
 
 pub count-items-spec : {M : Type 1} → statement M
 count-items-spec =

@@ -34,16 +34,24 @@ enum-told-2 c = search needs
 returns : tie.Need-returns
 unfolding frameRead
 returns c =
-    sym (ap (λ (o : Option Frame). frameRead o (itemsAt (c .before .before .before .before .args .request .now))) (frame-no-message (c .before .before .before .before .args .request .now) (c .before .before .before .before .pre) (sym (c .before .before .body-field .ensures) ∙ c .enum-told2 .given .1)))
+    let s = c .before .before .before .before .args .request .now in
+    let run = c .before .before .before .before .pre in
+    sym (ap (λ (o : Option Frame). frameRead o (itemsAt s)) (frame-no-message s run (sym (c .before .before .body-field .ensures) ∙ c .enum-told2 .given .1)))
 
 sub-s : tie.Need-sub-s
 sub-s c =
-    let w = message-room (c .before .before .before .before .args .request .now) (c .before .before .before .before .pre) requestMessage (sym (c .before .before .body-field .ensures) ∙ c .enum-told .given .1) in
+    let s = c .before .before .before .before .args .request .now in
+    let run = c .before .before .before .before .pre in
+    let e = sym (c .before .before .body-field .ensures) ∙ c .enum-told .given .1 in
+    let w = message-room s run requestMessage e in
     omega arith
 
 part-s-start : tie.Need-part-s-start
 part-s-start c =
-    let w = message-room (c .before .before .before .before .args .request .now) (c .before .before .before .before .pre) requestMessage (sym (c .before .before .body-field .ensures) ∙ c .enum-told .given .1) in
+    let s = c .before .before .before .before .args .request .now in
+    let run = c .before .before .before .before .pre in
+    let e = sym (c .before .before .body-field .ensures) ∙ c .enum-told .given .1 in
+    let w = message-room s run requestMessage e in
     omega arith
 
 part-s-end : tie.Need-part-s-end
@@ -61,26 +69,39 @@ enum-told-3 c = search needs
 returns-2 : tie.Need-returns-2
 unfolding frameRead
 returns-2 c =
-    sym (ap (λ (o : Option Frame). frameRead o (itemsAt (c .before .before .before .before .before .before .before .before .args .request .now))) (frame-no-header (c .before .before .before .before .before .before .before .before .args .request .now) (c .before .before .before .before .before .before .before .before .pre) (sym (c .before .before .before .before .before .before .body-field .ensures) ∙ c .before .before .before .before .enum-told .given .1) (sym (c .before .before .body-field2 .ensures) ∙ c .enum-told3 .given .1)))
+    let s = c .before .before .before .before .before .before .before .before .args .request .now in
+    let run = c .before .before .before .before .before .before .before .before .pre in
+    let e = sym (c .before .before .before .before .before .before .body-field .ensures) ∙ c .before .before .before .before .enum-told .given .1 in
+    sym (ap (λ (o : Option Frame). frameRead o (itemsAt s)) (frame-no-header s run e (sym (c .before .before .body-field2 .ensures) ∙ c .enum-told3 .given .1)))
 
 sub-read-header : tie.Need-sub-read-header
 sub-read-header c =
-    let w = body-ends (tail (c .before .before .before .before .before .before .before .before .before .args .request .now) 8) requestHeader (sym (c .before .before .before .body-field2 .ensures) ∙ c .before .next .given .1) in
+    let s = c .before .before .before .before .before .before .before .before .before .args .request .now in
+    let f = sym (c .before .before .before .body-field2 .ensures) ∙ c .before .next .given .1 in
+    let w = body-ends (tail s 8) requestHeader f in
     omega arith
 
 part-read-header-start : tie.Need-part-read-header-start
 part-read-header-start c =
-    let w = body-ends (tail (c .before .before .before .before .before .before .before .before .before .args .request .now) 8) requestHeader (sym (c .before .before .before .body-field2 .ensures) ∙ c .before .next .given .1) in
+    let s = c .before .before .before .before .before .before .before .before .before .args .request .now in
+    let f = sym (c .before .before .before .body-field2 .ensures) ∙ c .before .next .given .1 in
+    let w = body-ends (tail s 8) requestHeader f in
     omega arith
 
 part-read-header-end : tie.Need-part-read-header-end
 part-read-header-end c =
-    let w = body-ends (tail (c .before .before .before .before .before .before .before .before .before .args .request .now) 8) requestHeader (sym (c .before .before .before .body-field2 .ensures) ∙ c .before .next .given .1) in
+    let s = c .before .before .before .before .before .before .before .before .before .args .request .now in
+    let f = sym (c .before .before .before .body-field2 .ensures) ∙ c .before .next .given .1 in
+    let w = body-ends (tail s 8) requestHeader f in
     omega arith
 
 read-header-requires : tie.Need-read-header-requires
 read-header-requires c κs =
-    body-is-run (tail (c .before .before .before .before .before .before .before .before .before .before .args .request .now) 8) (inner-run (c .before .before .before .before .before .before .before .before .before .before .args .request .now) (c .before .before .before .before .before .before .before .before .before .before .pre) requestMessage (sym (c .before .before .before .before .before .before .before .before .body-field .ensures) ∙ c .before .before .before .before .before .before .enum-told .given .1)) requestHeader (sym (c .before .before .before .before .body-field2 .ensures) ∙ c .before .before .next .given .1)
+    let s = c .before .before .before .before .before .before .before .before .before .before .args .request .now in
+    let run = c .before .before .before .before .before .before .before .before .before .before .pre in
+    let e = sym (c .before .before .before .before .before .before .before .before .body-field .ensures) ∙ c .before .before .before .before .before .before .enum-told .given .1 in
+    let f = sym (c .before .before .before .before .body-field2 .ensures) ∙ c .before .before .next .given .1 in
+    body-is-run (tail s 8) (inner-run s run requestMessage e) requestHeader f
 
 enum-known-major : tie.Need-enum-known-major
 enum-known-major c = search needs
@@ -91,16 +112,24 @@ enum-told-4 c = search needs
 returns-3 : tie.Need-returns-3
 unfolding frameRead
 returns-3 c =
-    sym (ap (λ (o : Option Frame). frameRead o (itemsAt (c .before .before .before .before .before .before .before .before .before .before .before .before .before .args .request .now))) (frame-bad-header (c .before .before .before .before .before .before .before .before .before .before .before .before .before .args .request .now) (c .before .before .before .before .before .before .before .before .before .before .before .before .before .pre) (sym (c .before .before .before .before .before .before .before .before .before .before .before .body-field .ensures) ∙ c .before .before .before .before .before .before .before .before .before .enum-told .given .1) (sym (c .before .before .before .before .before .before .before .body-field2 .ensures) ∙ c .before .before .before .before .before .next .given .1) (sym (c .before .before .read-header .ensures) ∙ c .enum-told4 .given .1)))
+    let s = c .before .before .before .before .before .before .before .before .before .before .before .before .before .args .request .now in
+    let run = c .before .before .before .before .before .before .before .before .before .before .before .before .before .pre in
+    let e = sym (c .before .before .before .before .before .before .before .before .before .before .before .body-field .ensures) ∙ c .before .before .before .before .before .before .before .before .before .enum-told .given .1 in
+    let f = sym (c .before .before .before .before .before .before .before .body-field2 .ensures) ∙ c .before .before .before .before .before .next .given .1 in
+    sym (ap (λ (o : Option Frame). frameRead o (itemsAt s)) (frame-bad-header s run e f (sym (c .before .before .read-header .ensures) ∙ c .enum-told4 .given .1)))
 
 sub-batch : tie.Need-sub-batch
 sub-batch c =
-    let w = body-ends (tail (c .before .before .before .before .before .before .before .before .before .before .before .before .before .before .args .request .now) 8) requestHeader (sym (c .before .before .before .before .before .before .before .before .body-field2 .ensures) ∙ c .before .before .before .before .before .before .next .given .1) in
+    let s = c .before .before .before .before .before .before .before .before .before .before .before .before .before .before .args .request .now in
+    let f = sym (c .before .before .before .before .before .before .before .before .body-field2 .ensures) ∙ c .before .before .before .before .before .before .next .given .1 in
+    let w = body-ends (tail s 8) requestHeader f in
     omega arith
 
 part-batch-start : tie.Need-part-batch-start
 part-batch-start c =
-    let w = body-ends (tail (c .before .before .before .before .before .before .before .before .before .before .before .before .before .before .args .request .now) 8) requestHeader (sym (c .before .before .before .before .before .before .before .before .body-field2 .ensures) ∙ c .before .before .before .before .before .before .next .given .1) in
+    let s = c .before .before .before .before .before .before .before .before .before .before .before .before .before .before .args .request .now in
+    let f = sym (c .before .before .before .before .before .before .before .before .body-field2 .ensures) ∙ c .before .before .before .before .before .before .next .given .1 in
+    let w = body-ends (tail s 8) requestHeader f in
     omega arith
 
 part-batch-end : tie.Need-part-batch-end
@@ -109,11 +138,20 @@ part-batch-end c = search needs
 returns-4 : tie.Need-returns-4
 unfolding frameRead
 returns-4 c =
-    sym (ap (λ (o : Option Frame). frameRead o (itemsAt (c .before .before .before .before .before .before .before .before .before .before .before .before .before .before .before .before .args .request .now))) (frame-empty (c .before .before .before .before .before .before .before .before .before .before .before .before .before .before .before .before .args .request .now) (c .before .before .before .before .before .before .before .before .before .before .before .before .before .before .before .before .pre) (sym (c .before .before .before .before .before .before .before .before .before .before .before .before .before .before .body-field .ensures) ∙ c .before .before .before .before .before .before .before .before .before .before .before .before .enum-told .given .1) (sym (c .before .before .before .before .before .before .before .before .before .before .body-field2 .ensures) ∙ c .before .before .before .before .before .before .before .before .next .given .1) (sym (c .before .before .before .before .before .read-header .ensures) ∙ c .before .before .before .major .given .1) (c .if1 .taken)))
+    let s = c .before .before .before .before .before .before .before .before .before .before .before .before .before .before .before .before .args .request .now in
+    let run = c .before .before .before .before .before .before .before .before .before .before .before .before .before .before .before .before .pre in
+    let e = sym (c .before .before .before .before .before .before .before .before .before .before .before .before .before .before .body-field .ensures) ∙ c .before .before .before .before .before .before .before .before .before .before .before .before .enum-told .given .1 in
+    let f = sym (c .before .before .before .before .before .before .before .before .before .before .body-field2 .ensures) ∙ c .before .before .before .before .before .before .before .before .next .given .1 in
+    let g = sym (c .before .before .before .before .before .read-header .ensures) ∙ c .before .before .before .major .given .1 in
+    sym (ap (λ (o : Option Frame). frameRead o (itemsAt s)) (frame-empty s run e f g (c .if1 .taken)))
 
 count-items-requires : tie.Need-count-items-requires
 count-items-requires c κs =
-    batch-run (c .before .before .before .before .before .before .before .before .before .before .before .before .before .before .before .before .args .request .now) (c .before .before .before .before .before .before .before .before .before .before .before .before .before .before .before .before .pre) (sym (c .before .before .before .before .before .before .before .before .before .before .before .before .before .before .body-field .ensures) ∙ c .before .before .before .before .before .before .before .before .before .before .before .before .enum-told .given .1) (sym (c .before .before .before .before .before .before .before .before .before .before .body-field2 .ensures) ∙ c .before .before .before .before .before .before .before .before .next .given .1)
+    let s = c .before .before .before .before .before .before .before .before .before .before .before .before .before .before .before .before .args .request .now in
+    let run = c .before .before .before .before .before .before .before .before .before .before .before .before .before .before .before .before .pre in
+    let e = sym (c .before .before .before .before .before .before .before .before .before .before .before .before .before .before .body-field .ensures) ∙ c .before .before .before .before .before .before .before .before .before .before .before .before .enum-told .given .1 in
+    let f = sym (c .before .before .before .before .before .before .before .before .before .before .body-field2 .ensures) ∙ c .before .before .before .before .before .before .before .before .next .given .1 in
+    batch-run s run e f
 
 enum-known-found : tie.Need-enum-known-found
 enum-known-found c = search needs
@@ -124,17 +162,29 @@ enum-told-5 c = search needs
 returns-5 : tie.Need-returns-5
 unfolding frameRead
 returns-5 c =
-    sym (ap (λ (o : Option Frame). frameRead o (itemsAt (c .before .before .before .before .before .before .before .before .before .before .before .before .before .before .before .before .before .before .before .args .request .now))) (frame-bad-items (c .before .before .before .before .before .before .before .before .before .before .before .before .before .before .before .before .before .before .before .args .request .now) (c .before .before .before .before .before .before .before .before .before .before .before .before .before .before .before .before .before .before .before .pre) (sym (c .before .before .before .before .before .before .before .before .before .before .before .before .before .before .before .before .before .body-field .ensures) ∙ c .before .before .before .before .before .before .before .before .before .before .before .before .before .before .before .enum-told .given .1) (sym (c .before .before .before .before .before .before .before .before .before .before .before .before .before .body-field2 .ensures) ∙ c .before .before .before .before .before .before .before .before .before .before .before .next .given .1) (sym (c .before .before .before .before .before .before .before .before .read-header .ensures) ∙ c .before .before .before .before .before .before .major .given .1) (c .before .before .before .if1 .left) (sym (c .before .before .count-items .ensures) ∙ c .enum-told5 .given .1)))
+    let s = c .before .before .before .before .before .before .before .before .before .before .before .before .before .before .before .before .before .before .before .args .request .now in
+    let run = c .before .before .before .before .before .before .before .before .before .before .before .before .before .before .before .before .before .before .before .pre in
+    let e = sym (c .before .before .before .before .before .before .before .before .before .before .before .before .before .before .before .before .before .body-field .ensures) ∙ c .before .before .before .before .before .before .before .before .before .before .before .before .before .before .before .enum-told .given .1 in
+    let f = sym (c .before .before .before .before .before .before .before .before .before .before .before .before .before .body-field2 .ensures) ∙ c .before .before .before .before .before .before .before .before .before .before .before .next .given .1 in
+    let g = sym (c .before .before .before .before .before .before .before .before .read-header .ensures) ∙ c .before .before .before .before .before .before .major .given .1 in
+    sym (ap (λ (o : Option Frame). frameRead o (itemsAt s)) (frame-bad-items s run e f g (c .before .before .before .if1 .left) (sym (c .before .before .count-items .ensures) ∙ c .enum-told5 .given .1)))
 
 add-t12 : tie.Need-add-t12
 add-t12 c =
-    let w = body-ends (tail (c .before .before .before .before .before .before .before .before .before .before .before .before .before .before .before .before .before .before .before .before .args .request .now) 8) requestHeader (sym (c .before .before .before .before .before .before .before .before .before .before .before .before .before .before .body-field2 .ensures) ∙ c .before .before .before .before .before .before .before .before .before .before .before .before .next .given .1) in
-    let l = length-tail (c .before .before .before .before .before .before .before .before .before .before .before .before .before .before .before .before .before .before .before .before .args .request .now) 8 in
+    let s = c .before .before .before .before .before .before .before .before .before .before .before .before .before .before .before .before .before .before .before .before .args .request .now in
+    let f = sym (c .before .before .before .before .before .before .before .before .before .before .before .before .before .before .body-field2 .ensures) ∙ c .before .before .before .before .before .before .before .before .before .before .before .before .next .given .1 in
+    let w = body-ends (tail s 8) requestHeader f in
+    let l = length-tail s 8 in
     omega arith
 
 returns-6 : tie.Need-returns-6
 returns-6 c =
-    sym (frame-is (c .before .before .before .before .before .before .before .before .before .before .before .before .before .before .before .before .before .before .before .before .args .request .now) (c .before .before .before .before .before .before .before .before .before .before .before .before .before .before .before .before .before .before .before .before .pre) (sym (c .before .before .before .before .before .before .before .before .before .before .before .before .before .before .before .before .before .before .body-field .ensures) ∙ c .before .before .before .before .before .before .before .before .before .before .before .before .before .before .before .before .enum-told .given .1) (sym (c .before .before .before .before .before .before .before .before .before .before .before .before .before .before .body-field2 .ensures) ∙ c .before .before .before .before .before .before .before .before .before .before .before .before .next .given .1) (sym (c .before .before .before .before .before .before .before .before .before .read-header .ensures) ∙ c .before .before .before .before .before .before .before .major .given .1) (c .before .before .before .before .if1 .left) (sym (c .before .before .before .count-items .ensures) ∙ c .before .found .given .1))
+    let s = c .before .before .before .before .before .before .before .before .before .before .before .before .before .before .before .before .before .before .before .before .args .request .now in
+    let run = c .before .before .before .before .before .before .before .before .before .before .before .before .before .before .before .before .before .before .before .before .pre in
+    let e = sym (c .before .before .before .before .before .before .before .before .before .before .before .before .before .before .before .before .before .before .body-field .ensures) ∙ c .before .before .before .before .before .before .before .before .before .before .before .before .before .before .before .before .enum-told .given .1 in
+    let f = sym (c .before .before .before .before .before .before .before .before .before .before .before .before .before .before .body-field2 .ensures) ∙ c .before .before .before .before .before .before .before .before .before .before .before .before .next .given .1 in
+    let g = sym (c .before .before .before .before .before .before .before .before .before .read-header .ensures) ∙ c .before .before .before .before .before .before .before .major .given .1 in
+    sym (frame-is s run e f g (c .before .before .before .before .if1 .left) (sym (c .before .before .before .count-items .ensures) ∙ c .before .found .given .1))
 
 pub find-frame-spec : {M : Type 1} → statement M
 find-frame-spec =

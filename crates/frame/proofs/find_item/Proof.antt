@@ -33,16 +33,22 @@ enum-told c = search needs
 returns : tie.Need-returns
 unfolding itemRead
 returns c =
-    sym (ap (itemRead (c .before .before .before .before .args .body .now)) (item-no-operation (c .before .before .before .before .args .body .now) (c .before .before .before .before .pre) (sym (c .before .before .number-field .ensures) ∙ c .enum-told .given .1)))
+    let s = c .before .before .before .before .args .body .now in
+    let run = c .before .before .before .before .pre in
+    sym (ap (itemRead s) (item-no-operation s run (sym (c .before .before .number-field .ensures) ∙ c .enum-told .given .1)))
 
 sub-t : tie.Need-sub-t
 sub-t c =
-    let w = number-ends (c .before .before .before .before .before .args .body .now) operationTag enumeration (sym (c .before .before .before .number-field .ensures) ∙ c .before .operation .given .1) in
+    let s = c .before .before .before .before .before .args .body .now in
+    let e = sym (c .before .before .before .number-field .ensures) ∙ c .before .operation .given .1 in
+    let w = number-ends s operationTag enumeration e in
     omega arith
 
 part-t-start : tie.Need-part-t-start
 part-t-start c =
-    let w = number-ends (c .before .before .before .before .before .args .body .now) operationTag enumeration (sym (c .before .before .before .number-field .ensures) ∙ c .before .operation .given .1) in
+    let s = c .before .before .before .before .before .args .body .now in
+    let e = sym (c .before .before .before .number-field .ensures) ∙ c .before .operation .given .1 in
+    let w = number-ends s operationTag enumeration e in
     omega arith
 
 part-t-end : tie.Need-part-t-end
@@ -60,16 +66,27 @@ enum-told-2 c = search needs
 returns-2 : tie.Need-returns-2
 unfolding itemRead
 returns-2 c =
-    sym (ap (itemRead (c .before .before .before .before .before .before .before .before .before .args .body .now)) (item-bad-id (c .before .before .before .before .before .before .before .before .before .args .body .now) (c .before .before .before .before .before .before .before .before .before .pre) (sym (c .before .before .before .before .before .before .before .number-field .ensures) ∙ c .before .before .before .before .before .operation .given .1) (sym (c .before .before .read-id .ensures) ∙ c .enum-told2 .given .1)))
+    let s = c .before .before .before .before .before .before .before .before .before .args .body .now in
+    let run = c .before .before .before .before .before .before .before .before .before .pre in
+    let e = sym (c .before .before .before .before .before .before .before .number-field .ensures) ∙ c .before .before .before .before .before .operation .given .1 in
+    sym (ap (itemRead s) (item-bad-id s run e (sym (c .before .before .read-id .ensures) ∙ c .enum-told2 .given .1)))
 
 sub-u : tie.Need-sub-u
 sub-u c =
-    let w = id-some (tail (c .before .before .before .before .before .before .before .before .before .before .args .body .now) (c .before .before .before .before .before .before .operation .given .0 .1 .0)) (item-behind (c .before .before .before .before .before .before .before .before .before .before .args .body .now) (c .before .before .before .before .before .before .before .before .before .before .pre) (sym (c .before .before .before .before .before .before .before .before .number-field .ensures) ∙ c .before .before .before .before .before .before .operation .given .1)) (sym (c .before .before .before .read-id .ensures) ∙ c .before .len .given .1) .within in
+    let s = c .before .before .before .before .before .before .before .before .before .before .args .body .now in
+    let run = c .before .before .before .before .before .before .before .before .before .before .pre in
+    let e = sym (c .before .before .before .before .before .before .before .before .number-field .ensures) ∙ c .before .before .before .before .before .before .operation .given .1 in
+    let f = sym (c .before .before .before .read-id .ensures) ∙ c .before .len .given .1 in
+    let w = id-some (tail s (c .before .before .before .before .before .before .operation .given .0 .1 .0)) (item-behind s run e) f .within in
     omega arith
 
 part-u-start : tie.Need-part-u-start
 part-u-start c =
-    let w = id-some (tail (c .before .before .before .before .before .before .before .before .before .before .args .body .now) (c .before .before .before .before .before .before .operation .given .0 .1 .0)) (item-behind (c .before .before .before .before .before .before .before .before .before .before .args .body .now) (c .before .before .before .before .before .before .before .before .before .before .pre) (sym (c .before .before .before .before .before .before .before .before .number-field .ensures) ∙ c .before .before .before .before .before .before .operation .given .1)) (sym (c .before .before .before .read-id .ensures) ∙ c .before .len .given .1) .within in
+    let s = c .before .before .before .before .before .before .before .before .before .before .args .body .now in
+    let run = c .before .before .before .before .before .before .before .before .before .before .pre in
+    let e = sym (c .before .before .before .before .before .before .before .before .number-field .ensures) ∙ c .before .before .before .before .before .before .operation .given .1 in
+    let f = sym (c .before .before .before .read-id .ensures) ∙ c .before .len .given .1 in
+    let w = id-some (tail s (c .before .before .before .before .before .before .operation .given .0 .1 .0)) (item-behind s run e) f .within in
     omega arith
 
 part-u-end : tie.Need-part-u-end
@@ -87,36 +104,67 @@ enum-told-3 c = search needs
 returns-3 : tie.Need-returns-3
 unfolding itemRead
 returns-3 c =
-    sym (ap (itemRead (c .before .before .before .before .before .before .before .before .before .before .before .before .before .before .args .body .now)) (item-no-payload (c .before .before .before .before .before .before .before .before .before .before .before .before .before .before .args .body .now) (c .before .before .before .before .before .before .before .before .before .before .before .before .before .before .pre) (sym (c .before .before .before .before .before .before .before .before .before .before .before .before .number-field .ensures) ∙ c .before .before .before .before .before .before .before .before .before .before .operation .given .1) (sym (c .before .before .before .before .before .before .before .read-id .ensures) ∙ c .before .before .before .before .before .len .given .1) (sym (c .before .before .body-field .ensures) ∙ c .enum-told3 .given .1)))
+    let s = c .before .before .before .before .before .before .before .before .before .before .before .before .before .before .args .body .now in
+    let run = c .before .before .before .before .before .before .before .before .before .before .before .before .before .before .pre in
+    let e = sym (c .before .before .before .before .before .before .before .before .before .before .before .before .number-field .ensures) ∙ c .before .before .before .before .before .before .before .before .before .before .operation .given .1 in
+    let f = sym (c .before .before .before .before .before .before .before .read-id .ensures) ∙ c .before .before .before .before .before .len .given .1 in
+    sym (ap (itemRead s) (item-no-payload s run e f (sym (c .before .before .body-field .ensures) ∙ c .enum-told3 .given .1)))
 
 returns-4 : tie.Need-returns-4
 unfolding itemRead
 returns-4 c =
-    sym (ap (itemRead (c .before .before .before .before .before .before .before .before .before .before .before .before .before .before .before .before .args .body .now)) (item-more (c .before .before .before .before .before .before .before .before .before .before .before .before .before .before .before .before .args .body .now) (c .before .before .before .before .before .before .before .before .before .before .before .before .before .before .before .before .pre) (sym (c .before .before .before .before .before .before .before .before .before .before .before .before .before .before .number-field .ensures) ∙ c .before .before .before .before .before .before .before .before .before .before .before .before .operation .given .1) (sym (c .before .before .before .before .before .before .before .before .before .read-id .ensures) ∙ c .before .before .before .before .before .before .before .len .given .1) (sym (c .before .before .before .before .body-field .ensures) ∙ c .before .before .end .given .1) (c .if1 .taken)))
+    let s = c .before .before .before .before .before .before .before .before .before .before .before .before .before .before .before .before .args .body .now in
+    let run = c .before .before .before .before .before .before .before .before .before .before .before .before .before .before .before .before .pre in
+    let e = sym (c .before .before .before .before .before .before .before .before .before .before .before .before .before .before .number-field .ensures) ∙ c .before .before .before .before .before .before .before .before .before .before .before .before .operation .given .1 in
+    let f = sym (c .before .before .before .before .before .before .before .before .before .read-id .ensures) ∙ c .before .before .before .before .before .before .before .len .given .1 in
+    let g = sym (c .before .before .before .before .body-field .ensures) ∙ c .before .before .end .given .1 in
+    sym (ap (itemRead s) (item-more s run e f g (c .if1 .taken)))
 
 cast-t18 : tie.Need-cast-t18
 cast-t18 c =
-    let w = word-below (c .before .before .before .before .before .before .before .before .before .before .before .before .before .before .before .before .args .body .now) operationTag enumeration (bytes-of (c .before .before .before .before .before .before .before .before .before .before .before .before .before .before .before .before .args .body .now) (λ i. c .before .before .before .before .before .before .before .before .before .before .before .before .before .before .before .shared-slice-known .given i .fits)) refl (sym (c .before .before .before .before .before .before .before .before .before .before .before .before .before .before .number-field .ensures) ∙ c .before .before .before .before .before .before .before .before .before .before .before .before .operation .given .1) in
+    let s = c .before .before .before .before .before .before .before .before .before .before .before .before .before .before .before .before .args .body .now in
+    let e = sym (c .before .before .before .before .before .before .before .before .before .before .before .before .before .before .number-field .ensures) ∙ c .before .before .before .before .before .before .before .before .before .before .before .before .operation .given .1 in
+    let w = word-below s operationTag enumeration (bytes-of s (λ i. c .before .before .before .before .before .before .before .before .before .before .before .before .before .before .before .shared-slice-known .given i .fits)) refl e in
     omega arith
 
 add-t11 : tie.Need-add-t11
 add-t11 c =
-    let r = item-room (c .before .before .before .before .before .before .before .before .before .before .before .before .before .before .before .before .args .body .now) (c .before .before .before .before .before .before .before .before .before .before .before .before .before .before .before .before .pre) (sym (c .before .before .before .before .before .before .before .before .before .before .before .before .before .before .number-field .ensures) ∙ c .before .before .before .before .before .before .before .before .before .before .before .before .operation .given .1) (sym (c .before .before .before .before .before .before .before .before .before .read-id .ensures) ∙ c .before .before .before .before .before .before .before .len .given .1) (sym (c .before .before .before .before .body-field .ensures) ∙ c .before .before .end .given .1) in
+    let s = c .before .before .before .before .before .before .before .before .before .before .before .before .before .before .before .before .args .body .now in
+    let run = c .before .before .before .before .before .before .before .before .before .before .before .before .before .before .before .before .pre in
+    let e = sym (c .before .before .before .before .before .before .before .before .before .before .before .before .before .before .number-field .ensures) ∙ c .before .before .before .before .before .before .before .before .before .before .before .before .operation .given .1 in
+    let f = sym (c .before .before .before .before .before .before .before .before .before .read-id .ensures) ∙ c .before .before .before .before .before .before .before .len .given .1 in
+    let g = sym (c .before .before .before .before .body-field .ensures) ∙ c .before .before .end .given .1 in
+    let r = item-room s run e f g in
     omega arith
 
 add-t19 : tie.Need-add-t19
 add-t19 c =
-    let r = item-room (c .before .before .before .before .before .before .before .before .before .before .before .before .before .before .before .before .args .body .now) (c .before .before .before .before .before .before .before .before .before .before .before .before .before .before .before .before .pre) (sym (c .before .before .before .before .before .before .before .before .before .before .before .before .before .before .number-field .ensures) ∙ c .before .before .before .before .before .before .before .before .before .before .before .before .operation .given .1) (sym (c .before .before .before .before .before .before .before .before .before .read-id .ensures) ∙ c .before .before .before .before .before .before .before .len .given .1) (sym (c .before .before .before .before .body-field .ensures) ∙ c .before .before .end .given .1) in
+    let s = c .before .before .before .before .before .before .before .before .before .before .before .before .before .before .before .before .args .body .now in
+    let run = c .before .before .before .before .before .before .before .before .before .before .before .before .before .before .before .before .pre in
+    let e = sym (c .before .before .before .before .before .before .before .before .before .before .before .before .before .before .number-field .ensures) ∙ c .before .before .before .before .before .before .before .before .before .before .before .before .operation .given .1 in
+    let f = sym (c .before .before .before .before .before .before .before .before .before .read-id .ensures) ∙ c .before .before .before .before .before .before .before .len .given .1 in
+    let g = sym (c .before .before .before .before .body-field .ensures) ∙ c .before .before .end .given .1 in
+    let r = item-room s run e f g in
     omega arith
 
 add-t20 : tie.Need-add-t20
 add-t20 c =
-    let r = item-room (c .before .before .before .before .before .before .before .before .before .before .before .before .before .before .before .before .args .body .now) (c .before .before .before .before .before .before .before .before .before .before .before .before .before .before .before .before .pre) (sym (c .before .before .before .before .before .before .before .before .before .before .before .before .before .before .number-field .ensures) ∙ c .before .before .before .before .before .before .before .before .before .before .before .before .operation .given .1) (sym (c .before .before .before .before .before .before .before .before .before .read-id .ensures) ∙ c .before .before .before .before .before .before .before .len .given .1) (sym (c .before .before .before .before .body-field .ensures) ∙ c .before .before .end .given .1) in
+    let s = c .before .before .before .before .before .before .before .before .before .before .before .before .before .before .before .before .args .body .now in
+    let run = c .before .before .before .before .before .before .before .before .before .before .before .before .before .before .before .before .pre in
+    let e = sym (c .before .before .before .before .before .before .before .before .before .before .before .before .before .before .number-field .ensures) ∙ c .before .before .before .before .before .before .before .before .before .before .before .before .operation .given .1 in
+    let f = sym (c .before .before .before .before .before .before .before .before .before .read-id .ensures) ∙ c .before .before .before .before .before .before .before .len .given .1 in
+    let g = sym (c .before .before .before .before .body-field .ensures) ∙ c .before .before .end .given .1 in
+    let r = item-room s run e f g in
     omega arith
 
 returns-5 : tie.Need-returns-5
 returns-5 c =
-    sym (item-reads (c .before .before .before .before .before .before .before .before .before .before .before .before .before .before .before .before .args .body .now) (c .before .before .before .before .before .before .before .before .before .before .before .before .before .before .before .before .pre) (sym (c .before .before .before .before .before .before .before .before .before .before .before .before .before .before .number-field .ensures) ∙ c .before .before .before .before .before .before .before .before .before .before .before .before .operation .given .1) (sym (c .before .before .before .before .before .before .before .before .before .read-id .ensures) ∙ c .before .before .before .before .before .before .before .len .given .1) (sym (c .before .before .before .before .body-field .ensures) ∙ c .before .before .end .given .1) (c .if1 .left))
+    let s = c .before .before .before .before .before .before .before .before .before .before .before .before .before .before .before .before .args .body .now in
+    let run = c .before .before .before .before .before .before .before .before .before .before .before .before .before .before .before .before .pre in
+    let e = sym (c .before .before .before .before .before .before .before .before .before .before .before .before .before .before .number-field .ensures) ∙ c .before .before .before .before .before .before .before .before .before .before .before .before .operation .given .1 in
+    let f = sym (c .before .before .before .before .before .before .before .before .before .read-id .ensures) ∙ c .before .before .before .before .before .before .before .len .given .1 in
+    let g = sym (c .before .before .before .before .body-field .ensures) ∙ c .before .before .end .given .1 in
+    sym (item-reads s run e f g (c .if1 .left))
 
 pub find-item-spec : {M : Type 1} → statement M
 find-item-spec =

@@ -25,12 +25,14 @@ enum-told-2 c = search needs
 returns : tie.Need-returns
 unfolding isSome
 returns c =
-    sym (ap isSome (item-absent (c .before .before .before .before .args .body .now) (itemIn (treeOf (c .before .before .before .before .args .body .now))) (sym (c .before .before .find-item .ensures) ∙ c .enum-told2 .given .1)))
+    let s = c .before .before .before .before .args .body .now in
+    sym (ap isSome (item-absent s (itemIn (treeOf s)) (sym (c .before .before .find-item .ensures) ∙ c .enum-told2 .given .1)))
 
 returns-2 : tie.Need-returns-2
 unfolding isSome
 returns-2 c =
-    sym (ap isSome (told-item (c .before .before .before .before .args .body .now) (itemIn (treeOf (c .before .before .before .before .args .body .now))) (sym (c .before .before .find-item .ensures) ∙ c .enum-told .given .1) .there))
+    let s = c .before .before .before .before .args .body .now in
+    sym (ap isSome (told-item s (itemIn (treeOf s)) (sym (c .before .before .find-item .ensures) ∙ c .enum-told .given .1) .there))
 
 pub item-ok-spec : {M : Type 1} → statement M
 item-ok-spec = tie.close (tie.spec find-item-requires enum-told enum-told-2 returns returns-2)

@@ -34,7 +34,8 @@ refuse-requires c κs = search needs
 returns : tie.Need-returns
 unfolding framingOf framed
 returns c =
-    c .refuse .ensures ∙ sym (taken-6 (frameIn (treeOf (c .before .before .before .before .before .args .request .now))) (itemsAt (c .before .before .before .before .before .args .request .now)) (sym (c .before .before .before .find-frame .ensures) ∙ c .before .enum-told .given .1))
+    let s = c .before .before .before .before .before .args .request .now in
+    c .refuse .ensures ∙ sym (taken-6 (frameIn (treeOf s)) (itemsAt s) (sym (c .before .before .before .find-frame .ensures) ∙ c .before .enum-told .given .1))
 
 version-ok-requires : tie.Need-version-ok-requires
 version-ok-requires c κs = search needs
@@ -45,7 +46,9 @@ refuse-requires-2 c κs = search needs
 returns-2 : tie.Need-returns-2
 unfolding framingOf framed
 returns-2 c =
-    c .refuse2 .ensures ∙ sym (taken-7 (frameIn (treeOf (c .before .before .before .before .before .before .before .before .args .request .now))) (itemsAt (c .before .before .before .before .before .before .before .before .args .request .now)) (told (frameIn (treeOf (c .before .before .before .before .before .before .before .before .args .request .now))) (itemsAt (c .before .before .before .before .before .before .before .before .args .request .now)) (sym (c .before .before .before .before .before .before .find-frame .ensures) ∙ c .before .before .before .before .major .given .1)) (sym (c .before .before .version-ok .ensures) ∙ not-true _ (c .before .if1 .taken)))
+    let s = c .before .before .before .before .before .before .before .before .args .request .now in
+    let t = told (frameIn (treeOf s)) (itemsAt s) (sym (c .before .before .before .before .before .before .find-frame .ensures) ∙ c .before .before .before .before .major .given .1) in
+    c .refuse2 .ensures ∙ sym (taken-7 (frameIn (treeOf s)) (itemsAt s) t (sym (c .before .before .version-ok .ensures) ∙ not-true _ (c .before .if1 .taken)))
 
 count-ok-requires : tie.Need-count-ok-requires
 count-ok-requires c κs = search needs
@@ -56,7 +59,10 @@ refuse-requires-3 c κs = search needs
 returns-3 : tie.Need-returns-3
 unfolding framingOf framed
 returns-3 c =
-    c .refuse3 .ensures ∙ sym (taken-8 (frameIn (treeOf (c .before .before .before .before .before .before .before .before .before .before .args .request .now))) (itemsAt (c .before .before .before .before .before .before .before .before .before .before .args .request .now)) (told (frameIn (treeOf (c .before .before .before .before .before .before .before .before .before .before .args .request .now))) (itemsAt (c .before .before .before .before .before .before .before .before .before .before .args .request .now)) (sym (c .before .before .before .before .before .before .before .before .find-frame .ensures) ∙ c .before .before .before .before .before .before .major .given .1)) (sym (c .before .before .before .before .version-ok .ensures) ∙ not-false _ (c .before .before .before .if1 .left)) (sym (c .before .before .count-ok .ensures) ∙ not-true _ (c .before .if2 .taken)))
+    let s = c .before .before .before .before .before .before .before .before .before .before .args .request .now in
+    let t = told (frameIn (treeOf s)) (itemsAt s) (sym (c .before .before .before .before .before .before .before .before .find-frame .ensures) ∙ c .before .before .before .before .before .before .major .given .1) in
+    let v = sym (c .before .before .before .before .version-ok .ensures) ∙ not-false _ (c .before .before .before .if1 .left) in
+    c .refuse3 .ensures ∙ sym (taken-8 (frameIn (treeOf s)) (itemsAt s) t v (sym (c .before .before .count-ok .ensures) ∙ not-true _ (c .before .if2 .taken)))
 
 option-ok-requires : tie.Need-option-ok-requires
 option-ok-requires c κs = search needs
@@ -67,7 +73,11 @@ refuse-requires-4 c κs = search needs
 returns-4 : tie.Need-returns-4
 unfolding framingOf framed
 returns-4 c =
-    c .refuse4 .ensures ∙ sym (taken-9 (frameIn (treeOf (c .before .before .before .before .before .before .before .before .before .before .before .before .args .request .now))) (itemsAt (c .before .before .before .before .before .before .before .before .before .before .before .before .args .request .now)) (told (frameIn (treeOf (c .before .before .before .before .before .before .before .before .before .before .before .before .args .request .now))) (itemsAt (c .before .before .before .before .before .before .before .before .before .before .before .before .args .request .now)) (sym (c .before .before .before .before .before .before .before .before .before .before .find-frame .ensures) ∙ c .before .before .before .before .before .before .before .before .major .given .1)) (sym (c .before .before .before .before .before .before .version-ok .ensures) ∙ not-false _ (c .before .before .before .before .before .if1 .left)) (sym (c .before .before .before .before .count-ok .ensures) ∙ not-false _ (c .before .before .before .if2 .left)) (sym (c .before .before .option-ok .ensures) ∙ not-true _ (c .before .if3 .taken)))
+    let s = c .before .before .before .before .before .before .before .before .before .before .before .before .args .request .now in
+    let t = told (frameIn (treeOf s)) (itemsAt s) (sym (c .before .before .before .before .before .before .before .before .before .before .find-frame .ensures) ∙ c .before .before .before .before .before .before .before .before .major .given .1) in
+    let v = sym (c .before .before .before .before .before .before .version-ok .ensures) ∙ not-false _ (c .before .before .before .before .before .if1 .left) in
+    let k = sym (c .before .before .before .before .count-ok .ensures) ∙ not-false _ (c .before .before .before .if2 .left) in
+    c .refuse4 .ensures ∙ sym (taken-9 (frameIn (treeOf s)) (itemsAt s) t v k (sym (c .before .before .option-ok .ensures) ∙ not-true _ (c .before .if3 .taken)))
 
 cast-t11 : tie.Need-cast-t11
 cast-t11 c =
@@ -77,7 +87,11 @@ cast-t11 c =
 returns-5 : tie.Need-returns-5
 unfolding framingOf framed
 returns-5 c =
-    sym (taken (frameIn (treeOf (c .before .before .before .before .before .before .before .before .before .before .before .args .request .now))) (itemsAt (c .before .before .before .before .before .before .before .before .before .before .before .args .request .now)) (told (frameIn (treeOf (c .before .before .before .before .before .before .before .before .before .before .before .args .request .now))) (itemsAt (c .before .before .before .before .before .before .before .before .before .before .before .args .request .now)) (sym (c .before .before .before .before .before .before .before .before .before .find-frame .ensures) ∙ c .before .before .before .before .before .before .before .major .given .1)) (sym (c .before .before .before .before .before .version-ok .ensures) ∙ not-false _ (c .before .before .before .before .if1 .left)) (sym (c .before .before .before .count-ok .ensures) ∙ not-false _ (c .before .before .if2 .left)) (sym (c .before .option-ok .ensures) ∙ not-false _ (c .if3 .left)))
+    let s = c .before .before .before .before .before .before .before .before .before .before .before .args .request .now in
+    let t = told (frameIn (treeOf s)) (itemsAt s) (sym (c .before .before .before .before .before .before .before .before .before .find-frame .ensures) ∙ c .before .before .before .before .before .before .before .major .given .1) in
+    let v = sym (c .before .before .before .before .before .version-ok .ensures) ∙ not-false _ (c .before .before .before .before .if1 .left) in
+    let k = sym (c .before .before .before .count-ok .ensures) ∙ not-false _ (c .before .before .if2 .left) in
+    sym (taken (frameIn (treeOf s)) (itemsAt s) t v k (sym (c .before .option-ok .ensures) ∙ not-false _ (c .if3 .left)))
 
 pub read-frame-spec : {M : Type 1} → statement M
 read-frame-spec =

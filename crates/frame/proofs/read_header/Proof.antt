@@ -33,26 +33,37 @@ enum-told c = search needs
 returns : tie.Need-returns
 unfolding headerRead
 returns c =
-    sym (ap headerRead (header-no-version (c .before .before .before .before .args .s .now) (c .before .before .before .before .pre) (sym (c .before .before .body-field .ensures) ∙ c .enum-told .given .1)))
+    let s = c .before .before .before .before .args .s .now in
+    let run = c .before .before .before .before .pre in
+    sym (ap headerRead (header-no-version s run (sym (c .before .before .body-field .ensures) ∙ c .enum-told .given .1)))
 
 sub-read-version : tie.Need-sub-read-version
 sub-read-version c =
-    let w = body-ends (c .before .before .before .before .before .args .s .now) protocolVersion (sym (c .before .before .before .body-field .ensures) ∙ c .before .next .given .1) in
+    let s = c .before .before .before .before .before .args .s .now in
+    let e = sym (c .before .before .before .body-field .ensures) ∙ c .before .next .given .1 in
+    let w = body-ends s protocolVersion e in
     omega arith
 
 part-read-version-start : tie.Need-part-read-version-start
 part-read-version-start c =
-    let w = body-ends (c .before .before .before .before .before .args .s .now) protocolVersion (sym (c .before .before .before .body-field .ensures) ∙ c .before .next .given .1) in
+    let s = c .before .before .before .before .before .args .s .now in
+    let e = sym (c .before .before .before .body-field .ensures) ∙ c .before .next .given .1 in
+    let w = body-ends s protocolVersion e in
     omega arith
 
 part-read-version-end : tie.Need-part-read-version-end
 part-read-version-end c =
-    let w = body-ends (c .before .before .before .before .before .args .s .now) protocolVersion (sym (c .before .before .before .body-field .ensures) ∙ c .before .next .given .1) in
+    let s = c .before .before .before .before .before .args .s .now in
+    let e = sym (c .before .before .before .body-field .ensures) ∙ c .before .next .given .1 in
+    let w = body-ends s protocolVersion e in
     omega arith
 
 read-version-requires : tie.Need-read-version-requires
 read-version-requires c κs =
-    body-is-run (c .before .before .before .before .before .before .args .s .now) (c .before .before .before .before .before .before .pre) protocolVersion (sym (c .before .before .before .before .body-field .ensures) ∙ c .before .before .next .given .1)
+    let s = c .before .before .before .before .before .before .args .s .now in
+    let run = c .before .before .before .before .before .before .pre in
+    let e = sym (c .before .before .before .before .body-field .ensures) ∙ c .before .before .next .given .1 in
+    body-is-run s run protocolVersion e
 
 enum-known-major : tie.Need-enum-known-major
 enum-known-major c = search needs
@@ -63,16 +74,23 @@ enum-told-2 c = search needs
 returns-2 : tie.Need-returns-2
 unfolding headerRead
 returns-2 c =
-    sym (ap headerRead (header-bad-version (c .before .before .before .before .before .before .before .before .before .args .s .now) (c .before .before .before .before .before .before .before .before .before .pre) (sym (c .before .before .before .before .before .before .before .body-field .ensures) ∙ c .before .before .before .before .before .next .given .1) (sym (c .before .before .read-version .ensures) ∙ c .enum-told2 .given .1)))
+    let s = c .before .before .before .before .before .before .before .before .before .args .s .now in
+    let run = c .before .before .before .before .before .before .before .before .before .pre in
+    let e = sym (c .before .before .before .before .before .before .before .body-field .ensures) ∙ c .before .before .before .before .before .next .given .1 in
+    sym (ap headerRead (header-bad-version s run e (sym (c .before .before .read-version .ensures) ∙ c .enum-told2 .given .1)))
 
 sub-t : tie.Need-sub-t
 sub-t c =
-    let w = body-ends (c .before .before .before .before .before .before .before .before .before .before .args .s .now) protocolVersion (sym (c .before .before .before .before .before .before .before .before .body-field .ensures) ∙ c .before .before .before .before .before .before .next .given .1) in
+    let s = c .before .before .before .before .before .before .before .before .before .before .args .s .now in
+    let e = sym (c .before .before .before .before .before .before .before .before .body-field .ensures) ∙ c .before .before .before .before .before .before .next .given .1 in
+    let w = body-ends s protocolVersion e in
     omega arith
 
 part-t-start : tie.Need-part-t-start
 part-t-start c =
-    let w = body-ends (c .before .before .before .before .before .before .before .before .before .before .args .s .now) protocolVersion (sym (c .before .before .before .before .before .before .before .before .body-field .ensures) ∙ c .before .before .before .before .before .before .next .given .1) in
+    let s = c .before .before .before .before .before .before .before .before .before .before .args .s .now in
+    let e = sym (c .before .before .before .before .before .before .before .before .body-field .ensures) ∙ c .before .before .before .before .before .before .next .given .1 in
+    let w = body-ends s protocolVersion e in
     omega arith
 
 part-t-end : tie.Need-part-t-end
@@ -90,16 +108,28 @@ enum-told-3 c = search needs
 returns-3 : tie.Need-returns-3
 unfolding headerRead
 returns-3 c =
-    sym (ap headerRead (header-bad-option (c .before .before .before .before .before .before .before .before .before .before .before .before .before .before .args .s .now) (c .before .before .before .before .before .before .before .before .before .before .before .before .before .before .pre) (sym (c .before .before .before .before .before .before .before .before .before .before .before .before .body-field .ensures) ∙ c .before .before .before .before .before .before .before .before .before .before .next .given .1) (sym (c .before .before .before .before .before .before .before .read-version .ensures) ∙ c .before .before .before .before .before .major .given .1) (sym (c .before .before .read-option .ensures) ∙ c .enum-told3 .given .1)))
+    let s = c .before .before .before .before .before .before .before .before .before .before .before .before .before .before .args .s .now in
+    let run = c .before .before .before .before .before .before .before .before .before .before .before .before .before .before .pre in
+    let e = sym (c .before .before .before .before .before .before .before .before .before .before .before .before .body-field .ensures) ∙ c .before .before .before .before .before .before .before .before .before .before .next .given .1 in
+    let v = sym (c .before .before .before .before .before .before .before .read-version .ensures) ∙ c .before .before .before .before .before .major .given .1 in
+    sym (ap headerRead (header-bad-option s run e v (sym (c .before .before .read-option .ensures) ∙ c .enum-told3 .given .1)))
 
 sub-u : tie.Need-sub-u
 sub-u c =
-    let w = option-within (tail (c .before .before .before .before .before .before .before .before .before .before .before .before .before .before .before .args .s .now) (c .before .before .before .before .before .before .before .before .before .before .before .next .given .0 .0)) (header-behind (c .before .before .before .before .before .before .before .before .before .before .before .before .before .before .before .args .s .now) (c .before .before .before .before .before .before .before .before .before .before .before .before .before .before .before .pre) (sym (c .before .before .before .before .before .before .before .before .before .before .before .before .before .body-field .ensures) ∙ c .before .before .before .before .before .before .before .before .before .before .before .next .given .1)) (sym (c .before .before .before .read-option .ensures) ∙ c .before .option .given .1) in
+    let s = c .before .before .before .before .before .before .before .before .before .before .before .before .before .before .before .args .s .now in
+    let run = c .before .before .before .before .before .before .before .before .before .before .before .before .before .before .before .pre in
+    let e = sym (c .before .before .before .before .before .before .before .before .before .before .before .before .before .body-field .ensures) ∙ c .before .before .before .before .before .before .before .before .before .before .before .next .given .1 in
+    let f = sym (c .before .before .before .read-option .ensures) ∙ c .before .option .given .1 in
+    let w = option-within (tail s (c .before .before .before .before .before .before .before .before .before .before .before .next .given .0 .0)) (header-behind s run e) f in
     omega arith
 
 part-u-start : tie.Need-part-u-start
 part-u-start c =
-    let w = option-within (tail (c .before .before .before .before .before .before .before .before .before .before .before .before .before .before .before .args .s .now) (c .before .before .before .before .before .before .before .before .before .before .before .next .given .0 .0)) (header-behind (c .before .before .before .before .before .before .before .before .before .before .before .before .before .before .before .args .s .now) (c .before .before .before .before .before .before .before .before .before .before .before .before .before .before .before .pre) (sym (c .before .before .before .before .before .before .before .before .before .before .before .before .before .body-field .ensures) ∙ c .before .before .before .before .before .before .before .before .before .before .before .next .given .1)) (sym (c .before .before .before .read-option .ensures) ∙ c .before .option .given .1) in
+    let s = c .before .before .before .before .before .before .before .before .before .before .before .before .before .before .before .args .s .now in
+    let run = c .before .before .before .before .before .before .before .before .before .before .before .before .before .before .before .pre in
+    let e = sym (c .before .before .before .before .before .before .before .before .before .before .before .before .before .body-field .ensures) ∙ c .before .before .before .before .before .before .before .before .before .before .before .next .given .1 in
+    let f = sym (c .before .before .before .read-option .ensures) ∙ c .before .option .given .1 in
+    let w = option-within (tail s (c .before .before .before .before .before .before .before .before .before .before .before .next .given .0 .0)) (header-behind s run e) f in
     omega arith
 
 part-u-end : tie.Need-part-u-end
@@ -117,16 +147,33 @@ enum-told-4 c = search needs
 returns-4 : tie.Need-returns-4
 unfolding headerRead
 returns-4 c =
-    sym (ap headerRead (header-no-count (c .before .before .before .before .before .before .before .before .before .before .before .before .before .before .before .before .before .before .before .args .s .now) (c .before .before .before .before .before .before .before .before .before .before .before .before .before .before .before .before .before .before .before .pre) (sym (c .before .before .before .before .before .before .before .before .before .before .before .before .before .before .before .before .before .body-field .ensures) ∙ c .before .before .before .before .before .before .before .before .before .before .before .before .before .before .before .next .given .1) (sym (c .before .before .before .before .before .before .before .before .before .before .before .before .read-version .ensures) ∙ c .before .before .before .before .before .before .before .before .before .before .major .given .1) (sym (c .before .before .before .before .before .before .before .read-option .ensures) ∙ c .before .before .before .before .before .option .given .1) (sym (c .before .before .number-field .ensures) ∙ c .enum-told4 .given .1)))
+    let s = c .before .before .before .before .before .before .before .before .before .before .before .before .before .before .before .before .before .before .before .args .s .now in
+    let run = c .before .before .before .before .before .before .before .before .before .before .before .before .before .before .before .before .before .before .before .pre in
+    let e = sym (c .before .before .before .before .before .before .before .before .before .before .before .before .before .before .before .before .before .body-field .ensures) ∙ c .before .before .before .before .before .before .before .before .before .before .before .before .before .before .before .next .given .1 in
+    let v = sym (c .before .before .before .before .before .before .before .before .before .before .before .before .read-version .ensures) ∙ c .before .before .before .before .before .before .before .before .before .before .major .given .1 in
+    let f = sym (c .before .before .before .before .before .before .before .read-option .ensures) ∙ c .before .before .before .before .before .option .given .1 in
+    sym (ap headerRead (header-no-count s run e v f (sym (c .before .before .number-field .ensures) ∙ c .enum-told4 .given .1)))
 
 returns-5 : tie.Need-returns-5
 unfolding headerRead
 returns-5 c =
-    sym (ap headerRead (header-more (c .before .before .before .before .before .before .before .before .before .before .before .before .before .before .before .before .before .before .before .before .before .args .s .now) (c .before .before .before .before .before .before .before .before .before .before .before .before .before .before .before .before .before .before .before .before .before .pre) (sym (c .before .before .before .before .before .before .before .before .before .before .before .before .before .before .before .before .before .before .before .body-field .ensures) ∙ c .before .before .before .before .before .before .before .before .before .before .before .before .before .before .before .before .before .next .given .1) (sym (c .before .before .before .before .before .before .before .before .before .before .before .before .before .before .read-version .ensures) ∙ c .before .before .before .before .before .before .before .before .before .before .before .before .major .given .1) (sym (c .before .before .before .before .before .before .before .before .before .read-option .ensures) ∙ c .before .before .before .before .before .before .before .option .given .1) (sym (c .before .before .before .before .number-field .ensures) ∙ c .before .before .count .given .1) (c .if1 .taken)))
+    let s = c .before .before .before .before .before .before .before .before .before .before .before .before .before .before .before .before .before .before .before .before .before .args .s .now in
+    let run = c .before .before .before .before .before .before .before .before .before .before .before .before .before .before .before .before .before .before .before .before .before .pre in
+    let e = sym (c .before .before .before .before .before .before .before .before .before .before .before .before .before .before .before .before .before .before .before .body-field .ensures) ∙ c .before .before .before .before .before .before .before .before .before .before .before .before .before .before .before .before .before .next .given .1 in
+    let v = sym (c .before .before .before .before .before .before .before .before .before .before .before .before .before .before .read-version .ensures) ∙ c .before .before .before .before .before .before .before .before .before .before .before .before .major .given .1 in
+    let f = sym (c .before .before .before .before .before .before .before .before .before .read-option .ensures) ∙ c .before .before .before .before .before .before .before .option .given .1 in
+    let g = sym (c .before .before .before .before .number-field .ensures) ∙ c .before .before .count .given .1 in
+    sym (ap headerRead (header-more s run e v f g (c .if1 .taken)))
 
 returns-6 : tie.Need-returns-6
 returns-6 c =
-    sym (header-is (c .before .before .before .before .before .before .before .before .before .before .before .before .before .before .before .before .before .before .before .before .before .args .s .now) (c .before .before .before .before .before .before .before .before .before .before .before .before .before .before .before .before .before .before .before .before .before .pre) (sym (c .before .before .before .before .before .before .before .before .before .before .before .before .before .before .before .before .before .before .before .body-field .ensures) ∙ c .before .before .before .before .before .before .before .before .before .before .before .before .before .before .before .before .before .next .given .1) (sym (c .before .before .before .before .before .before .before .before .before .before .before .before .before .before .read-version .ensures) ∙ c .before .before .before .before .before .before .before .before .before .before .before .before .major .given .1) (sym (c .before .before .before .before .before .before .before .before .before .read-option .ensures) ∙ c .before .before .before .before .before .before .before .option .given .1) (sym (c .before .before .before .before .number-field .ensures) ∙ c .before .before .count .given .1) (c .if1 .left))
+    let s = c .before .before .before .before .before .before .before .before .before .before .before .before .before .before .before .before .before .before .before .before .before .args .s .now in
+    let run = c .before .before .before .before .before .before .before .before .before .before .before .before .before .before .before .before .before .before .before .before .before .pre in
+    let e = sym (c .before .before .before .before .before .before .before .before .before .before .before .before .before .before .before .before .before .before .before .body-field .ensures) ∙ c .before .before .before .before .before .before .before .before .before .before .before .before .before .before .before .before .before .next .given .1 in
+    let v = sym (c .before .before .before .before .before .before .before .before .before .before .before .before .before .before .read-version .ensures) ∙ c .before .before .before .before .before .before .before .before .before .before .before .before .major .given .1 in
+    let f = sym (c .before .before .before .before .before .before .before .before .before .read-option .ensures) ∙ c .before .before .before .before .before .before .before .option .given .1 in
+    let g = sym (c .before .before .before .before .number-field .ensures) ∙ c .before .before .count .given .1 in
+    sym (header-is s run e v f g (c .if1 .left))
 
 pub read-header-spec : {M : Type 1} → statement M
 read-header-spec =

@@ -37,22 +37,32 @@ enum-told c = search needs
 returns-2 : tie.Need-returns-2
 unfolding idAt idSpan
 returns-2 c =
-    sym (ifb-true _ _ _ (sym (c .before .before .before .before .starts-with .ensures) ∙ not-false _ (c .before .before .before .if1 .left)) ∙ ap idSpan (sym (c .before .before .bytes-field .ensures) ∙ c .enum-told .given .1))
+    let y = sym (c .before .before .before .before .starts-with .ensures) ∙ not-false _ (c .before .before .before .if1 .left) in
+    sym (ifb-true _ _ _ y ∙ ap idSpan (sym (c .before .before .bytes-field .ensures) ∙ c .enum-told .given .1))
 
 returns-3 : tie.Need-returns-3
 unfolding idAt idSpan
 returns-3 c =
-    sym (ifb-true _ _ _ (sym (c .before .before .before .before .before .before .starts-with .ensures) ∙ not-false _ (c .before .before .before .before .before .if1 .left)) ∙ ap idSpan (sym (c .before .before .before .before .bytes-field .ensures) ∙ c .before .before .len .given .1) ∙ ifb-false _ _ _ (and-no (leb 1 (c .before .before .len .given .0 .0)) (leb (c .before .before .len .given .0 .0) 16) (lt-leb 1 (c .before .before .len .given .0 .0) (c .if2 .taken))))
+    let y = sym (c .before .before .before .before .before .before .starts-with .ensures) ∙ not-false _ (c .before .before .before .before .before .if1 .left) in
+    let n = c .before .before .len .given .0 .0 in
+    let e = sym (c .before .before .before .before .bytes-field .ensures) ∙ c .before .before .len .given .1 in
+    sym (ifb-true _ _ _ y ∙ ap idSpan e ∙ ifb-false _ _ _ (and-no (leb 1 n) (leb n 16) (lt-leb 1 n (c .if2 .taken))))
 
 returns-4 : tie.Need-returns-4
 unfolding idAt idSpan
 returns-4 c =
-    sym (ifb-true _ _ _ (sym (c .before .before .before .before .before .before .before .starts-with .ensures) ∙ not-false _ (c .before .before .before .before .before .before .if1 .left)) ∙ ap idSpan (sym (c .before .before .before .before .before .bytes-field .ensures) ∙ c .before .before .before .len .given .1) ∙ ifb-false _ _ _ (and-second (leb 1 (c .before .before .before .len .given .0 .0)) (leb (c .before .before .before .len .given .0 .0) 16) (le-leb 1 (c .before .before .before .len .given .0 .0) (c .before .if2 .left)) ∙ lt-leb (c .before .before .before .len .given .0 .0) 16 (c .if3 .taken)))
+    let y = sym (c .before .before .before .before .before .before .before .starts-with .ensures) ∙ not-false _ (c .before .before .before .before .before .before .if1 .left) in
+    let n = c .before .before .before .len .given .0 .0 in
+    let e = sym (c .before .before .before .before .before .bytes-field .ensures) ∙ c .before .before .before .len .given .1 in
+    sym (ifb-true _ _ _ y ∙ ap idSpan e ∙ ifb-false _ _ _ (and-second (leb 1 n) (leb n 16) (le-leb 1 n (c .before .if2 .left)) ∙ lt-leb n 16 (c .if3 .taken)))
 
 returns-5 : tie.Need-returns-5
 unfolding idAt idSpan
 returns-5 c =
-    sym (ifb-true _ _ _ (sym (c .before .before .before .before .before .before .before .starts-with .ensures) ∙ not-false _ (c .before .before .before .before .before .before .if1 .left)) ∙ ap idSpan (sym (c .before .before .before .before .before .bytes-field .ensures) ∙ c .before .before .before .len .given .1) ∙ ifb-true _ _ _ (and-i (leb 1 (c .before .before .before .len .given .0 .0)) (leb (c .before .before .before .len .given .0 .0) 16) (le-leb 1 (c .before .before .before .len .given .0 .0) (c .before .if2 .left)) (le-leb (c .before .before .before .len .given .0 .0) 16 (c .if3 .left))))
+    let y = sym (c .before .before .before .before .before .before .before .starts-with .ensures) ∙ not-false _ (c .before .before .before .before .before .before .if1 .left) in
+    let n = c .before .before .before .len .given .0 .0 in
+    let e = sym (c .before .before .before .before .before .bytes-field .ensures) ∙ c .before .before .before .len .given .1 in
+    sym (ifb-true _ _ _ y ∙ ap idSpan e ∙ ifb-true _ _ _ (and-i (leb 1 n) (leb n 16) (le-leb 1 n (c .before .if2 .left)) (le-leb n 16 (c .if3 .left))))
 
 pub read-id-spec : {M : Type 1} → statement M
 read-id-spec =

@@ -33,11 +33,15 @@ take-id-requires c κs = search needs
 
 returns : tie.Need-returns
 returns c =
-    absurd (no-item (c .before .before .before .before .before .before .args .body .now) (itemIn (treeOf (c .before .before .before .before .before .before .args .body .now))) (c .before .before .before .before .before .before .pre .1) (sym (c .before .before .before .before .find-item .ensures) ∙ c .before .before .enum-told .given .1))
+    let s = c .before .before .before .before .before .before .args .body .now in
+    absurd (no-item s (itemIn (treeOf s)) (c .before .before .before .before .before .before .pre .1) (sym (c .before .before .before .before .find-item .ensures) ∙ c .before .before .enum-told .given .1))
 
 add-end : tie.Need-add-end
 add-end c =
-    let r = told-room (c .before .before .before .before .before .args .body .now) (c .before .before .before .before .before .pre .0) (sym (c .before .before .before .find-item .ensures) ∙ c .before .operation .given .1) in
+    let s = c .before .before .before .before .before .args .body .now in
+    let run = c .before .before .before .before .before .pre .0 in
+    let h = sym (c .before .before .before .find-item .ensures) ∙ c .before .operation .given .1 in
+    let r = told-room s run h in
     omega arith
 
 sub-take-id : tie.Need-sub-take-id
@@ -48,16 +52,25 @@ part-take-id-start c = search needs
 
 part-take-id-end : tie.Need-part-take-id-end
 part-take-id-end c =
-    let r = told-room (c .before .before .before .before .before .args .body .now) (c .before .before .before .before .before .pre .0) (sym (c .before .before .before .find-item .ensures) ∙ c .before .operation .given .1) in
+    let s = c .before .before .before .before .before .args .body .now in
+    let run = c .before .before .before .before .before .pre .0 in
+    let h = sym (c .before .before .before .find-item .ensures) ∙ c .before .operation .given .1 in
+    let r = told-room s run h in
     omega arith
 
 take-id-requires-2 : tie.Need-take-id-requires-2
 take-id-requires-2 c κs =
-    id-fits (c .before .before .before .before .before .before .args .body .now) (c .before .before .before .before .before .before .pre .0) (sym (c .before .before .before .before .find-item .ensures) ∙ c .before .before .operation .given .1)
+    let s = c .before .before .before .before .before .before .args .body .now in
+    let run = c .before .before .before .before .before .before .pre .0 in
+    let h = sym (c .before .before .before .before .find-item .ensures) ∙ c .before .before .operation .given .1 in
+    id-fits s run h
 
 returns-2 : tie.Need-returns-2
 returns-2 c =
-    parts-are (c .before .before .before .before .before .before .before .args .body .now) (c .before .before .before .before .before .before .before .pre .0) (sym (c .before .before .before .before .before .find-item .ensures) ∙ c .before .before .before .operation .given .1) (c .take-id2 .ensures)
+    let s = c .before .before .before .before .before .before .before .args .body .now in
+    let run = c .before .before .before .before .before .before .before .pre .0 in
+    let h = sym (c .before .before .before .before .before .find-item .ensures) ∙ c .before .before .before .operation .given .1 in
+    parts-are s run h (c .take-id2 .ensures)
 
 pub read-item-spec : {M : Type 1} → statement M
 read-item-spec =

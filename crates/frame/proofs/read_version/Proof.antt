@@ -28,16 +28,22 @@ enum-told c = search needs
 returns : tie.Need-returns
 unfolding versionRead
 returns c =
-    sym (ap versionRead (version-no-major (c .before .before .before .before .args .s .now) (c .before .before .before .before .pre) (sym (c .before .before .number-field .ensures) ∙ c .enum-told .given .1)))
+    let s = c .before .before .before .before .args .s .now in
+    let run = c .before .before .before .before .pre in
+    sym (ap versionRead (version-no-major s run (sym (c .before .before .number-field .ensures) ∙ c .enum-told .given .1)))
 
 sub-t : tie.Need-sub-t
 sub-t c =
-    let w = number-ends (c .before .before .before .before .before .args .s .now) protocolVersionMajor integer (sym (c .before .before .before .number-field .ensures) ∙ c .before .major .given .1) in
+    let s = c .before .before .before .before .before .args .s .now in
+    let e = sym (c .before .before .before .number-field .ensures) ∙ c .before .major .given .1 in
+    let w = number-ends s protocolVersionMajor integer e in
     omega arith
 
 part-t-start : tie.Need-part-t-start
 part-t-start c =
-    let w = number-ends (c .before .before .before .before .before .args .s .now) protocolVersionMajor integer (sym (c .before .before .before .number-field .ensures) ∙ c .before .major .given .1) in
+    let s = c .before .before .before .before .before .args .s .now in
+    let e = sym (c .before .before .before .number-field .ensures) ∙ c .before .major .given .1 in
+    let w = number-ends s protocolVersionMajor integer e in
     omega arith
 
 part-t-end : tie.Need-part-t-end
@@ -55,17 +61,28 @@ enum-told-2 c = search needs
 returns-2 : tie.Need-returns-2
 unfolding versionRead
 returns-2 c =
-    sym (ap versionRead (version-no-minor (c .before .before .before .before .before .before .before .before .before .args .s .now) (c .before .before .before .before .before .before .before .before .before .pre) (sym (c .before .before .before .before .before .before .before .number-field .ensures) ∙ c .before .before .before .before .before .major .given .1) (sym (c .before .before .number-field2 .ensures) ∙ c .enum-told2 .given .1)))
+    let s = c .before .before .before .before .before .before .before .before .before .args .s .now in
+    let run = c .before .before .before .before .before .before .before .before .before .pre in
+    let e = sym (c .before .before .before .before .before .before .before .number-field .ensures) ∙ c .before .before .before .before .before .major .given .1 in
+    sym (ap versionRead (version-no-minor s run e (sym (c .before .before .number-field2 .ensures) ∙ c .enum-told2 .given .1)))
 
 returns-3 : tie.Need-returns-3
 unfolding versionRead
 returns-3 c =
-    sym (ap versionRead (version-more (c .before .before .before .before .before .before .before .before .before .before .before .args .s .now) (c .before .before .before .before .before .before .before .before .before .before .before .pre) (sym (c .before .before .before .before .before .before .before .before .before .number-field .ensures) ∙ c .before .before .before .before .before .before .before .major .given .1) (sym (c .before .before .before .before .number-field2 .ensures) ∙ c .before .before .minor .given .1) (c .if1 .taken)))
+    let s = c .before .before .before .before .before .before .before .before .before .before .before .args .s .now in
+    let run = c .before .before .before .before .before .before .before .before .before .before .before .pre in
+    let e = sym (c .before .before .before .before .before .before .before .before .before .number-field .ensures) ∙ c .before .before .before .before .before .before .before .major .given .1 in
+    let f = sym (c .before .before .before .before .number-field2 .ensures) ∙ c .before .before .minor .given .1 in
+    sym (ap versionRead (version-more s run e f (c .if1 .taken)))
 
 returns-4 : tie.Need-returns-4
 unfolding versionRead
 returns-4 c =
-    sym (ap versionRead (version-is (c .before .before .before .before .before .before .before .before .before .before .before .args .s .now) (c .before .before .before .before .before .before .before .before .before .before .before .pre) (sym (c .before .before .before .before .before .before .before .before .before .number-field .ensures) ∙ c .before .before .before .before .before .before .before .major .given .1) (sym (c .before .before .before .before .number-field2 .ensures) ∙ c .before .before .minor .given .1) (c .if1 .left)))
+    let s = c .before .before .before .before .before .before .before .before .before .before .before .args .s .now in
+    let run = c .before .before .before .before .before .before .before .before .before .before .before .pre in
+    let e = sym (c .before .before .before .before .before .before .before .before .before .number-field .ensures) ∙ c .before .before .before .before .before .before .before .major .given .1 in
+    let f = sym (c .before .before .before .before .number-field2 .ensures) ∙ c .before .before .minor .given .1 in
+    sym (ap versionRead (version-is s run e f (c .if1 .left)))
 
 pub read-version-spec : {M : Type 1} → statement M
 read-version-spec =
