@@ -1,0 +1,86 @@
+-- `answer_write::write_always`. The four numbers, one behind another.
+-- Assumes nothing.
+use native.Mathlib.Omega.{arith}
+use Rattle.ttlv.specs.Types.{integer, enumeration}
+use Rattle.payload.specs.Tags.{cryptographicAlgorithm, cryptographicLength, cryptographicUsageMask, aes}
+use Rattle.answer.specs.Tags.{stateTag}
+use Rattle.ttlv_write.specs.Write.{join}
+use Rattle.answer_write.proofs.Compose.{puts-word, then-word}
+use borrow.Author.Needs.{needs}
+use Rattle.answer_write.proofs.write_always.Statement.{statement}
+use Rattle.answer_write.proofs.write_always.Tie as tie
+use Rattle.answer_write.proofs.write_always.Reads as reads
+use Rattle.answer_write.proofs.write_always.Lts as lts
+use Rattle.ttlv_write.proofs.write_enumeration.Reads as write-enumeration-reads
+use Rattle.ttlv_write.proofs.write_integer.Reads as write-integer-reads
+
+write-enumeration-requires : tie.Need-write-enumeration-requires
+write-enumeration-requires c κs = search needs
+
+sub-write-integer : tie.Need-sub-write-integer
+sub-write-integer c = search needs
+
+part-write-integer-start : tie.Need-part-write-integer-start
+part-write-integer-start c = search needs
+
+part-write-integer-end : tie.Need-part-write-integer-end
+part-write-integer-end c = search needs
+
+write-integer-requires : tie.Need-write-integer-requires
+write-integer-requires c κs = search needs
+
+sub-write-integer-2 : tie.Need-sub-write-integer-2
+sub-write-integer-2 c = search needs
+
+part-write-integer-start-2 : tie.Need-part-write-integer-start-2
+part-write-integer-start-2 c = search needs
+
+part-write-integer-end-2 : tie.Need-part-write-integer-end-2
+part-write-integer-end-2 c = search needs
+
+write-integer-requires-2 : tie.Need-write-integer-requires-2
+write-integer-requires-2 c κs = search needs
+
+sub-write-enumeration : tie.Need-sub-write-enumeration
+sub-write-enumeration c = search needs
+
+part-write-enumeration-start : tie.Need-part-write-enumeration-start
+part-write-enumeration-start c = search needs
+
+part-write-enumeration-end : tie.Need-part-write-enumeration-end
+part-write-enumeration-end c = search needs
+
+write-enumeration-requires-2 : tie.Need-write-enumeration-requires-2
+write-enumeration-requires-2 c κs = search needs
+
+same-length : tie.Need-same-length
+same-length c = search needs
+
+returns : tie.Need-returns
+unfolding join
+returns c =
+    let a = c .before .before .before .before .before .before .before .before .before .before .before .before .before .before .before .before .before .args in
+    let algorithm = puts-word cryptographicAlgorithm enumeration aes (c .before .before .before .before .before .before .before .before .before .before .before .before .before .before .write-enumeration .ensures) (omega arith) in
+    let bits = then-word algorithm cryptographicLength integer (a .bits) (c .before .before .before .before .before .before .before .before .before .before .write-integer .ensures) (omega arith) in
+    let mask = then-word bits cryptographicUsageMask integer (a .mask) (c .before .before .before .before .before .before .write-integer2 .ensures) (omega arith) in
+    then-word mask stateTag enumeration (a .state) (c .before .before .write-enumeration2 .ensures) (omega arith)
+
+pub write-always-spec : {M : Type 1} → statement M
+write-always-spec =
+    tie.close
+    (tie.spec
+    write-enumeration-requires
+    sub-write-integer
+    part-write-integer-start
+    part-write-integer-end
+    write-integer-requires
+    sub-write-integer-2
+    part-write-integer-start-2
+    part-write-integer-end-2
+    write-integer-requires-2
+    sub-write-enumeration
+    part-write-enumeration-start
+    part-write-enumeration-end
+    write-enumeration-requires-2
+    same-length
+    returns)

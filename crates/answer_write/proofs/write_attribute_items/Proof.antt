@@ -1,0 +1,85 @@
+-- `answer_write::write_attribute_items`. The numbers, then the limits, then the links.
+-- Assumes nothing.
+use Rattle.ttlv_write.specs.Write.{join}
+use Rattle.answer.specs.Respond.{attributeItems, linkItems}
+use Rattle.ttlv.specs.Items.{nil}
+use Rattle.answer.specs.Tags.{replacedObjectLink, replacementObjectLink}
+use Rattle.answer_write.proofs.Compose.{puts-then}
+use Rattle.answer_write.proofs.Parts.{limit-join}
+use borrow.Author.Needs.{needs}
+use Rattle.answer_write.proofs.write_attribute_items.Statement.{statement}
+use Rattle.answer_write.proofs.write_attribute_items.Tie as tie
+use Rattle.answer_write.proofs.write_attribute_items.Reads as reads
+use Rattle.answer_write.proofs.write_attribute_items.Lts as lts
+use Rattle.answer_write.proofs.write_always.Reads as write-always-reads
+use Rattle.answer_write.proofs.write_limits.Reads as write-limits-reads
+use Rattle.answer_write.proofs.write_links.Reads as write-links-reads
+
+cast-write-always : tie.Need-cast-write-always
+cast-write-always c = search needs
+
+cast-write-always-2 : tie.Need-cast-write-always-2
+cast-write-always-2 c = search needs
+
+write-always-requires : tie.Need-write-always-requires
+write-always-requires c κs = search needs
+
+sub-write-limits : tie.Need-sub-write-limits
+sub-write-limits c = search needs
+
+part-write-limits-start : tie.Need-part-write-limits-start
+part-write-limits-start c = search needs
+
+part-write-limits-end : tie.Need-part-write-limits-end
+part-write-limits-end c = search needs
+
+write-limits-requires : tie.Need-write-limits-requires
+write-limits-requires c κs = search needs
+
+add-at : tie.Need-add-at
+add-at c = search needs
+
+sub-write-links : tie.Need-sub-write-links
+sub-write-links c = search needs
+
+part-write-links-start : tie.Need-part-write-links-start
+part-write-links-start c = search needs
+
+part-write-links-end : tie.Need-part-write-links-end
+part-write-links-end c = search needs
+
+write-links-requires : tie.Need-write-links-requires
+write-links-requires c κs = search needs
+
+add-result : tie.Need-add-result
+add-result c = search needs
+
+same-length : tie.Need-same-length
+same-length c = search needs
+
+returns : tie.Need-returns
+unfolding attributeItems join
+returns c =
+    let s = c .before .before .before .before .before .before .before .before .before .before .before .before .before .before .before .args .shown in
+    let links = linkItems replacedObjectLink (s .replaced) (linkItems replacementObjectLink (s .replacement) nil) in
+    rw (← limit-join s links) (puts-then (puts-then (c .before .before .before .before .before .before .before .before .before .before .write-always .ensures) (c .before .before .before .before .before .before .write-limits .ensures)) (c .before .before .write-links .ensures))
+
+pub write-attribute-items-spec : {M : Type 1} → statement M
+write-attribute-items-spec =
+    tie.close
+    (tie.spec
+    cast-write-always
+    cast-write-always-2
+    write-always-requires
+    sub-write-limits
+    part-write-limits-start
+    part-write-limits-end
+    write-limits-requires
+    add-at
+    sub-write-links
+    part-write-links-start
+    part-write-links-end
+    write-links-requires
+    add-result
+    same-length
+    returns)

@@ -1,0 +1,49 @@
+-- `answer_write::write_attributes`. The body, and its head in front.
+-- Assumes nothing.
+use native.Mathlib.Omega.{arith}
+use Rattle.answer_write.proofs.Compose.{puts-group}
+use borrow.Author.Needs.{needs}
+use Rattle.answer_write.proofs.write_attributes.Statement.{statement}
+use Rattle.answer_write.proofs.write_attributes.Tie as tie
+use Rattle.answer_write.proofs.write_attributes.Reads as reads
+use Rattle.answer_write.proofs.write_attributes.Lts as lts
+use Rattle.answer_write.proofs.write_attribute_items.Reads as write-attribute-items-reads
+use Rattle.ttlv_write.proofs.write_structure.Reads as write-structure-reads
+
+sub-write-attribute-items : tie.Need-sub-write-attribute-items
+sub-write-attribute-items c = search needs
+
+part-write-attribute-items-start : tie.Need-part-write-attribute-items-start
+part-write-attribute-items-start c = search needs
+
+part-write-attribute-items-end : tie.Need-part-write-attribute-items-end
+part-write-attribute-items-end c = search needs
+
+write-attribute-items-requires : tie.Need-write-attribute-items-requires
+write-attribute-items-requires c κs = search needs
+
+write-structure-requires : tie.Need-write-structure-requires
+write-structure-requires c κs = search needs
+
+add-result : tie.Need-add-result
+add-result c = search needs
+
+same-length : tie.Need-same-length
+same-length c = search needs
+
+returns : tie.Need-returns
+returns c =
+    puts-group 0x125 (c .before .before .before .before .before .before .before .before .before .args .out .now) (c .before .before .before .before .before .before .write-attribute-items .ensures) (c .before .before .write-structure .ensures) (omega arith) (omega arith)
+
+pub write-attributes-spec : {M : Type 1} → statement M
+write-attributes-spec =
+    tie.close
+    (tie.spec
+    sub-write-attribute-items
+    part-write-attribute-items-start
+    part-write-attribute-items-end
+    write-attribute-items-requires
+    write-structure-requires
+    add-result
+    same-length
+    returns)

@@ -1,0 +1,53 @@
+-- `answer_write::write_created`. The Object Type, and the name behind it.
+-- Assumes nothing.
+use native.Mathlib.Omega.{arith}
+use Rattle.ttlv.specs.Types.{enumeration}
+use Rattle.payload.specs.Tags.{objectType, symmetricKey}
+use Rattle.ttlv_write.specs.Write.{join}
+use Rattle.answer_write.proofs.Compose.{puts-word, puts-then}
+use borrow.Author.Needs.{needs}
+use Rattle.answer_write.proofs.write_created.Statement.{statement}
+use Rattle.answer_write.proofs.write_created.Tie as tie
+use Rattle.answer_write.proofs.write_created.Reads as reads
+use Rattle.answer_write.proofs.write_created.Lts as lts
+use Rattle.answer_write.proofs.write_named.Reads as write-named-reads
+use Rattle.ttlv_write.proofs.write_enumeration.Reads as write-enumeration-reads
+
+write-enumeration-requires : tie.Need-write-enumeration-requires
+write-enumeration-requires c κs = search needs
+
+sub-write-named : tie.Need-sub-write-named
+sub-write-named c = search needs
+
+part-write-named-start : tie.Need-part-write-named-start
+part-write-named-start c = search needs
+
+part-write-named-end : tie.Need-part-write-named-end
+part-write-named-end c = search needs
+
+write-named-requires : tie.Need-write-named-requires
+write-named-requires c κs = search needs
+
+add-result : tie.Need-add-result
+add-result c = search needs
+
+same-length : tie.Need-same-length
+same-length c = search needs
+
+returns : tie.Need-returns
+unfolding join
+returns c =
+    puts-then (puts-word objectType enumeration symmetricKey (c .before .before .before .before .before .before .write-enumeration .ensures) (omega arith)) (c .before .before .write-named .ensures)
+
+pub write-created-spec : {M : Type 1} → statement M
+write-created-spec =
+    tie.close
+    (tie.spec
+    write-enumeration-requires
+    sub-write-named
+    part-write-named-start
+    part-write-named-end
+    write-named-requires
+    add-result
+    same-length
+    returns)

@@ -1,0 +1,57 @@
+-- `answer_write::write_failure`. The status, and the reason behind it.
+-- Assumes nothing.
+use native.Mathlib.Omega.{arith}
+use Rattle.ttlv.specs.Types.{enumeration}
+use Rattle.answer.specs.Tags.{resultStatus, resultReason}
+use Rattle.ttlv_write.specs.Write.{join}
+use Rattle.answer.specs.Respond.{operationFailed, outcomeItems}
+use Rattle.answer_write.proofs.Compose.{puts-word, then-word}
+use borrow.Author.Needs.{needs}
+use Rattle.answer_write.proofs.write_failure.Statement.{statement}
+use Rattle.answer_write.proofs.write_failure.Tie as tie
+use Rattle.answer_write.proofs.write_failure.Reads as reads
+use Rattle.answer_write.proofs.write_failure.Lts as lts
+use Rattle.rules.proofs.reason_number.Reads as reason-number-reads
+use Rattle.ttlv_write.proofs.write_enumeration.Reads as write-enumeration-reads
+
+write-enumeration-requires : tie.Need-write-enumeration-requires
+write-enumeration-requires c κs = search needs
+
+sub-write-enumeration : tie.Need-sub-write-enumeration
+sub-write-enumeration c = search needs
+
+part-write-enumeration-start : tie.Need-part-write-enumeration-start
+part-write-enumeration-start c = search needs
+
+part-write-enumeration-end : tie.Need-part-write-enumeration-end
+part-write-enumeration-end c = search needs
+
+reason-number-requires : tie.Need-reason-number-requires
+reason-number-requires c κs = search needs
+
+write-enumeration-requires-2 : tie.Need-write-enumeration-requires-2
+write-enumeration-requires-2 c κs = search needs
+
+same-length : tie.Need-same-length
+same-length c = search needs
+
+returns : tie.Need-returns
+unfolding outcomeItems join
+returns c =
+    let a = c .before .before .before .before .before .before .before .before .before .before .args in
+    let status = puts-word resultStatus enumeration operationFailed (c .before .before .before .before .before .before .before .write-enumeration .ensures) (omega arith) in
+    let number = c .before .before .before .reason-number in
+    rw (← number .ensures) (then-word status resultReason enumeration (number .result) (c .before .before .write-enumeration2 .ensures) (omega arith))
+
+pub write-failure-spec : {M : Type 1} → statement M
+write-failure-spec =
+    tie.close
+    (tie.spec
+    write-enumeration-requires
+    sub-write-enumeration
+    part-write-enumeration-start
+    part-write-enumeration-end
+    reason-number-requires
+    write-enumeration-requires-2
+    same-length
+    returns)

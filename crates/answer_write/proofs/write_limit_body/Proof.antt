@@ -1,0 +1,68 @@
+-- `answer_write::write_limit_body`. The three numbers, one behind another.
+-- Assumes nothing.
+use native.Mathlib.Omega.{arith}
+use Rattle.ttlv.specs.Types.{longInteger, enumeration}
+use Rattle.payload.specs.Tags.{usageLimitsTotal, usageLimitsCount, usageLimitsUnit}
+use Rattle.ttlv_write.specs.Write.{join}
+use Rattle.answer_write.proofs.Compose.{puts-long, then-long, then-word}
+use borrow.Author.Needs.{needs}
+use Rattle.answer_write.proofs.write_limit_body.Statement.{statement}
+use Rattle.answer_write.proofs.write_limit_body.Tie as tie
+use Rattle.answer_write.proofs.write_limit_body.Reads as reads
+use Rattle.answer_write.proofs.write_limit_body.Lts as lts
+use Rattle.ttlv_write.proofs.write_enumeration.Reads as write-enumeration-reads
+use Rattle.ttlv_write.proofs.write_long.Reads as write-long-reads
+
+write-long-requires : tie.Need-write-long-requires
+write-long-requires c κs = search needs
+
+sub-write-long : tie.Need-sub-write-long
+sub-write-long c = search needs
+
+part-write-long-start : tie.Need-part-write-long-start
+part-write-long-start c = search needs
+
+part-write-long-end : tie.Need-part-write-long-end
+part-write-long-end c = search needs
+
+write-long-requires-2 : tie.Need-write-long-requires-2
+write-long-requires-2 c κs = search needs
+
+sub-write-enumeration : tie.Need-sub-write-enumeration
+sub-write-enumeration c = search needs
+
+part-write-enumeration-start : tie.Need-part-write-enumeration-start
+part-write-enumeration-start c = search needs
+
+part-write-enumeration-end : tie.Need-part-write-enumeration-end
+part-write-enumeration-end c = search needs
+
+write-enumeration-requires : tie.Need-write-enumeration-requires
+write-enumeration-requires c κs = search needs
+
+same-length : tie.Need-same-length
+same-length c = search needs
+
+returns : tie.Need-returns
+unfolding join
+returns c =
+    let a = c .before .before .before .before .before .before .before .before .before .before .before .before .before .args in
+    let total = puts-long usageLimitsTotal longInteger (a .total) (c .before .before .before .before .before .before .before .before .before .before .write-long .ensures) (omega arith) in
+    let count = then-long total usageLimitsCount longInteger (a .count) (c .before .before .before .before .before .before .write-long2 .ensures) (omega arith) in
+    then-word count usageLimitsUnit enumeration (a .unit) (c .before .before .write-enumeration .ensures) (omega arith)
+
+pub write-limit-body-spec : {M : Type 1} → statement M
+write-limit-body-spec =
+    tie.close
+    (tie.spec
+    write-long-requires
+    sub-write-long
+    part-write-long-start
+    part-write-long-end
+    write-long-requires-2
+    sub-write-enumeration
+    part-write-enumeration-start
+    part-write-enumeration-end
+    write-enumeration-requires
+    same-length
+    returns)

@@ -1,0 +1,53 @@
+-- `answer_write::write_link_body`. The type, and the name behind it.
+-- Assumes nothing.
+use native.Mathlib.Omega.{arith}
+use Rattle.ttlv.specs.Types.{enumeration}
+use Rattle.answer.specs.Tags.{linkType}
+use Rattle.ttlv_write.specs.Write.{join}
+use Rattle.answer_write.proofs.Compose.{puts-word, puts-then}
+use borrow.Author.Needs.{needs}
+use Rattle.answer_write.proofs.write_link_body.Statement.{statement}
+use Rattle.answer_write.proofs.write_link_body.Tie as tie
+use Rattle.answer_write.proofs.write_link_body.Reads as reads
+use Rattle.answer_write.proofs.write_link_body.Lts as lts
+use Rattle.answer_write.proofs.write_named.Reads as write-named-reads
+use Rattle.ttlv_write.proofs.write_enumeration.Reads as write-enumeration-reads
+
+write-enumeration-requires : tie.Need-write-enumeration-requires
+write-enumeration-requires c κs = search needs
+
+sub-write-named : tie.Need-sub-write-named
+sub-write-named c = search needs
+
+part-write-named-start : tie.Need-part-write-named-start
+part-write-named-start c = search needs
+
+part-write-named-end : tie.Need-part-write-named-end
+part-write-named-end c = search needs
+
+write-named-requires : tie.Need-write-named-requires
+write-named-requires c κs = search needs
+
+add-result : tie.Need-add-result
+add-result c = search needs
+
+same-length : tie.Need-same-length
+same-length c = search needs
+
+returns : tie.Need-returns
+unfolding join
+returns c =
+    puts-then (puts-word linkType enumeration (c .before .before .before .before .before .before .before .before .before .args .kind) (c .before .before .before .before .before .before .write-enumeration .ensures) (omega arith)) (c .before .before .write-named .ensures)
+
+pub write-link-body-spec : {M : Type 1} → statement M
+write-link-body-spec =
+    tie.close
+    (tie.spec
+    write-enumeration-requires
+    sub-write-named
+    part-write-named-start
+    part-write-named-end
+    write-named-requires
+    add-result
+    same-length
+    returns)

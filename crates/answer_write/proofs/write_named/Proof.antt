@@ -1,0 +1,34 @@
+-- `answer_write::write_named`. The text of the serial.
+-- Assumes nothing.
+use native.Mathlib.Omega.{arith}
+use Rattle.answer_write.proofs.Parts.{puts-named}
+use borrow.Author.Needs.{needs}
+use Rattle.answer_write.proofs.write_named.Statement.{statement}
+use Rattle.answer_write.proofs.write_named.Tie as tie
+use Rattle.answer_write.proofs.write_named.Reads as reads
+use Rattle.answer_write.proofs.write_named.Lts as lts
+use Rattle.identifier.proofs.text_of.Reads as text-of-reads
+use Rattle.ttlv_write.proofs.write_text.Reads as write-text-reads
+
+text-of-requires : tie.Need-text-of-requires
+text-of-requires c κs = search needs
+
+slice-aggregate-write-text : tie.Need-slice-aggregate-write-text
+slice-aggregate-write-text c = search needs
+
+write-text-requires : tie.Need-write-text-requires
+write-text-requires c κs = search needs
+
+same-length : tie.Need-same-length
+same-length c = search needs
+
+returns : tie.Need-returns
+returns c =
+    let a = c .before .before .before .before .before .before .before .args in
+    let text = c .before .before .before .before .before .text-of in
+    puts-named (a .tag) (a .serial) (text .result) (text .ensures) (c .before .before .write-text .ensures) (omega arith)
+
+pub write-named-spec : {M : Type 1} → statement M
+write-named-spec =
+    tie.close
+    (tie.spec text-of-requires slice-aggregate-write-text write-text-requires same-length returns)

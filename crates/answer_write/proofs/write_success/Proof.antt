@@ -1,0 +1,57 @@
+-- `answer_write::write_success`. The status, and the head of the payload behind it.
+-- Assumes nothing.
+use native.Mathlib.Omega.{arith}
+use mathlib.Core.Path.{refl}
+use Rattle.ttlv.specs.Types.{enumeration}
+use Rattle.answer.specs.Tags.{resultStatus}
+use Rattle.ttlv_write.proofs.Holds.{holds-then, holds-left}
+use Rattle.answer.specs.Respond.{success}
+use Rattle.answer_write.proofs.Compose.{puts-word, holds-structure}
+use borrow.Author.Needs.{needs}
+use Rattle.answer_write.proofs.write_success.Statement.{statement}
+use Rattle.answer_write.proofs.write_success.Tie as tie
+use Rattle.answer_write.proofs.write_success.Reads as reads
+use Rattle.answer_write.proofs.write_success.Lts as lts
+use Rattle.ttlv_write.proofs.write_enumeration.Reads as write-enumeration-reads
+use Rattle.ttlv_write.proofs.write_structure.Reads as write-structure-reads
+
+write-enumeration-requires : tie.Need-write-enumeration-requires
+write-enumeration-requires c κs = search needs
+
+sub-write-structure : tie.Need-sub-write-structure
+sub-write-structure c = search needs
+
+part-write-structure-start : tie.Need-part-write-structure-start
+part-write-structure-start c = search needs
+
+part-write-structure-end : tie.Need-part-write-structure-end
+part-write-structure-end c = search needs
+
+write-structure-requires : tie.Need-write-structure-requires
+write-structure-requires c κs = search needs
+
+add-result : tie.Need-add-result
+add-result c = search needs
+
+same-length : tie.Need-same-length
+same-length c = search needs
+
+returns : tie.Need-returns
+returns c =
+    let a = c .before .before .before .before .before .before .before .before .before .args in
+    let status = puts-word resultStatus enumeration success (c .before .before .before .before .before .before .write-enumeration .ensures) (omega arith) in
+    let opens = holds-structure 0x7C (a .n) (c .before .before .write-structure .ensures) (omega arith) (omega arith) (omega (arith, holds-left (status .holds))) in
+    (refl, holds-then (status .holds) opens)
+
+pub write-success-spec : {M : Type 1} → statement M
+write-success-spec =
+    tie.close
+    (tie.spec
+    write-enumeration-requires
+    sub-write-structure
+    part-write-structure-start
+    part-write-structure-end
+    write-structure-requires
+    add-result
+    same-length
+    returns)

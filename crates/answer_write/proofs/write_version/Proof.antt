@@ -1,0 +1,51 @@
+-- `answer_write::write_version`. The body, and its head in front.
+-- Assumes nothing.
+use native.Mathlib.Omega.{arith}
+use Rattle.answer.specs.Respond.{versionItems}
+use Rattle.answer_write.proofs.Compose.{puts-group}
+use borrow.Author.Needs.{needs}
+use Rattle.answer_write.proofs.write_version.Statement.{statement}
+use Rattle.answer_write.proofs.write_version.Tie as tie
+use Rattle.answer_write.proofs.write_version.Reads as reads
+use Rattle.answer_write.proofs.write_version.Lts as lts
+use Rattle.answer_write.proofs.write_version_body.Reads as write-version-body-reads
+use Rattle.ttlv_write.proofs.write_structure.Reads as write-structure-reads
+
+sub-write-version-body : tie.Need-sub-write-version-body
+sub-write-version-body c = search needs
+
+part-write-version-body-start : tie.Need-part-write-version-body-start
+part-write-version-body-start c = search needs
+
+part-write-version-body-end : tie.Need-part-write-version-body-end
+part-write-version-body-end c = search needs
+
+write-version-body-requires : tie.Need-write-version-body-requires
+write-version-body-requires c κs = search needs
+
+write-structure-requires : tie.Need-write-structure-requires
+write-structure-requires c κs = search needs
+
+add-result : tie.Need-add-result
+add-result c = search needs
+
+same-length : tie.Need-same-length
+same-length c = search needs
+
+returns : tie.Need-returns
+unfolding versionItems
+returns c =
+    puts-group 0x69 (c .before .before .before .before .before .before .before .before .before .args .out .now) (c .before .before .before .before .before .before .write-version-body .ensures) (c .before .before .write-structure .ensures) (omega arith) (omega arith)
+
+pub write-version-spec : {M : Type 1} → statement M
+write-version-spec =
+    tie.close
+    (tie.spec
+    sub-write-version-body
+    part-write-version-body-start
+    part-write-version-body-end
+    write-version-body-requires
+    write-structure-requires
+    add-result
+    same-length
+    returns)
