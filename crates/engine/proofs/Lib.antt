@@ -1,6 +1,7 @@
 -- Sizes of a call.
 -- Assumes nothing.
 pub mod Sizes
+pub mod Early
 pub mod Commands
 pub mod Steps
 pub mod Batches

@@ -64,7 +64,7 @@ doing asked fresh holder t = performing placeCount fresh holder t (command (aske
 -- one item carried out and answered
 pub record ItemIs (asked : Asked) (t fresh : List ℕ) (holder : ℕ) (out : List ℕ) (r : ItemDone) (t′ out′ : List ℕ) : Type 0 where
   pub failed : r .failed ≡ isFailed (doing asked fresh holder t .outcome)
-  pub holder : r .holder ≡ doing asked fresh holder t .holder
+  pub held : r .holder ≡ doing asked fresh holder t .holder
   pub table : t′ ≡ doing asked fresh holder t .table
   pub bytes : Holds (answerBytes (answerTo asked (doing asked fresh holder t))) out out′ (r .used)
 
@@ -75,12 +75,12 @@ pub record RanIs (ran : Ran) (out : List ℕ) (r : BatchDone) (t′ out′ : Lis
   pub bytes : Holds (encode (batchItems (ran .answers))) out out′ (r .used)
 
 -- a batch that can be run: its items were read, they are at most 16, and table, strip and room have their sizes
-pub record Runs (items t strip out : List ℕ) : Type 0 where
+pub record Runs (items t fresh out : List ℕ) : Type 0 where
   pub run : isRun items ≡ true
   pub read : isSome (itemsIn (treeOf items)) ≡ true
   pub few : length (askedAll (itemsIn (treeOf items))) ≤ batchMost
   pub table : length t ≡ sizeOf placeCount
-  pub strip : length strip ≡ stripSize
+  pub strip : length fresh ≡ stripSize
   pub room : batchMost * longestItem ≤ length out
 
 -- what a call leaves: number, length, table and output are those of `serving`

@@ -1,0 +1,58 @@
+-- Refusals 1 to 5, rung by rung: what the ladder answers from what the branches know.
+-- Assumes nothing.
+use Prim.Native.Nat.{ℕ, _<_, _≤_}
+use mathlib.Core.Path.{_≡_, refl, sym, _∙_}
+use mathlib.Core.Bool.{Bool, true, false, not, _||_}
+use mathlib.Core.List.{List}
+use lib.ListN.{length}
+use lib.Dec.{ltb, eqb}
+use borrow.Author.Tests.{lt-ltb, le-ltb, eq-eqb, ne-eqb, not-true, not-false}
+use Rattle.octets.specs.If.{ifb}
+use Rattle.octets.specs.Maybe.{isSome}
+use Rattle.octets.proofs.If.{chain}
+use Rattle.ttlv.specs.Parse.{message}
+use Rattle.table.specs.Layout.{placeCount}
+use Rattle.soundness.specs.Sound.{sound}
+use Rattle.engine.specs.Serving.{roomLeast, stripSize, requestMost}
+use Rattle.engine.specs.Calls.{earlyRefusal}
+
+-- a test that a function answered, under `!`
+pub yes-if : (r b : Bool) → r ≡ b → not r ≡ false → b ≡ true
+yes-if r b e n = sym e ∙ not-false r n
+
+pub no-if : (r b : Bool) → r ≡ b → not r ≡ true → b ≡ false
+no-if r b e n = sym e ∙ not-true r n
+
+module _ (request t strip : List ℕ) (room : ℕ) where
+  pub early-1 : room < 4824 → 1 ≡ earlyRefusal request t strip room
+  unfolding earlyRefusal
+  early-1 h = sym (simp chain)
+
+  module _ (a : 4824 ≤ room) where
+    pub early-2 : (length strip ≡ 512 → ⊥) → 2 ≡ earlyRefusal request t strip room
+    unfolding earlyRefusal
+    early-2 h = sym (simp chain)
+
+    module _ (b : length strip ≡ 512) where
+      pub early-3 : sound placeCount t ≡ false → 3 ≡ earlyRefusal request t strip room
+      unfolding earlyRefusal
+      early-3 h = sym (simp (chain, h))
+
+      module _ (s : sound placeCount t ≡ true) where
+        pub early-4 : length request ≡ 0 → 4 ≡ earlyRefusal request t strip room
+        unfolding earlyRefusal
+        early-4 h = sym (simp (chain, s))
+
+        module _ (z : length request ≡ 0 → ⊥) where
+          pub early-4b : 4096 < length request → 4 ≡ earlyRefusal request t strip room
+          unfolding earlyRefusal
+          early-4b h = sym (simp (chain, s))
+
+          module _ (l : length request ≤ 4096) where
+            pub early-5 : isSome (message request) ≡ false → 5 ≡ earlyRefusal request t strip room
+            unfolding earlyRefusal
+            early-5 h = sym (simp (chain, s, h))
+
+            pub early-0 : isSome (message request) ≡ true → 0 ≡ earlyRefusal request t strip room
+            unfolding earlyRefusal
+            early-0 h = sym (simp (chain, s, h))
