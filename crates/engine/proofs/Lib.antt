@@ -2,6 +2,7 @@
 -- Assumes nothing.
 pub mod Sizes
 pub mod Early
+pub mod Item
 pub mod Commands
 pub mod Steps
 pub mod Batches

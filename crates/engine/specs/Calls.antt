@@ -66,6 +66,7 @@ pub record ItemIs (asked : Asked) (t fresh : List ℕ) (holder : ℕ) (out : Lis
   pub failed : r .failed ≡ isFailed (doing asked fresh holder t .outcome)
   pub held : r .holder ≡ doing asked fresh holder t .holder
   pub table : t′ ≡ doing asked fresh holder t .table
+  pub few : r .used ≤ longestItem
   pub bytes : Holds (answerBytes (answerTo asked (doing asked fresh holder t))) out out′ (r .used)
 
 -- a batch carried out and answered; the clock plays no part in what items do

@@ -72,3 +72,20 @@ fn early_refusal(request: &[u8], table: &[u8], fresh: &[u8], room: usize) -> u32
     }
     0
 }
+
+// One item: read, carried out on the table, and answered in the room that is lent. `run_items` shows what it asks.
+fn one_item(body: &[u8], table: &mut [u8], fresh: &[u8], holder: u32, out: &mut [u8]) -> ItemDone
+    requires { ⌜ (isRun (now body) ≡ true) × (isSome (itemIn (treeOf (now body))) ≡ true) × (length (now table) ≡ sizeOf placeCount) × (longestItem ≤ length (now out)) ⌝ }
+    ensures { λ r. ⌜ ItemIs (askedIn (now (body .entry))) (now (table .entry)) (now (fresh .entry)) holder (now (out .entry)) r (now (table .exit)) (now (out .exit)) ⌝ }
+{
+    let parts = frame::read_item(body);
+    let start = parts.payload;
+    let operation = parts.operation;
+    let command = payload::read_command(operation, &body[start..]);
+    let performed = act::perform(table, PLACES, holder, command, fresh);
+    let outcome = performed.outcome;
+    let failed = act::is_failed(outcome);
+    let id = parts.id;
+    let used = answer_write::write_answer(out, operation, id, outcome);
+    ItemDone { failed, holder: performed.holder, used }
+}
