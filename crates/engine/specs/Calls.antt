@@ -75,6 +75,10 @@ pub record RanIs (ran : Ran) (out : List ℕ) (r : BatchDone) (t′ out′ : Lis
   pub table : t′ ≡ ran .table
   pub bytes : Holds (encode (batchItems (ran .answers))) out out′ (r .used)
 
+-- the batch of the items that some bytes say, on a table; the clock plays no part
+abbrev pub ranOver : List ℕ → List ℕ → ℕ → List ℕ → Ran
+ranOver items strip option t = batch placeCount 0 strip option 0 0 t (askedAll (itemsIn (treeOf items)))
+
 -- a batch that can be run: its items were read, they are at most 16, and table, strip and room have their sizes
 pub record Runs (items t fresh out : List ℕ) : Type 0 where
   pub run : isRun items ≡ true

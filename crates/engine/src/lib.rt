@@ -1,5 +1,6 @@
 // The engine: the refusal ladder, the batch, and `serve`, which joins them.
 // `serve` asks nothing: bad input gets a refusal. What the functions below it ask, `serve` shows.
+use ttlv::BodyField;
 ghost use mathlib.Core.Path.{_≡_};
 ghost use mathlib.Core.Bool.{true};
 ghost use Prim.Native.Nat.{ℕ, _+_, _≤_};
@@ -11,7 +12,9 @@ ghost use Rattle.ttlv.specs.Tree.{isRun, treeOf};
 ghost use Rattle.table.specs.Layout.{placeCount, sizeOf};
 ghost use Rattle.frame.specs.Frame.{itemIn};
 ghost use Rattle.answer.specs.Front.{longestItem};
-ghost use Rattle.engine.specs.Calls.{earlyRefusal, askedIn, ItemIs};
+ghost use mathlib.Core.Bool.{not, _&&_};
+ghost use lib.Dec.{eqb};
+ghost use Rattle.engine.specs.Calls.{earlyRefusal, askedIn, ItemIs, Runs, RanIs, ranOver};
 
 const PLACES: usize = 64;
 
@@ -88,4 +91,41 @@ fn one_item(body: &[u8], table: &mut [u8], fresh: &[u8], holder: u32, out: &mut 
     let id = parts.id;
     let used = answer_write::write_answer(out, operation, id, outcome);
     ItemDone { failed, holder: performed.holder, used }
+}
+
+// The batch: the items one after the other, each answered in the room that follows the one before it; under Stop nothing after the first failed one.
+// `serve` shows what it asks: the frame was read, and the sizes are right.
+fn run_items(items: &[u8], table: &mut [u8], fresh: &[u8], option: u32, out: &mut [u8]) -> BatchDone
+    requires { ⌜ Runs (now items) (now table) (now fresh) (now out) ⌝ }
+    ensures { λ r. ⌜ RanIs (ranOver (now (items .entry)) (now (fresh .entry)) option (now (table .entry))) (now (out .entry)) r (now (table .exit)) (now (out .exit)) ⌝ }
+{
+    let mut left = items;
+    let mut i: usize = 0;
+    let mut holder: u32 = 0;
+    let mut at: usize = 0;
+    loop {
+        let BodyField::Body { next } = ttlv::body_field(left, BATCH_ITEM) else {
+            return BatchDone { count: i as u32, used: at };
+        };
+        let from = MATERIAL * i;
+        let to = from + MATERIAL;
+        let done = one_item(&left[8..next], table, &fresh[from..to], holder, &mut out[at..]);
+        at += done.used;
+        i += 1;
+        if ends(option, done.failed) {
+            return BatchDone { count: i as u32, used: at };
+        }
+        holder = done.holder;
+        left = &left[next..];
+    }
+}
+
+// Whether nothing after an item is carried out: it failed, and the option is not Continue.
+fn ends(option: u32, failed: bool) -> bool
+    ensures { λ r. ⌜ r ≡ (failed && not (eqb option 1)) ⌝ }
+{
+    if !failed {
+        return false;
+    }
+    option != CONTINUE
 }
