@@ -60,9 +60,9 @@ module _ (body : List ℕ) (run : isRun body ≡ true) (read : isSome (itemIn (t
       let same : leaves d t′ ≡ doing asked fresh holder t = ed ∙ ap (performing placeCount fresh holder t) (ec ∙ ap (command (p .operation)) es ∙ ap (λ (o : ℕ). command o (asked .payload)) op) in
       let out-is : d .outcome ≡ doing asked fresh holder t .outcome = ap (λ (x : Did). x .outcome) same in
       let answer : answerOf (p .operation) (p .id) (d .outcome) ≡ answerTo asked (doing asked fresh holder t) =
-          ap (λ (o : ℕ). record { operation = o; id = take (p .id .len) (p .id .bytes); outcome = d .outcome }) op
-          ∙ ap (λ (v : List ℕ). record { operation = asked .operation; id = v; outcome = d .outcome }) id
-          ∙ ap (λ (o : Outcome). record { operation = asked .operation; id = asked .id; outcome = o }) out-is in
+      ap (λ (o : ℕ). record { operation = o; id = take (p .id .len) (p .id .bytes); outcome = d .outcome }) op
+      ∙ ap (λ (v : List ℕ). record { operation = asked .operation; id = v; outcome = d .outcome }) id
+      ∙ ap (λ (o : Outcome). record { operation = asked .operation; id = asked .id; outcome = o }) out-is in
       record {
         failed = ef ∙ ap isFailed out-is;
         held = ap (λ (x : Did). x .holder) same;

@@ -4,6 +4,7 @@ pub mod Sizes
 pub mod Early
 pub mod Item
 pub mod Turns
+pub mod Serves
 pub mod Commands
 pub mod Steps
 pub mod Batches

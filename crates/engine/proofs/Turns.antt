@@ -90,6 +90,7 @@ module _ (whole : Ran) (fresh : List ℕ) (option : ℕ) (t₀ out₀ : List ℕ
                 let a : m .done ≡ whole .answers = sym (append-nil (m .done)) ∙ ap (λ (x : List Asked). m .done ++ from i holder t x .answers) (sym l) ∙ m .answers in
                 record {
                   count = sym (m .count) ∙ ap length a;
+                  most = omega (arith, m .used, m .few);
                   table = ap (λ (x : List Asked). from i holder t x .table) (sym l) ∙ m .tables;
                   bytes = subst (λ (x : List Answer). Holds (encode (batchItems x)) out₀ out at) a (m .bytes);
                 }
@@ -118,6 +119,7 @@ module _ (whole : Ran) (fresh : List ℕ) (option : ℕ) (t₀ out₀ : List ℕ
         end-of : BodyField → ℕ
         end-of (Body k) = k
         end-of NoBody = 0
+
         go : (later : List Asked) → m .later ≡ later → Next next
         go [] l = absurd (none-there (none-left left (m .run) (m .items ∙ ap some l)))
           where
@@ -165,7 +167,7 @@ module _ (whole : Ran) (fresh : List ℕ) (option : ℕ) (t₀ out₀ : List ℕ
       now-is o e =
           ap (from i holder t) (x .split)
           ∙ ap (λ (d : Did). ifb (endsBatch option d) (lastly (answerTo (x .asked) d) (d .table)) (firstly (answerTo (x .asked) d) (from (i + 1) (d .holder) (d .table) (x .rest))))
-            (step-performs (envAt placeCount 0 fresh i) holder t (x .asked))
+          (step-performs (envAt placeCount 0 fresh i) holder t (x .asked))
           ∙ ap (λ (b : Bool). ifb b (lastly answer (did .table)) (firstly answer (from (i + 1) (did .holder) (did .table) (x .rest)))) e
 
       -- how many are answered, and how much is used
@@ -179,6 +181,7 @@ module _ (whole : Ran) (fresh : List ℕ) (option : ℕ) (t₀ out₀ : List ℕ
           let a : m .done ++ (answer ∷ []) ≡ whole .answers = ap (λ (y : Ran). m .done ++ y .answers) (sym q) ∙ m .answers in
           record {
             count = sym count-more ∙ ap length a;
+            most = let k : i < 16 = next-index x in omega (arith, m .used, is .few);
             table = is .table ∙ ap (λ (y : Ran). y .table) (sym q) ∙ m .tables;
             bytes = subst (λ (b : List Answer). Holds (encode (batchItems b)) out₀ room′ (at + r .used)) a written;
           }
@@ -189,7 +192,7 @@ module _ (whole : Ran) (fresh : List ℕ) (option : ℕ) (t₀ out₀ : List ℕ
       again e lt ly =
           let q : from i holder t (m .later) ≡ firstly answer (from (i + 1) (did .holder) (did .table) (x .rest)) = now-is false e ∙ ifb-false false _ _ refl in
           let same-from : from (i + 1) (r .holder) t′ (x .rest) ≡ from (i + 1) (did .holder) (did .table) (x .rest) =
-              ap (λ (h : ℕ). from (i + 1) h t′ (x .rest)) (is .held) ∙ ap (λ (u : List ℕ). from (i + 1) (did .holder) u (x .rest)) (is .table) in
+          ap (λ (h : ℕ). from (i + 1) h t′ (x .rest)) (is .held) ∙ ap (λ (u : List ℕ). from (i + 1) (did .holder) u (x .rest)) (is .table) in
           record {
             later = x .rest;
             done = m .done ++ (answer ∷ []);

@@ -72,6 +72,7 @@ pub record ItemIs (asked : Asked) (t fresh : List ℕ) (holder : ℕ) (out : Lis
 -- a batch carried out and answered; the clock plays no part in what items do
 pub record RanIs (ran : Ran) (out : List ℕ) (r : BatchDone) (t′ out′ : List ℕ) : Type 0 where
   pub count : r .count ≡ length (ran .answers)
+  pub most : r .used ≤ batchMost * longestItem
   pub table : t′ ≡ ran .table
   pub bytes : Holds (encode (batchItems (ran .answers))) out out′ (r .used)
 

@@ -14,7 +14,7 @@ ghost use Rattle.frame.specs.Frame.{itemIn};
 ghost use Rattle.answer.specs.Front.{longestItem};
 ghost use mathlib.Core.Bool.{not, _&&_};
 ghost use lib.Dec.{eqb};
-ghost use Rattle.engine.specs.Calls.{earlyRefusal, askedIn, ItemIs, Runs, RanIs, ranOver};
+ghost use Rattle.engine.specs.Calls.{earlyRefusal, askedIn, ItemIs, Runs, RanIs, ranOver, ServedIs};
 
 const PLACES: usize = 64;
 
@@ -90,7 +90,11 @@ fn one_item(body: &[u8], table: &mut [u8], fresh: &[u8], holder: u32, out: &mut 
     let failed = act::is_failed(outcome);
     let id = parts.id;
     let used = answer_write::write_answer(out, operation, id, outcome);
-    ItemDone { failed, holder: performed.holder, used }
+    ItemDone {
+        failed,
+        holder: performed.holder,
+        used,
+    }
 }
 
 // The batch: the items one after the other, each answered in the room that follows the one before it; under Stop nothing after the first failed one.
@@ -105,15 +109,27 @@ fn run_items(items: &[u8], table: &mut [u8], fresh: &[u8], option: u32, out: &mu
     let mut at: usize = 0;
     loop {
         let BodyField::Body { next } = ttlv::body_field(left, BATCH_ITEM) else {
-            return BatchDone { count: i as u32, used: at };
+            return BatchDone {
+                count: i as u32,
+                used: at,
+            };
         };
         let from = MATERIAL * i;
         let to = from + MATERIAL;
-        let done = one_item(&left[8..next], table, &fresh[from..to], holder, &mut out[at..]);
+        let done = one_item(
+            &left[8..next],
+            table,
+            &fresh[from..to],
+            holder,
+            &mut out[at..],
+        );
         at += done.used;
         i += 1;
         if ends(option, done.failed) {
-            return BatchDone { count: i as u32, used: at };
+            return BatchDone {
+                count: i as u32,
+                used: at,
+            };
         }
         holder = done.holder;
         left = &left[next..];
@@ -128,4 +144,38 @@ fn ends(option: u32, failed: bool) -> bool
         return false;
     }
     option != CONTINUE
+}
+
+// One request in, a response out, the table changed. The number of a refusal, with length 0 and nothing touched; or 0 and the length of the response.
+pub fn serve(request: &[u8], table: &mut [u8], fresh: &[u8], clock: i64, out: &mut [u8]) -> Served
+    ensures { λ r. ⌜ ServedIs (now (request .entry)) (now (table .entry)) (now (fresh .entry)) (ofZ w64 clock) (now (out .entry)) r (now (table .exit)) (now (out .exit)) ⌝ }
+{
+    let early = early_refusal(request, table, fresh, out.len());
+    if early != 0 {
+        return Served {
+            number: early,
+            length: 0,
+        };
+    }
+    let framing = frame::read_frame(request);
+    let number = framing.number;
+    if number != 0 {
+        return Served { number, length: 0 };
+    }
+    let from = framing.items;
+    let option = framing.option;
+    let bits = clock::bits_of(clock);
+    let done = run_items(
+        &request[from..],
+        table,
+        fresh,
+        option,
+        &mut out[FRAME_SIZE..],
+    );
+    let used = done.used;
+    answer_write::write_front(out, bits, done.count, used);
+    Served {
+        number: 0,
+        length: FRAME_SIZE + used,
+    }
 }
