@@ -8,3 +8,4 @@ pub mod Serves
 pub mod Commands
 pub mod Steps
 pub mod Batches
+pub mod Unique

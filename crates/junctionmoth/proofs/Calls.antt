@@ -1,0 +1,19 @@
+-- From the engine's contract to the boundary's.
+-- Assumes nothing.
+use Prim.Native.Nat.{ℕ}
+use mathlib.Core.Path.{_≡_, ap, _∙_}
+use mathlib.Core.List.{List}
+use Rattle.engine.specs.declared.Served.{Served}
+use Rattle.engine.specs.Serving.{Effect, serving}
+use Rattle.engine.specs.Calls.{ServedIs}
+use Rattle.junctionmoth.specs.Boundary.{CallIs}
+
+-- the clock as the machine has it is the clock
+pub call-is : (request t strip : List ℕ) (bits clock : ℕ) (out : List ℕ) (r : Served) (t′ out′ : List ℕ) → bits ≡ clock → ServedIs request t strip bits out r t′ out′
+    → CallIs request t strip clock out (r .number) (r .length) t′ out′
+call-is request t strip bits clock out r t′ out′ e s = record {
+  number-is = s .number ∙ ap (λ (b : ℕ). serving request t strip b out .number) e;
+  length-is = s .length ∙ ap (λ (b : ℕ). serving request t strip b out .length) e;
+  table-is = s .table ∙ ap (λ (b : ℕ). serving request t strip b out .table) e;
+  output-is = s .output ∙ ap (λ (b : ℕ). serving request t strip b out .output) e;
+}

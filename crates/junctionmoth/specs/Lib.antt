@@ -1,0 +1,3 @@
+-- The C boundary.
+-- Assumes nothing.
+pub mod Boundary
