@@ -10,3 +10,4 @@ pub mod Paired
 pub mod Runs
 pub mod Tame
 pub mod Meets3
+pub mod Serve
