@@ -8,19 +8,17 @@ use native.Mathlib.Omega.{arith}
 use mathlib.Core.List.{List, _++_}
 use lib.ListN.{length, take, drop, length-take, length-drop}
 use lib.Seq.{take-all, take-add, drop-drop, length-take-le}
-use borrow.Author.Tests.{leb-true}
 use borrow.Rule.Slice.PartMut.{putMid, midOf}
 use Rattle.octets.specs.Maybe.{isSome}
 use Rattle.octets.specs.Octets.{over}
-use Rattle.octets.proofs.If.{ifb-true, on-if}
+use Rattle.octets.proofs.If.{ifb-true}
 use Rattle.octets.proofs.Over.{length-over, lent-then}
 use Rattle.ttlv.specs.Items.{Items}
 use Rattle.ttlv.specs.Parse.{message}
 use Rattle.ttlv.specs.Tree.{isRun}
 use Rattle.ttlv.proofs.Message.{message-tree}
-use Rattle.ttlv.proofs.Bools.{both}
-use Rattle.ttlv_write.specs.Write.{fits, Wrote}
-use Rattle.rewrite.specs.Again.{Again, Rewrote}
+use Rattle.ttlv_write.specs.Write.{Wrote}
+use Rattle.rewrite.specs.Again.{Again}
 
 -- a message is a run
 message-run : (s : List ℕ) → isSome (message s) ≡ true → isRun s ≡ true
@@ -75,9 +73,4 @@ module _ {s room out t : List ℕ} {at : ℕ} (m : Mid s room out at t) where
   whole ok h z =
       let e : at ≡ length s = omega (arith, length-left, m .passed) in
       let a : take at s ≡ s = take-all at s (omega arith) in
-      record { answer = e ∙ sym (ifb-true ok (length s) 0 h); bytes = rw a at (m .bytes) ∙ sym (ifb-true ok (over s room) room h) }
-
--- what is answered is never more than the room
-pub rewrote-within : (s room : List ℕ) {after : List ℕ} {r : ℕ} → Rewrote s room after r → r ≤ length room
-rewrote-within s room w =
-    rw (w .answer) (on-if (λ (n : ℕ). n ≤ length room) (λ h. leb-true (length s) (length room) (both (isSome (message s)) (fits room (length s)) h .1)) (λ h. omega arith))
+      record { answer = e ∙ sym (ifb-true ok (length s) 0 h); bytes = rw a at (m .bytes) ∙ sym (ifb-true ok (over s room) room h); within = omega (arith, m .fits) }

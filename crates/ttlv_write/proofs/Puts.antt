@@ -48,18 +48,20 @@ value-puts tag kind n w v zs l p e₁ e₂ e₃ =
 
 -- ---- what a writer answers
 
-pub wrote-all : (ok : Bool) (size : ℕ) (b room : List ℕ) {after : List ℕ} → ok ≡ true → length b ≤ length room → after ≡ sets room 0 b → Wrote ok size b room after size
-wrote-all ok size b room h l e = record { answer = sym (ifb-true ok size 0 h); bytes = e ∙ sets-over b room l ∙ sym (ifb-true ok (over b room) room h) }
+pub wrote-all : (ok : Bool) (size : ℕ) (b room : List ℕ) {after : List ℕ} → ok ≡ true → size ≡ length b → size ≤ length room → after ≡ sets room 0 b → Wrote ok size b room after size
+wrote-all ok size b room h k l e =
+    let f : length b ≤ length room = rw k at l in
+    record { answer = sym (ifb-true ok size 0 h); bytes = e ∙ sets-over b room f ∙ sym (ifb-true ok (over b room) room h); within = l }
 
 pub wrote-none : (ok : Bool) (size : ℕ) (b room : List ℕ) → ok ≡ false → Wrote ok size b room room 0
-wrote-none ok size b room h = record { answer = sym (ifb-false ok size 0 h); bytes = sym (ifb-false ok (over b room) room h) }
+wrote-none ok size b room h = record { answer = sym (ifb-false ok size 0 h); bytes = sym (ifb-false ok (over b room) room h); within = omega arith }
 
 -- a value of n bytes, by its three puts
 pub wrote-value : (ok : Bool) (tag kind n w size : ℕ) (v zs : List ℕ) {t₁ t₂ t₃ : List ℕ} → ok ≡ true → length v ≡ n → w ≡ padded n - n → size ≡ 8 + padded n → size ≤ length zs
     → t₁ ≡ sets zs 0 (head tag kind n) → t₂ ≡ sets t₁ 8 v → t₃ ≡ sets t₂ (8 + n) (be w 0) → Wrote ok size (encode (value tag kind v nil)) zs t₃ size
 wrote-value ok tag kind n w size v zs h l p e room e₁ e₂ e₃ =
-    let fit : length (encode (value tag kind v nil)) ≤ length zs = rw (length-value, l, ← e) room in
-    wrote-all ok size (encode (value tag kind v nil)) zs h fit (value-puts tag kind n w v zs l p e₁ e₂ e₃)
+    let k : size ≡ length (encode (value tag kind v nil)) = e ∙ sym (length-value tag kind v ∙ rw l) in
+    wrote-all ok size (encode (value tag kind v nil)) zs h k room (value-puts tag kind n w v zs l p e₁ e₂ e₃)
 
 -- a value that its type may refuse
 module _ (right : Bool) (tag kind : ℕ) (v room : List ℕ) where

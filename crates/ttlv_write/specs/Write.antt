@@ -55,10 +55,12 @@ writable t room = wellFormed 1 t && fits room (length (encode t))
 
 -- ---- what a writer answers
 
--- where the test holds, the answer is `size` and b stands over the front of the room; where not, it is 0 and the room is as it was
+-- where the test holds, the answer is `size` and b stands over the front of the room; where not, it is 0 and the room is as it was;
+-- so it is never more than the room
 pub record Wrote (ok : Bool) (size : ℕ) (b room after : List ℕ) (r : ℕ) : Type 0 where
   pub answer : r ≡ ifb ok size 0
   pub bytes : after ≡ ifb ok (over b room) room
+  pub within : r ≤ length room
 
 -- a number of 1 to 8 bytes, which takes 16 in all
 abbrev pub WroteNumber : ℕ → ℕ → ℕ → ℕ → List ℕ → List ℕ → ℕ → Type 0

@@ -36,18 +36,21 @@ fn write_number(out: &mut [u8], tag: u16, kind: u8, width: usize, bits: u64) -> 
     16
 }
 
+// The bits are those of the signed number, in two's complement.
 pub fn write_integer(out: &mut [u8], tag: u16, bits: u32) -> usize
     ensures { λ r. ⌜ WroteNumber 4 tag integer bits (now (out .entry)) (now (out .exit)) r ⌝ }
 {
     write_number(out, tag, ttlv::INTEGER, 4, bits as u64)
 }
 
+// The bits are the number of the choice.
 pub fn write_enumeration(out: &mut [u8], tag: u16, bits: u32) -> usize
     ensures { λ r. ⌜ WroteNumber 4 tag enumeration bits (now (out .entry)) (now (out .exit)) r ⌝ }
 {
     write_number(out, tag, ttlv::ENUMERATION, 4, bits as u64)
 }
 
+// The bits are the number of seconds.
 pub fn write_interval(out: &mut [u8], tag: u16, bits: u32) -> usize
     ensures { λ r. ⌜ WroteNumber 4 tag interval bits (now (out .entry)) (now (out .exit)) r ⌝ }
 {
@@ -75,6 +78,7 @@ pub fn write_date_time_extended(out: &mut [u8], tag: u16, bits: u64) -> usize
     write_number(out, tag, ttlv::DATE_TIME_EXTENDED, 8, bits)
 }
 
+// 1 for true, 0 for false.
 pub fn write_boolean(out: &mut [u8], tag: u16, b: bool) -> usize
     ensures { λ r. ⌜ WroteNumber 8 tag boolean (bit b) (now (out .entry)) (now (out .exit)) r ⌝ }
 {
@@ -103,6 +107,7 @@ fn write_value(out: &mut [u8], tag: u16, kind: u8, s: &[u8]) -> usize
     end
 }
 
+// Any bytes.
 pub fn write_bytes(out: &mut [u8], tag: u16, s: &[u8]) -> usize
     ensures { λ r. ⌜ WroteValue true tag byteString (now (s .entry)) (now (out .entry)) (now (out .exit)) r ⌝ }
 {

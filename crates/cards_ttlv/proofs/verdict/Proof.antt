@@ -5,7 +5,6 @@ use native.Mathlib.Omega.{arith}
 use lib.ListN.{length, length-take, length-drop}
 use lib.Seq.{length-take-le}
 use borrow.Author.Needs.{needs}
-use Rattle.rewrite.proofs.Walk.{rewrote-within}
 use Rattle.cards_ttlv.proofs.verdict.Statement.{statement}
 use Rattle.cards_ttlv.proofs.verdict.Tie as tie
 use Rattle.cards_ttlv.proofs.verdict.Reads as reads
@@ -36,12 +35,12 @@ rewrite-requires c κs = search needs
 array-share-prefix-out : tie.Need-array-share-prefix-out
 array-share-prefix-out c =
     let w = c .before .rewrite in
-    omega (arith, rewrote-within _ _ (w .ensures), w .kept .0)
+    omega (arith, w .ensures .within, w .kept .0)
 
 slice-aggregate-same : tie.Need-slice-aggregate-same
 slice-aggregate-same c =
     let w = c .before .before .rewrite in
-    sym (length-take-le (w .result) (w .last .0) (omega (arith, rewrote-within _ _ (w .ensures), w .kept .0)))
+    sym (length-take-le (w .result) (w .last .0) (omega (arith, w .ensures .within, w .kept .0)))
 
 same-requires : tie.Need-same-requires
 same-requires c κs = search needs

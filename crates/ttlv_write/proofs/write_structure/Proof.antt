@@ -55,8 +55,7 @@ returns-4 c =
     let whole : lengthOk structure (a .len) ≡ true = sym (c .before .before .before .before .before .before .length-ok .ensures) ∙ not-false _ (c .before .before .before .before .before .if2 .left) in
     let room : 8 ≤ length (a .out .now) = omega arith in
     let fit : (spelled (a .len) && lengthOk structure (a .len) && fits (a .out .now) 8) ≡ true = rw (short, whole, le-leb 8 (length (a .out .now)) room) in
-    let l : length h ≤ length (a .out .now) = rw (length-head (tagOf (a .tag)) structure (a .len)) room in
-    wrote-all _ 8 h (a .out .now) fit l (c .before .before .put-head .ensures)
+    wrote-all _ 8 h (a .out .now) fit (sym (length-head (tagOf (a .tag)) structure (a .len))) room (c .before .before .put-head .ensures)
 
 pub write-structure-spec : {M : Type 1} → statement M
 write-structure-spec =
