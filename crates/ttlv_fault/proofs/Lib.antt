@@ -1,0 +1,4 @@
+-- The laws of faults.
+-- Assumes nothing.
+pub mod Faults
+pub mod Unique

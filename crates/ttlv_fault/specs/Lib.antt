@@ -1,0 +1,3 @@
+-- Where bytes differ from the rules of TTLV.
+-- Assumes nothing.
+pub mod Fault
