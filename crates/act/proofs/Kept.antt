@@ -1,7 +1,7 @@
 -- What an item leaves is a byte table of the same size.
 -- Assumes nothing.
 use mathlib.Core.Path.{_≡_, refl, _∙_}
-use Prim.Native.Nat.{ℕ, _-_}
+use Prim.Native.Nat.{ℕ}
 use mathlib.Core.Option.{Option, none, some}
 use mathlib.Core.List.{List}
 use lib.ListN.{length}
@@ -11,18 +11,18 @@ use Rattle.table.specs.declared.Record.{Record}
 use Rattle.table.specs.declared.Found.{Found}
 use Rattle.table.specs.declared.Found.the-variants.{At, Nothing}
 use Rattle.table.specs.Layout.{bodyOf, bodySize, materialSize}
-use Rattle.table.specs.Records.{recordOf, placeAt, withPlace, withLast}
+use Rattle.table.specs.Records.{recordOf, placeAt, withPlace}
 use Rattle.table.specs.Search.{find, newPlace}
 use Rattle.table.proofs.Lines.{bytes-part}
 use Rattle.table.proofs.Places.{length-with, bytes-with}
 use Rattle.table.proofs.Lead.{length-last, bytes-last}
 use Rattle.rules.specs.declared.Reason.{Reason}
+use Rattle.rules.specs.Numbers.{activate, revoke, destroy}
 use Rattle.rules.specs.Tests.{due}
 use Rattle.rules.specs.States.{movedState}
 use Rattle.rules.specs.Records.{newRecord, heirOf, linkedTo, inState, movedTo, withCount}
 use Rattle.rules.specs.Changes.{nextSerial, bornAt, withBorn, withHeir}
-use Rattle.rules.proofs.Material.{bytes-material}
-use Rattle.table.proofs.Zeros.{bytes-zeros}
+use Rattle.rules.proofs.Material.{bytes-zeros, bytes-material}
 use Rattle.frame.specs.Frame.{Asked}
 use Rattle.payload.specs.declared.Command.{Command}
 use Rattle.payload.specs.declared.Command.the-variants.{Unsupported, Invalid, Create, Rekey, GetUsageAllocation, Activate, Revoke, Destroy, GetAttributes}
@@ -38,10 +38,10 @@ pub record Kept (t u : List ℕ) : Type 0 where
 kept-then : {t u v : List ℕ} → Kept t u → Kept u v → Kept t v
 kept-then k l = record { long = l .long ∙ k .long; bytes = l .bytes }
 
-module _ (n : ℕ) (t : List ℕ) (h : Bytes t) where
-  kept-same : Kept t t
-  kept-same = record { long = refl; bytes = h }
+kept-same : (t : List ℕ) → Bytes t → Kept t t
+kept-same t h = record { long = refl; bytes = h }
 
+module _ (n : ℕ) (t : List ℕ) (h : Bytes t) where
   kept-with : (i : ℕ) (r : Record) → Bytes (r .material) → Kept t (withPlace n t i r)
   kept-with i r g = record { long = length-with n t i r; bytes = bytes-with n t i r h g }
 
@@ -51,7 +51,7 @@ module _ (n : ℕ) (t : List ℕ) (h : Bytes t) where
     long = length-last (withPlace n t i r) (r .serial) ∙ length-with n t i r;
     bytes = bytes-last (withPlace n t i r) (r .serial) (bytes-with n t i r h g);
   }
-  kept-born r g Nothing = kept-same
+  kept-born r g Nothing = kept-same t h
 
   bytes-place : (i : ℕ) → Bytes (placeAt n t i .material)
   unfolding placeAt recordOf
@@ -76,27 +76,27 @@ module _ (env : Env) (holder : ℕ) (t : List ℕ) (h : Bytes t) (g : Bytes (env
   kept-found : (own : ℕ → Record → Plan) → ((i : ℕ) → Kept t (own i (placeAt (env .places) t i) .did .table)) → (f : Found) → Kept t (onFound env holder t own f .did .table)
   unfolding onFound
   kept-found own k (At i) = k i
-  kept-found own k Nothing = kept-same (env .places) t h
+  kept-found own k Nothing = kept-same t h
 
   -- what a plan does keeps the table one of bytes, as many as before
   pub plan-kept : (c : Command) → Kept t (plan env holder t c .did .table)
   unfolding plan createPlan rekeyPlan allocationPlan activatePlan revokePlan destroyPlan showPlan withBorn newRecord withCount
-  plan-kept Unsupported = kept-same (env .places) t h
-  plan-kept Invalid = kept-same (env .places) t h
+  plan-kept Unsupported = kept-same t h
+  plan-kept Invalid = kept-same t h
   plan-kept (Create wanted) = kept-born (env .places) t h _ (bytes-material (wanted .bits) (env .fresh) g) (newPlace (env .places) t)
   plan-kept (Rekey target) = kept-found (rekeyPlan env holder t) kept-heir (find (env .places) t (sought holder target))
   plan-kept (GetUsageAllocation target amount) =
       kept-found (allocationPlan env holder t amount) (λ i. kept-with (env .places) t h i _ (bytes-place (env .places) t h i)) (find (env .places) t (sought holder target))
-  plan-kept (Activate target) = kept-found (activatePlan env holder t) (λ i. kept-moved 0x12 0 i) (find (env .places) t (sought holder target))
-  plan-kept (Revoke target code) = kept-found (revokePlan env holder t code) (λ i. kept-moved 0x13 code i) (find (env .places) t (sought holder target))
-  plan-kept (Destroy target) = kept-found (destroyPlan env holder t) (λ i. kept-moved 0x14 0 i) (find (env .places) t (sought holder target))
-  plan-kept (GetAttributes target) = kept-found (showPlan env holder t) (λ i. kept-same (env .places) t h) (find (env .places) t (sought holder target))
+  plan-kept (Activate target) = kept-found (activatePlan env holder t) (λ i. kept-moved activate 0 i) (find (env .places) t (sought holder target))
+  plan-kept (Revoke target code) = kept-found (revokePlan env holder t code) (λ i. kept-moved revoke code i) (find (env .places) t (sought holder target))
+  plan-kept (Destroy target) = kept-found (destroyPlan env holder t) (λ i. kept-moved destroy 0 i) (find (env .places) t (sought holder target))
+  plan-kept (GetAttributes target) = kept-found (showPlan env holder t) (λ i. kept-same t h) (find (env .places) t (sought holder target))
 
   -- and so does a failure, which changes nothing
   carried-kept : (did : Did) → Kept t (did .table) → (d : Option Reason) → Kept t (carried t did d .table)
   unfolding carried
   carried-kept did k none = k
-  carried-kept did k (some reason) = kept-same (env .places) t h
+  carried-kept did k (some reason) = kept-same t h
 
   -- one item carried out
   pub step-kept : (asked : Asked) → Kept t (step env holder t asked .table)

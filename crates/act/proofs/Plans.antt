@@ -1,13 +1,12 @@
 -- Laws of plans: what is left where a reason is due and where none is, operation by operation.
 -- Assumes nothing.
 use mathlib.Core.Path.{_≡_, refl, sym, ap, _∙_}
-use Prim.Native.Nat.{ℕ, _+_, _-_, _<_}
-use mathlib.Core.Bool.{Bool, true, false, not, _||_}
+use Prim.Native.Nat.{ℕ, _-_}
+use mathlib.Core.Bool.{Bool, true, false, not}
 use mathlib.Core.Option.{Option, none, some}
 use mathlib.Core.List.{List, [], _∷_}
 use lib.Dec.{eqb}
-use borrow.Author.Tests.{eq-eqb, ne-eqb, eqb-true, eqb-false}
-use Rattle.octets.specs.If.{ifb}
+use borrow.Author.Tests.{eq-eqb, ne-eqb, eqb-false}
 use Rattle.octets.proofs.If.{on-bool, ifb-true, ifb-false}
 use Rattle.table.specs.declared.Record.{Record}
 use Rattle.table.specs.declared.Found.{Found}
@@ -34,8 +33,7 @@ use Rattle.payload.specs.declared.Command.the-variants.{Unsupported, Invalid, C
 use Rattle.payload.specs.Payload.{command}
 use Rattle.act.specs.declared.Outcome.the-variants.{Created, Done}
 use Rattle.act.specs.declared.Deed.{Deed}
-use Rattle.act.specs.declared.Deed.the-variants.{Replace, Allocate, Move, Show}
-use Rattle.act.specs.Act.{Env, Did, Plan, failing, refusal, carried, sought, createPlan, rekeyPlan, allocationPlan, activatePlan, revokePlan, destroyPlan, showPlan, changed, onFound, plan, step}
+use Rattle.act.specs.Act.{Env, Did, failing, refusal, carried, sought, createPlan, rekeyPlan, allocationPlan, activatePlan, revokePlan, destroyPlan, showPlan, onFound, plan, step}
 use Rattle.act.specs.Perform.{carriedOut, inPlaces, performing, roomFor, linkedAt, replacing, storing, movePlan, deedPlan, aboutPlan}
 
 -- ---- a test at a time

@@ -1,7 +1,6 @@
 -- What `perform` and the functions below it leave, said by the plans.
 -- Assumes nothing.
-use Prim.Native.Nat.{ℕ, _+_, _-_}
-use mathlib.Core.Bool.{Bool, true, false}
+use Prim.Native.Nat.{ℕ}
 use mathlib.Core.List.{List, []}
 use lib.Dec.{eqb}
 use Rattle.octets.specs.If.{ifb}
@@ -18,7 +17,6 @@ use Rattle.rules.specs.Records.{heirOf, linkedTo}
 use Rattle.rules.specs.Changes.{serialMost, nextSerial, bornAt}
 use Rattle.payload.specs.declared.Target.{Target}
 use Rattle.payload.specs.declared.Command.{Command}
-use Rattle.act.specs.declared.Outcome.{Outcome}
 use Rattle.act.specs.declared.Outcome.the-variants.{Failed, Done, Showed}
 use Rattle.act.specs.declared.Performed.{Performed}
 use Rattle.act.specs.declared.Deed.{Deed}

@@ -5,7 +5,7 @@ ghost use mathlib.Core.List.{[]};
 ghost use Prim.Native.Nat.{_<_};
 ghost use lib.ListN.{length};
 ghost use Rattle.table.specs.Layout.{sizeOf};
-ghost use Rattle.table.specs.Records.{placeAt, withPlace};
+ghost use Rattle.table.specs.Records.{placeAt};
 ghost use Rattle.table.specs.declared.Found.the-variants.{At};
 ghost use Rattle.rules.specs.Changes.{bornAt};
 ghost use Rattle.act.specs.Act.{sought, createPlan, rekeyPlan, allocationPlan, isFailed};

@@ -1,8 +1,6 @@
 -- `act_at` meets its contract, deed by deed.
 -- Assumes nothing.
-use mathlib.Core.Path.{_≡_, refl, sym, ap, ap₂, _∙_}
-use Prim.Native.Nat.{ℕ, _+_}
-use mathlib.Core.List.{List, []}
+use mathlib.Core.Path.{sym, ap, _∙_}
 use Rattle.table.specs.Records.{placeAt}
 use Rattle.act.specs.declared.Deed.{Deed}
 use Rattle.act.specs.declared.Performed.{Performed}

@@ -1,8 +1,7 @@
 -- `allocate_at` meets its contract: what is left stored, or the reason why nothing is granted.
 -- Assumes nothing.
-use mathlib.Core.Path.{_≡_, refl, sym, ap, ap₂, _∙_}
-use Prim.Native.Nat.{ℕ, _+_}
-use mathlib.Core.List.{List, []}
+use mathlib.Core.Path.{sym, ap, _∙_}
+use mathlib.Core.List.{[]}
 use Rattle.table.specs.declared.Record.{Record}
 use Rattle.rules.specs.Records.{withCount}
 use Rattle.act.specs.declared.Performed.{Performed}

@@ -1,18 +1,17 @@
 -- `create` meets its contract: a new record in the place that is due, or no room.
 -- Assumes nothing.
-use mathlib.Core.Path.{_≡_, refl, sym, ap, ap₂, _∙_}
+use mathlib.Core.Path.{_≡_, sym, ap, ap₂, _∙_}
 use Prim.Native.Nat.{ℕ, _+_}
-use mathlib.Core.List.{List, []}
+use mathlib.Core.List.{List}
 use native.Mathlib.Omega.{arith}
 use Rattle.table.specs.declared.Record.{Record}
-use Rattle.table.specs.declared.Found.the-variants.{At, Nothing}
+use Rattle.table.specs.declared.Found.the-variants.{At}
 use Rattle.table.specs.Records.{lastSerial}
 use Rattle.table.proofs.Finds.{new-below}
 use Rattle.act.specs.declared.Performed.{Performed}
 use Rattle.rules.specs.Records.{newRecord}
 use Rattle.rules.specs.Changes.{nextSerial, bornAt}
 use Rattle.act.specs.declared.Outcome.the-variants.{Created}
-use Rattle.act.specs.Act.{Did}
 use Rattle.act.specs.Perform.{leaves, roomFor}
 use Rattle.act.proofs.Plans.{room-serial, room-place, create-full, create-at}
 use borrow.Author.Needs.{needs}

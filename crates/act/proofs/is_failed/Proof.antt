@@ -1,6 +1,6 @@
 -- `is_failed` meets its contract, outcome by outcome.
 -- Assumes nothing.
-use mathlib.Core.Path.{_≡_, refl, sym, ap, ap₂, _∙_}
+use mathlib.Core.Path.{sym, ap}
 use Rattle.act.specs.Act.{isFailed}
 use borrow.Author.Needs.{needs}
 use Rattle.act.proofs.is_failed.Statement.{statement}

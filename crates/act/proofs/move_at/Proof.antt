@@ -1,8 +1,6 @@
 -- `move_at` meets its contract: the next state stored, or the reason why there is none.
 -- Assumes nothing.
-use mathlib.Core.Path.{_≡_, refl, sym, ap, ap₂, _∙_}
-use Prim.Native.Nat.{ℕ, _+_}
-use mathlib.Core.List.{List, []}
+use mathlib.Core.Path.{sym, ap, _∙_}
 use Rattle.table.specs.declared.Record.{Record}
 use Rattle.rules.specs.Records.{movedTo}
 use Rattle.act.specs.declared.Performed.{Performed}

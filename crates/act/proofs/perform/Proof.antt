@@ -1,8 +1,6 @@
 -- `perform` meets its contract, command by command.
 -- Assumes nothing.
-use mathlib.Core.Path.{_≡_, refl, sym, ap, ap₂, _∙_}
-use Prim.Native.Nat.{ℕ, _+_}
-use mathlib.Core.List.{List, []}
+use mathlib.Core.Path.{sym, ap, _∙_}
 use Rattle.octets.specs.If.{ifb}
 use Rattle.rules.specs.declared.Reason.the-variants.{OperationNotSupported, InvalidField}
 use Rattle.rules.specs.States.{moveTests}

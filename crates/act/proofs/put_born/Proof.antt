@@ -1,8 +1,8 @@
 -- `put_born` meets its contract: the record stored, then its serial the last issued.
 -- Assumes nothing.
-use mathlib.Core.Path.{_≡_, refl, sym, ap, ap₂, _∙_}
-use Prim.Native.Nat.{ℕ, _+_}
-use mathlib.Core.List.{List, []}
+use mathlib.Core.Path.{ap, _∙_}
+use Prim.Native.Nat.{ℕ}
+use mathlib.Core.List.{List}
 use Rattle.table.specs.Records.{withLast}
 use Rattle.rules.specs.Changes.{bornAt}
 use borrow.Author.Needs.{needs}

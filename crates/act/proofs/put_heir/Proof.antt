@@ -1,9 +1,9 @@
 -- `put_heir` meets its contract: the old record names its replacement, which is stored after it.
 -- Assumes nothing.
-use mathlib.Core.Path.{_≡_, refl, sym, ap, ap₂, _∙_}
-use Prim.Native.Nat.{ℕ, _+_}
-use mathlib.Core.List.{List, []}
-use Rattle.table.specs.declared.Found.the-variants.{At, Nothing}
+use mathlib.Core.Path.{ap, _∙_}
+use Prim.Native.Nat.{ℕ}
+use mathlib.Core.List.{List}
+use Rattle.table.specs.declared.Found.the-variants.{At}
 use Rattle.table.specs.Records.{withPlace}
 use Rattle.rules.specs.Records.{linkedTo}
 use Rattle.rules.specs.Changes.{bornAt}

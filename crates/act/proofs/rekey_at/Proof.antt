@@ -1,9 +1,7 @@
 -- `rekey_at` meets its contract: destroyed first, then replaced, then room.
 -- Assumes nothing.
-use mathlib.Core.Path.{_≡_, refl, sym, ap, ap₂, _∙_}
-use Prim.Native.Nat.{ℕ, _+_}
-use mathlib.Core.List.{List, []}
-use mathlib.Core.Bool.{Bool, true, false}
+use mathlib.Core.Path.{_≡_, sym, ap, _∙_}
+use mathlib.Core.Bool.{false}
 use Rattle.table.specs.declared.Record.{Record}
 use Rattle.table.specs.Records.{placeAt}
 use Rattle.table.specs.Search.{isDestroyed}

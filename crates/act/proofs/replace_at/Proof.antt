@@ -1,8 +1,8 @@
 -- `replace_at` meets its contract: the heir in the place that is due, or no room.
 -- Assumes nothing.
-use mathlib.Core.Path.{_≡_, refl, sym, ap, ap₂, _∙_}
+use mathlib.Core.Path.{_≡_, sym, ap, ap₂, _∙_}
 use Prim.Native.Nat.{ℕ, _+_}
-use mathlib.Core.List.{List, []}
+use mathlib.Core.List.{List}
 use native.Mathlib.Omega.{arith}
 use Rattle.table.specs.declared.Record.{Record}
 use Rattle.table.specs.declared.Found.the-variants.{At, Nothing}

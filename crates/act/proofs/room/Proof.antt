@@ -1,6 +1,6 @@
 -- `room` meets its contract: no place is given where every serial is issued.
 -- Assumes nothing.
-use mathlib.Core.Path.{_≡_, refl, sym, ap, ap₂, _∙_}
+use mathlib.Core.Path.{sym, _∙_}
 use Rattle.act.proofs.Plans.{room-issued, room-left}
 use borrow.Author.Needs.{needs}
 use Rattle.act.proofs.room.Statement.{statement}

@@ -1,6 +1,6 @@
 -- `show_at` meets its contract: what it shows is the record at the place.
 -- Assumes nothing.
-use mathlib.Core.Path.{_≡_, refl, sym, ap, ap₂, _∙_}
+use mathlib.Core.Path.{ap}
 use Rattle.act.specs.Act.{shownOf}
 use Rattle.act.specs.Perform.{showing}
 use borrow.Author.Needs.{needs}

@@ -1,6 +1,6 @@
 -- `sought` meets its contract: the serial named, or the placeholder's.
 -- Assumes nothing.
-use mathlib.Core.Path.{_≡_, refl, sym, ap, ap₂, _∙_}
+use mathlib.Core.Path.{sym, ap}
 use Rattle.act.specs.Act.{sought}
 use borrow.Author.Needs.{needs}
 use Rattle.act.proofs.sought.Statement.{statement}

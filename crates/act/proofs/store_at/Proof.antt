@@ -1,10 +1,9 @@
 -- `store_at` meets its contract: one store, and the record's serial.
 -- Assumes nothing.
-use mathlib.Core.Path.{_≡_, refl, sym, ap, ap₂, _∙_}
-use Prim.Native.Nat.{ℕ, _+_}
-use mathlib.Core.List.{List, []}
+use mathlib.Core.Path.{ap}
+use Prim.Native.Nat.{ℕ}
+use mathlib.Core.List.{List}
 use Rattle.act.specs.declared.Outcome.the-variants.{Done}
-use Rattle.act.specs.Act.{Did}
 use borrow.Author.Needs.{needs}
 use Rattle.act.proofs.store_at.Statement.{statement}
 use Rattle.act.proofs.store_at.Tie as tie
