@@ -1,7 +1,9 @@
 -- `answer_write::write_failure`. The status, and the reason behind it.
 -- Assumes nothing.
 use native.Mathlib.Omega.{arith}
+use mathlib.Core.Path.{_≡_}
 use Rattle.ttlv.specs.Types.{enumeration}
+use Rattle.rules.specs.Numbers.{reasonNumber}
 use Rattle.answer.specs.Tags.{resultStatus, resultReason}
 use Rattle.ttlv_write.specs.Write.{join}
 use Rattle.answer.specs.Respond.{operationFailed, outcomeItems}
@@ -40,8 +42,8 @@ unfolding outcomeItems join
 returns c =
     let a = c .before .before .before .before .before .before .before .before .before .before .args in
     let status = puts-word resultStatus enumeration operationFailed (c .before .before .before .before .before .before .before .write-enumeration .ensures) (omega arith) in
-    let number = c .before .before .before .reason-number in
-    rw (← number .ensures) (then-word status resultReason enumeration (number .result) (c .before .before .write-enumeration2 .ensures) (omega arith))
+    let number : c .before .before .before .reason-number .result ≡ reasonNumber (a .reason) = c .before .before .before .reason-number .ensures in
+    rw (← number) (then-word status resultReason enumeration (c .before .before .before .reason-number .result) (c .before .before .write-enumeration2 .ensures) (omega arith))
 
 pub write-failure-spec : {M : Type 1} → statement M
 write-failure-spec =

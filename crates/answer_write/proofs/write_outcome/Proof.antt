@@ -91,7 +91,9 @@ same-length-2 c = search needs
 returns-2 : tie.Need-returns-2
 unfolding outcomeItems
 returns-2 c =
-    puts-outcome (c .before .before .before .before .before .before .before .before .before .outcome2 .given .1) (puts-succeeded 248 (c .before .before .before .before .before .before .before .before .before .before .before .before .args .out .now) (c .before .before .before .before .before .before .write-created .ensures) (c .before .before .write-success .ensures) (omega arith) (omega arith))
+    let payload = c .before .before .before .before .before .before .write-created .ensures in
+    let opens = c .before .before .write-success .ensures in
+    puts-outcome (c .before .before .before .before .before .before .before .before .before .outcome2 .given .1) (puts-succeeded 248 (c .before .before .before .before .before .before .before .before .before .before .before .before .args .out .now) payload opens (omega arith) (omega arith))
 
 same-length-3 : tie.Need-same-length-3
 same-length-3 c = search needs
@@ -99,7 +101,9 @@ same-length-3 c = search needs
 returns-3 : tie.Need-returns-3
 unfolding outcomeItems
 returns-3 c =
-    puts-outcome (c .before .before .before .before .before .before .before .before .before .outcome3 .given .1) (puts-succeeded 248 (c .before .before .before .before .before .before .before .before .before .before .before .before .args .out .now) (c .before .before .before .before .before .before .write-named .ensures) (c .before .before .write-success2 .ensures) (omega arith) (omega arith))
+    let payload = c .before .before .before .before .before .before .write-named .ensures in
+    let opens = c .before .before .write-success2 .ensures in
+    puts-outcome (c .before .before .before .before .before .before .before .before .before .outcome3 .given .1) (puts-succeeded 248 (c .before .before .before .before .before .before .before .before .before .before .before .before .args .out .now) payload opens (omega arith) (omega arith))
 
 same-length-4 : tie.Need-same-length-4
 same-length-4 c = search needs
@@ -107,7 +111,9 @@ same-length-4 c = search needs
 returns-4 : tie.Need-returns-4
 unfolding outcomeItems
 returns-4 c =
-    puts-outcome (c .before .before .before .before .before .before .before .before .before .outcome4 .given .1) (puts-succeeded 248 (c .before .before .before .before .before .before .before .before .before .before .before .before .args .out .now) (c .before .before .before .before .before .before .write-showed .ensures) (c .before .before .write-success3 .ensures) (omega arith) (omega arith))
+    let payload = c .before .before .before .before .before .before .write-showed .ensures in
+    let opens = c .before .before .write-success3 .ensures in
+    puts-outcome (c .before .before .before .before .before .before .before .before .before .outcome4 .given .1) (puts-succeeded 248 (c .before .before .before .before .before .before .before .before .before .before .before .before .args .out .now) payload opens (omega arith) (omega arith))
 
 pub write-outcome-spec : {M : Type 1} → statement M
 write-outcome-spec =
