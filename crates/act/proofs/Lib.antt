@@ -1,5 +1,6 @@
 -- The laws of an item carried out.
 -- Assumes nothing.
+pub mod Went
 pub mod Plans
 pub mod Kept
 pub mod Unique

@@ -1,0 +1,120 @@
+-- How an item went, classified once: the only place where the plans and their tests are opened.
+-- Assumes nothing.
+use Prim.Native.Nat.{ℕ, _-_}
+use mathlib.Core.Path.{_≡_, refl, sym, ap, _∙_}
+use mathlib.Core.Bool.{Bool, true, false, not}
+use mathlib.Core.Option.{Option, none, some}
+use mathlib.Core.List.{List, [], _∷_}
+use lib.Dec.{eqb}
+use borrow.Author.Tests.{eqb-true, not-false}
+use Rattle.octets.specs.If.{ifb}
+use Rattle.octets.proofs.If.{on-if}
+use Rattle.table.specs.declared.Record.{Record}
+use Rattle.table.specs.declared.Found.{Found}
+use Rattle.table.specs.declared.Found.the-variants.{At, Nothing}
+use Rattle.table.specs.Records.{placeAt, withPlace}
+use Rattle.table.specs.Search.{find, isDestroyed}
+use Rattle.rules.specs.declared.Reason.{Reason}
+use Rattle.rules.specs.declared.Reason.the-variants.{OperationNotSupported, InvalidField, ObjectNotFound, ObjectDestroyed, PermissionDenied, ServerLimitExceeded}
+use Rattle.rules.specs.declared.Attributes.{Attributes}
+use Rattle.rules.specs.declared.Next.the-variants.{To}
+use Rattle.rules.specs.declared.Granted.the-variants.{Left}
+use Rattle.rules.specs.Numbers.{activate, revoke, destroy}
+use Rattle.rules.specs.Tests.{Test, due}
+use Rattle.rules.specs.States.{activateTests, revokeTests, destroyTests, moveTests, movedState, nextUnless, nextState, grantTests, leftUnless, granting}
+use Rattle.rules.specs.Records.{newRecord, heirOf, movedTo, withCount}
+use Rattle.rules.specs.Changes.{isFull, nextSerial, withBorn, withHeir}
+use Rattle.frame.specs.Frame.{Asked}
+use Rattle.payload.specs.declared.Target.{Target}
+use Rattle.payload.specs.declared.Command.{Command}
+use Rattle.payload.specs.declared.Command.the-variants.{Unsupported, Invalid, Create, Rekey, GetUsageAllocation, Activate, Revoke, Destroy, GetAttributes}
+use Rattle.payload.specs.Payload.{command}
+use Rattle.act.specs.declared.Outcome.the-variants.{Showed}
+use Rattle.act.specs.Act.{Env, Did, Plan, sought, failing, carried, createPlan, rekeyPlan, changed, allocationPlan, activatePlan, revokePlan, destroyPlan, shownOf, showPlan, onFound, plan, step}
+
+-- a command that moves a state: its operation, its revocation code, its target
+pub data Moving : Command → ℕ → ℕ → Target → Type 0 where
+  activating : {target : Target} → Moving (Activate target) activate 0 target
+  revoking : {target : Target} {code : ℕ} → Moving (Revoke target code) revoke code target
+  destroying : {target : Target} → Moving (Destroy target) destroy 0 target
+
+module _ (env : Env) (holder : ℕ) (t : List ℕ) where
+  abbrev n : ℕ
+  n = env .places
+
+  -- what became of a command, with what held when it was carried out
+  pub data Kind : Command → Did → Type 0 where
+    fails : {c : Command} (reason : Reason) → Kind c (failing t reason)
+    creates : (wanted : Attributes) → isFull (env .places) t ≡ false → Kind (Create wanted) (createPlan env holder t wanted .did)
+    rekeys : (target : Target) (i : ℕ) → find (env .places) t (sought holder target) ≡ At i → isDestroyed (placeAt (env .places) t i .state) ≡ false
+        → placeAt (env .places) t i .replacement ≡ 0 → isFull (env .places) t ≡ false → Kind (Rekey target) (rekeyPlan env holder t i (placeAt (env .places) t i) .did)
+    grants : (target : Target) (amount i : ℕ) → find (env .places) t (sought holder target) ≡ At i
+        → granting (placeAt (env .places) t i .state) (placeAt (env .places) t i .unit) (placeAt (env .places) t i .count) amount ≡ Left (placeAt (env .places) t i .count - amount)
+        → Kind (GetUsageAllocation target amount) (changed env holder t i (withCount (placeAt (env .places) t i .count - amount) (placeAt (env .places) t i)))
+    moves : {c : Command} {operation code : ℕ} {target : Target} (m : Moving c operation code target) (i next : ℕ) → find (env .places) t (sought holder target) ≡ At i
+        → nextState operation code (placeAt (env .places) t i .state) ≡ To next → Kind c (changed env holder t i (movedTo operation next (placeAt (env .places) t i)))
+    shows : (target : Target) (i : ℕ) → find (env .places) t (sought holder target) ≡ At i
+        → Kind (GetAttributes target) (record { outcome = Showed (shownOf (placeAt (env .places) t i)); table = t; holder = holder })
+
+  -- a plan as its tests decide
+  abbrev decided : Plan → Did
+  decided p = carried t (p .did) (due (p .tests))
+
+  by-create : (wanted : Attributes) → Kind (Create wanted) (decided (createPlan env holder t wanted))
+  unfolding createPlan due carried
+  by-create wanted = on-if (λ (o : Option Reason). Kind (Create wanted) (carried t (createPlan env holder t wanted .did) o)) (λ e. fails ServerLimitExceeded) (λ e. creates wanted e)
+
+  by-rekey : (target : Target) (i : ℕ) → find n t (sought holder target) ≡ At i → Kind (Rekey target) (decided (rekeyPlan env holder t i (placeAt n t i)))
+  unfolding rekeyPlan due carried
+  by-rekey target i e =
+      on-if (λ (o : Option Reason). Kind (Rekey target) (carried t (rekeyPlan env holder t i (placeAt n t i) .did) o)) (λ d. fails ObjectDestroyed)
+      (λ d. on-if (λ (o : Option Reason). Kind (Rekey target) (carried t (rekeyPlan env holder t i (placeAt n t i) .did) o)) (λ p. fails PermissionDenied)
+      (λ p. on-if (λ (o : Option Reason). Kind (Rekey target) (carried t (rekeyPlan env holder t i (placeAt n t i) .did) o)) (λ f. fails ServerLimitExceeded)
+      (λ f. rekeys target i e d (eqb-true _ 0 (not-false _ p)) f)))
+
+  by-grant : (target : Target) (amount i : ℕ) → find n t (sought holder target) ≡ At i
+      → Kind (GetUsageAllocation target amount) (decided (allocationPlan env holder t amount i (placeAt n t i)))
+  unfolding allocationPlan carried granting leftUnless
+  by-grant target amount i e = go (due (grantTests (r .state) (r .unit) (r .count) amount)) refl
+    where
+      r : Record
+      r = placeAt n t i
+
+      go : (o : Option Reason) → due (grantTests (r .state) (r .unit) (r .count) amount) ≡ o
+          → Kind (GetUsageAllocation target amount) (carried t (changed env holder t i (withCount (r .count - amount) r)) o)
+      go none q = grants target amount i e (granted q)
+        where
+          granted : due (grantTests (r .state) (r .unit) (r .count) amount) ≡ none → granting (r .state) (r .unit) (r .count) amount ≡ Left (r .count - amount)
+          granted q = ap (leftUnless (r .count - amount)) q
+      go (some reason) q = fails reason
+
+  by-move : {c : Command} {operation code : ℕ} {target : Target} → Moving c operation code target → (i : ℕ) → find n t (sought holder target) ≡ At i → (o : Option Reason)
+      → due (moveTests operation code (placeAt n t i .state)) ≡ o
+      → Kind c (carried t (changed env holder t i (movedTo operation (movedState operation code (placeAt n t i .state)) (placeAt n t i))) o)
+  unfolding carried nextState nextUnless
+  by-move {operation} {code} m i e none q = moves m i (movedState operation code (placeAt n t i .state)) e (ap (nextUnless (movedState operation code (placeAt n t i .state))) q)
+  by-move m i e (some reason) q = fails reason
+
+  -- the plan of a target operation, by where its record is
+  by-found : {c : Command} (own : ℕ → Record → Plan) (target : Target) → ((i : ℕ) → find n t (sought holder target) ≡ At i → Kind c (decided (own i (placeAt n t i))))
+      → (f : Found) → find n t (sought holder target) ≡ f → Kind c (decided (onFound env holder t own f))
+  unfolding onFound carried due ifb
+  by-found own target k (At i) e = k i e
+  by-found own target k Nothing e = fails ObjectNotFound
+
+  pub kind : (c : Command) → Kind c (decided (plan env holder t c))
+  unfolding plan carried due ifb activatePlan revokePlan destroyPlan showPlan moveTests
+  kind Unsupported = fails OperationNotSupported
+  kind Invalid = fails InvalidField
+  kind (Create wanted) = by-create wanted
+  kind (Rekey target) = by-found (rekeyPlan env holder t) target (by-rekey target) (find n t (sought holder target)) refl
+  kind (GetUsageAllocation target amount) = by-found (allocationPlan env holder t amount) target (by-grant target amount) (find n t (sought holder target)) refl
+  kind (Activate target) = by-found (activatePlan env holder t) target (λ i e. by-move activating i e (due (activateTests (placeAt n t i .state))) refl) (find n t (sought holder target)) refl
+  kind (Revoke target code) = by-found (revokePlan env holder t code) target (λ i e. by-move revoking i e (due (revokeTests code (placeAt n t i .state))) refl) (find n t (sought holder target)) refl
+  kind (Destroy target) = by-found (destroyPlan env holder t) target (λ i e. by-move destroying i e (due (destroyTests (placeAt n t i .state))) refl) (find n t (sought holder target)) refl
+  kind (GetAttributes target) = by-found (showPlan env holder t) target (λ i e. shows target i e) (find n t (sought holder target)) refl
+
+  -- how a step went
+  pub step-kind : (asked : Asked) → Kind (command (asked .operation) (asked .payload)) (step env holder t asked)
+  unfolding step
+  step-kind asked = kind (command (asked .operation) (asked .payload))
