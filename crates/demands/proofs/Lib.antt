@@ -11,3 +11,4 @@ pub mod Runs
 pub mod Tame
 pub mod Meets3
 pub mod Serve
+pub mod WrongBoxes
