@@ -116,7 +116,7 @@ fn put_born(t: &mut [u8], n: usize, i: usize, born: Record)
     ensures { λ _. ⌜ now (t .exit) ≡ bornAt n (now (t .entry)) born (At i) ⌝ }
 {
     let serial = born.serial;
-    table::store(t, n, i, born);
+    records::store(t, n, i, born);
     table::set_last_serial(t, serial);
 }
 
@@ -125,9 +125,9 @@ fn put_heir(t: &mut [u8], n: usize, i: usize, place: usize, heir: Record)
     requires { ⌜ (length (now t) ≡ sizeOf n) × ((i < n) × (place < n)) ⌝ }
     ensures { λ _. ⌜ now (t .exit) ≡ bornAt n (linkedAt n (now (t .entry)) i heir) heir (At place) ⌝ }
 {
-    let old = table::load(t, n, i);
+    let old = records::load(t, n, i);
     let linked = rules::linked_to(heir.serial, old);
-    table::store(t, n, i, linked);
+    records::store(t, n, i, linked);
     put_born(t, n, place, heir);
 }
 
@@ -174,7 +174,7 @@ fn rekey_at(t: &mut [u8], n: usize, i: usize, fresh: &[u8]) -> Performed
     requires { ⌜ (length (now t) ≡ sizeOf n) × (i < n) ⌝ }
     ensures { λ r. ⌜ leaves r (now (t .exit)) ≡ carriedOut (now (t .entry)) (rekeyPlan (inPlaces n (now (fresh .entry))) 0 (now (t .entry)) i (placeAt n (now (t .entry)) i)) ⌝ }
 {
-    let old = table::load(t, n, i);
+    let old = records::load(t, n, i);
     if table::is_destroyed(old.state) {
         return fail(Reason::ObjectDestroyed);
     }
@@ -190,7 +190,7 @@ fn store_at(t: &mut [u8], n: usize, i: usize, holder: u32, changed: Record) -> P
     ensures { λ r. ⌜ leaves r (now (t .exit)) ≡ storing n holder (now (t .entry)) i changed ⌝ }
 {
     let serial = changed.serial;
-    table::store(t, n, i, changed);
+    records::store(t, n, i, changed);
     Performed {
         outcome: Outcome::Done { serial },
         holder,
@@ -202,7 +202,7 @@ fn allocate_at(t: &mut [u8], n: usize, i: usize, holder: u32, amount: u64) -> Pe
     requires { ⌜ (length (now t) ≡ sizeOf n) × (i < n) ⌝ }
     ensures { λ r. ⌜ leaves r (now (t .exit)) ≡ carriedOut (now (t .entry)) (allocationPlan (inPlaces n []) holder (now (t .entry)) amount i (placeAt n (now (t .entry)) i)) ⌝ }
 {
-    let old = table::load(t, n, i);
+    let old = records::load(t, n, i);
     match rules::grant(old.state, old.unit, old.count, amount) {
         Granted::Left(count) => {
             let granted = rules::with_count(count, old);
@@ -217,7 +217,7 @@ fn move_at(t: &mut [u8], n: usize, i: usize, holder: u32, operation: u32, code: 
     requires { ⌜ (length (now t) ≡ sizeOf n) × (i < n) ⌝ }
     ensures { λ r. ⌜ leaves r (now (t .exit)) ≡ carriedOut (now (t .entry)) (movePlan n holder (now (t .entry)) operation code i (placeAt n (now (t .entry)) i)) ⌝ }
 {
-    let old = table::load(t, n, i);
+    let old = records::load(t, n, i);
     match rules::next_state(operation, code, old.state) {
         Next::To(state) => {
             let moved = rules::moved_to(operation, state, old);
@@ -232,7 +232,7 @@ fn show_at(t: &[u8], n: usize, i: usize, holder: u32) -> Performed
     requires { ⌜ (length (now t) ≡ sizeOf n) × (i < n) ⌝ }
     ensures { λ r. ⌜ r ≡ showing holder (placeAt n (now (t .entry)) i) ⌝ }
 {
-    let shown = table::load(t, n, i);
+    let shown = records::load(t, n, i);
     Performed {
         outcome: Outcome::Showed {
             shown: Shown {

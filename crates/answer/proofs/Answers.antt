@@ -15,7 +15,7 @@ use Rattle.octets.specs.Octets.{all}
 use Rattle.ttlv.specs.Types.{integer, enumeration, byteString, dateTime}
 use Rattle.ttlv.specs.Items.{Items, nil, value, group}
 use Rattle.ttlv.specs.Fields.{startsWith, ended, bytesOf, bodyOf, optional}
-use Rattle.ttlv.proofs.Bools.{both, and-i}
+use Rattle.octets.proofs.Bools.{both, and-i}
 use Rattle.frame.specs.Tags.{batchCount, batchItem, operationTag, protocolVersion, protocolVersionMajor, protocolVersionMinor, uniqueBatchItemId}
 use Rattle.frame.specs.Frame.{idMost, idOk, idBytes, batchMost}
 use Rattle.answer.specs.Tags.{responseHeader, responseMessage, timeStamp}
@@ -23,7 +23,7 @@ use Rattle.act.specs.declared.Outcome.{Outcome}
 use Rattle.act.specs.declared.Outcome.the-variants.{Failed, Created, Done, Showed}
 use Rattle.answer.specs.Respond.{Answer, Response, outcomeItems, idItems, answerItems, batchItems, versionItems, headerItems, respond}
 use Rattle.answer.specs.Read.{answerIn, answersOf, headIn, outcomeOk, answerOk, allowed, ifAllowed, answersIn}
-use Rattle.answer.proofs.Maybe.{not-some, some-is, on-bind, on-test}
+use Rattle.octets.proofs.Maybe.{not-some, some-is, on-bind, on-test}
 use Rattle.answer.proofs.Fields.{ended-is, body-spells, bytes-back, bytes-spells, spelled-back, spelled-spells, fixed-back, fixed-spells, absent-back, given-back, on-optional}
 use Rattle.answer.proofs.Outcomes.{outcome-back, outcome-spells}
 

@@ -16,13 +16,13 @@ use Rattle.octets.proofs.Numbers.{fromBe-be}
 use Rattle.ttlv.specs.Types.{textString}
 use Rattle.ttlv.specs.Items.{Items, nil, value, group}
 use Rattle.ttlv.specs.Fields.{startsWith, ended, bytesOf, bodyOf, optional}
-use Rattle.ttlv.proofs.Bools.{both}
+use Rattle.octets.proofs.Bools.{both}
 use Rattle.identifier.specs.Identifier.{identifier, serialOf}
 use Rattle.identifier.proofs.Texts.{serial-back, serial-spells}
 use Rattle.rules.specs.Changes.{serialMost}
 use Rattle.answer.specs.Read.{spelled, fixed, serialIn, serialOk}
 use Rattle.answer.proofs.Tests.{same-is, same-self}
-use Rattle.answer.proofs.Maybe.{not-some, some-is, on-bind, on-test, if-some}
+use Rattle.octets.proofs.Maybe.{not-some, some-is, on-bind, on-test, if-some}
 
 -- ---- one item
 

@@ -1,7 +1,6 @@
 -- Worked cases of responses, and the laws of responses.
 -- Assumes nothing.
 pub mod Worked
-pub mod Maybe
 pub mod Tests
 pub mod Fields
 pub mod Links

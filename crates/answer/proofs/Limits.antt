@@ -13,14 +13,14 @@ use Rattle.octets.proofs.If.{ifb-true, ifb-false, on-bool}
 use Rattle.ttlv.specs.Types.{longInteger, enumeration}
 use Rattle.ttlv.specs.Items.{Items, nil, group}
 use Rattle.ttlv.specs.Fields.{startsWith, ended, bodyOf, optional}
-use Rattle.ttlv.proofs.Bools.{both}
+use Rattle.octets.proofs.Bools.{both}
 use Rattle.payload.specs.Tags.{usageLimits, usageLimitsCount, usageLimitsTotal, usageLimitsUnit}
 use Rattle.soundness.specs.Sound.{unitOk, totalOk}
 use Rattle.act.specs.declared.Shown.{Shown}
 use Rattle.answer.specs.Respond.{word, long, limitItems}
 use Rattle.answer.specs.Read.{Limits, limitsFirst, orNoLimits}
 use Rattle.answer.proofs.Tests.{on-or}
-use Rattle.answer.proofs.Maybe.{some-is, on-bind, on-test}
+use Rattle.octets.proofs.Maybe.{some-is, on-bind, on-test}
 use Rattle.answer.proofs.Fields.{ended-is, body-spells, spelled-back, spelled-spells, absent-back, given-back, on-optional}
 
 -- ---- usage limits

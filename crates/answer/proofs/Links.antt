@@ -13,13 +13,13 @@ use Rattle.octets.proofs.If.{ifb-true, ifb-false, on-if, on-bool}
 use Rattle.ttlv.specs.Types.{enumeration}
 use Rattle.ttlv.specs.Items.{Items, nil, group}
 use Rattle.ttlv.specs.Fields.{startsWith, ended, bodyOf}
-use Rattle.ttlv.proofs.Bools.{and-i}
+use Rattle.octets.proofs.Bools.{and-i}
 use Rattle.payload.specs.Tags.{usageLimits}
 use Rattle.answer.specs.Tags.{link, linkType, linkedObjectIdentifier, replacedObjectLink, replacementObjectLink}
 use Rattle.rules.specs.Changes.{serialMost}
 use Rattle.answer.specs.Respond.{word, named, linkItems}
 use Rattle.answer.specs.Read.{linkFirst, orNoLink, linkIn, linkOk, serialOk}
-use Rattle.answer.proofs.Maybe.{some-is, on-bind, on-test}
+use Rattle.octets.proofs.Maybe.{some-is, on-bind, on-test}
 use Rattle.answer.proofs.Fields.{ended-is, body-spells, fixed-back, fixed-spells, fixed-other, serial-in-back, serial-in-spells}
 
 -- ---- a link of a type

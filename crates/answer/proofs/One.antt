@@ -14,7 +14,7 @@ use Rattle.ttlv.proofs.Well.{encode-one}
 use Rattle.ttlv.proofs.Message.{message-back, message-spells}
 use Rattle.answer.specs.Respond.{Response, respond}
 use Rattle.answer.specs.Read.{allowed, answersIn}
-use Rattle.answer.proofs.Maybe.{some-is, on-bind}
+use Rattle.octets.proofs.Maybe.{some-is, on-bind}
 use Rattle.answer.proofs.Answers.{answers-back, answers-spell}
 use Rattle.answer.proofs.Well.{respond-well}
 

@@ -14,7 +14,7 @@ use Rattle.octets.proofs.If.{ifb-true, ifb-false, on-if, on-bool}
 use Rattle.ttlv.specs.Types.{enumeration}
 use Rattle.ttlv.specs.Items.{Items, nil}
 use Rattle.ttlv.specs.Fields.{ended, bodyOf}
-use Rattle.ttlv.proofs.Bools.{both}
+use Rattle.octets.proofs.Bools.{both}
 use Rattle.answer.specs.Tags.{responsePayload, resultReason, resultStatus}
 use Rattle.rules.specs.declared.Reason.{Reason}
 use Rattle.rules.specs.declared.Reason.the-variants.{OperationNotSupported, InvalidField, ObjectNotFound, ObjectDestroyed, PermissionDenied, WrongKeyLifecycleState, UsageLimitExceeded, ServerLimitExceeded}
@@ -23,7 +23,7 @@ use Rattle.act.specs.declared.Outcome.{Outcome}
 use Rattle.act.specs.declared.Outcome.the-variants.{Failed, Created, Done, Showed}
 use Rattle.answer.specs.Respond.{word, success, operationFailed, succeeded, outcomeItems}
 use Rattle.answer.specs.Read.{doneIn, showedIn, answersDone, payloadIn, reasons, reasonAmong, failureIn, successIn, outcomeIn, serialOk, shownOk, outcomeOk}
-use Rattle.answer.proofs.Maybe.{not-some, some-is, on-bind, on-test}
+use Rattle.octets.proofs.Maybe.{not-some, some-is, on-bind, on-test}
 use Rattle.answer.proofs.Fields.{ended-is, body-spells, spelled-back, spelled-spells}
 use Rattle.answer.proofs.Payloads.{created-back, created-spells, done-back, done-spells, showed-back, showed-spells}
 

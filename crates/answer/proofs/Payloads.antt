@@ -12,7 +12,7 @@ use Rattle.octets.specs.Maybe.{_>>=_, _>>_}
 use Rattle.ttlv.specs.Types.{integer, enumeration}
 use Rattle.ttlv.specs.Items.{Items, nil, group}
 use Rattle.ttlv.specs.Fields.{startsWith, ended, bodyOf}
-use Rattle.ttlv.proofs.Bools.{both}
+use Rattle.octets.proofs.Bools.{both}
 use Rattle.payload.specs.Tags.{attributes, cryptographicAlgorithm, cryptographicLength, cryptographicUsageMask, objectType, uniqueIdentifier, usageLimits, symmetricKey, aes}
 use Rattle.answer.specs.Tags.{stateTag, replacedObjectLink, replacementObjectLink}
 use Rattle.soundness.specs.Sound.{bitsOk, maskOk}
@@ -21,7 +21,7 @@ use Rattle.act.specs.declared.Outcome.{Outcome}
 use Rattle.act.specs.declared.Outcome.the-variants.{Created, Done, Showed}
 use Rattle.answer.specs.Respond.{word, named, limitItems, linkItems, attributeItems}
 use Rattle.answer.specs.Read.{linkFirst, shownIn, createdIn, doneIn, showedIn, linkOk, serialOk, shownOk}
-use Rattle.answer.proofs.Maybe.{some-is, on-bind, on-test}
+use Rattle.octets.proofs.Maybe.{some-is, on-bind, on-test}
 use Rattle.answer.proofs.Fields.{ended-is, body-spells, spelled-back, spelled-spells, fixed-back, fixed-spells, serial-in-back, serial-in-spells}
 use Rattle.answer.proofs.Tests.{on-or}
 use Rattle.answer.proofs.Links.{link-in-back, link-in-spells, not-replaced, no-limits}

@@ -12,7 +12,7 @@ use Rattle.octets.proofs.If.{on-if}
 use Rattle.octets.proofs.Numbers.{length-be}
 use Rattle.ttlv.specs.Types.{padded}
 use Rattle.ttlv.specs.Items.{Items, nil, value, group, encode}
-use Rattle.ttlv.proofs.Bools.{both}
+use Rattle.octets.proofs.Bools.{both}
 use Rattle.identifier.specs.Identifier.{identifier}
 use Rattle.identifier.proofs.Texts.{length-identifier}
 use Rattle.frame.specs.Tags.{batchItem}

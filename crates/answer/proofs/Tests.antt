@@ -7,7 +7,7 @@ use mathlib.Core.List.{List, [], _∷_}
 use lib.Dec.{eqb}
 use borrow.Author.Tests.{eqb-true, eq-eqb}
 use Rattle.octets.specs.Octets.{same}
-use Rattle.ttlv.proofs.Bools.{both, and-i}
+use Rattle.octets.proofs.Bools.{both, and-i}
 
 -- one of two tests that are joined holds
 pub on-or {ℓ} : {P : Type ℓ} (a b : Bool) → (a || b) ≡ true → (a ≡ true → P) → (b ≡ true → P) → P

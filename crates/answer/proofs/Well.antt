@@ -15,7 +15,7 @@ use Rattle.octets.proofs.Numbers.{length-be}
 use Rattle.ttlv.specs.Types.{structure, tagLead, integer, longInteger, enumeration, textString, byteString, dateTime, lengthOk, text, valueOk}
 use Rattle.ttlv.specs.Items.{Items, nil, value, group, tagOk, itemOk, wellFormed}
 use Rattle.ttlv.specs.Parse.{depthMost}
-use Rattle.ttlv.proofs.Bools.{both, and-i}
+use Rattle.octets.proofs.Bools.{both, and-i}
 use Rattle.ttlv.proofs.Fine.{group-well}
 use Rattle.identifier.specs.Identifier.{identifier}
 use Rattle.identifier.proofs.Texts.{length-identifier, identifier-text}

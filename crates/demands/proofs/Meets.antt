@@ -16,7 +16,7 @@ use Rattle.ttlv.specs.Items.{Items, encode}
 use Rattle.ttlv.specs.Parse.{message}
 use Rattle.ttlv.proofs.Message.{message-spells}
 use Rattle.table.specs.Layout.{placeCount, materialSize}
-use Rattle.soundness.proofs.Bools.{and-l, and-r, and-i}
+use Rattle.octets.proofs.Bools.{and-l, and-r, and-i}
 use Rattle.keeps.proofs.Keeps.{Held}
 use Rattle.frame.specs.Frame.{Asked, Frame, Request, framing, framed, optionOf, countOk, batchMost}
 use Rattle.frame.proofs.Bounds.{AllBounded, request-bounded}

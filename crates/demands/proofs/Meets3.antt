@@ -20,7 +20,7 @@ use Rattle.table.proofs.Blank.{zero-place}
 use Rattle.table.proofs.Zeros.{pass-zeros}
 use Rattle.soundness.proofs.SoundIs.{Sound, Fit, Empty}
 use Rattle.keeps.proofs.Keeps.{Held, facts}
-use Rattle.answer.proofs.Maybe.{some-is}
+use Rattle.octets.proofs.Maybe.{some-is}
 use Rattle.frame.specs.Frame.{Asked, Frame, frameIn, optionOf, batchMost}
 use Rattle.engine.specs.Serving.{Effect, stripSize, turnedAway, answered}
 use Rattle.demands.specs.Box.{Call, Box, Lent}

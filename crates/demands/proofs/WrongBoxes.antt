@@ -14,7 +14,7 @@ use Rattle.octets.specs.If.{ifb}
 use Rattle.octets.specs.Octets.{Bytes, all, over}
 use Rattle.octets.specs.Maybe.{_>>=_}
 use Rattle.octets.proofs.If.{ifb-true}
-use Rattle.soundness.proofs.Bools.{and-l, and-r}
+use Rattle.octets.proofs.Bools.{and-l, and-r}
 use Rattle.ttlv.specs.Items.{Items, encode}
 use Rattle.ttlv.specs.Parse.{message}
 use Rattle.table.specs.Layout.{placeCount}
@@ -22,7 +22,7 @@ use Rattle.table.specs.Records.{placeAt, serialAt, blank}
 use Rattle.frame.specs.Frame.{Asked, Frame, frameIn, optionOf, continue}
 use Rattle.answer.specs.Respond.{Answer, Response, respond}
 use Rattle.answer.specs.Read.{answersIn}
-use Rattle.answer.proofs.Maybe.{some-is}
+use Rattle.octets.proofs.Maybe.{some-is}
 use Rattle.engine.specs.Serving.{Effect, turnedAway, serving}
 use Rattle.demands.specs.Box.{Call, Box, Lent}
 use Rattle.demands.specs.Demand1.{Demand1}

@@ -12,7 +12,7 @@ use Rattle.octets.proofs.If.{on-if}
 use Rattle.octets.proofs.Numbers.{bytes-take, bytes-drop}
 use Rattle.octets.proofs.Stores.{length-part}
 use Rattle.table.specs.Layout.{materialSize}
-use Rattle.soundness.proofs.Bools.{and-i}
+use Rattle.octets.proofs.Bools.{and-i}
 use Rattle.keeps.proofs.Keeps.{Held}
 use Rattle.frame.specs.Frame.{Asked, Request}
 use Rattle.frame.proofs.Bounds.{AllBounded}

@@ -22,7 +22,7 @@ use Rattle.payload.specs.declared.Command.{Command}
 use Rattle.payload.specs.declared.Command.the-variants.{Unsupported, Invalid, Create, Rekey, GetUsageAllocation, Activate, Revoke, Destroy, GetAttributes}
 use Rattle.payload.specs.Tags.{usageLimits}
 use Rattle.payload.specs.Payload.{Limit, limitIn, limitFirst, wantedOf, attributesIn, createIn, aloneIn, allocationIn, revokeIn, orInvalid, command}
-use Rattle.answer.proofs.Maybe.{some-is, on-bind, on-test}
+use Rattle.octets.proofs.Maybe.{some-is, on-bind, on-test}
 use Rattle.answer.proofs.Fields.{on-optional}
 
 -- the operation of each command, and what a Create may ask for

@@ -21,7 +21,7 @@ use Rattle.table.proofs.Lines.{InRange}
 use Rattle.table.proofs.Places.{serial-is}
 use Rattle.table.proofs.Finds.{find-below}
 use Rattle.soundness.specs.Sound.{bitsOk, maskOk, unitOk, totalOk}
-use Rattle.soundness.proofs.Bools.{and-i, tests}
+use Rattle.octets.proofs.Bools.{and-i, tests}
 use Rattle.soundness.proofs.SoundIs.{Stands, Unlimited, Limited, Fit}
 use Rattle.rules.specs.Numbers.{create, rekey, getAttributes, getUsageAllocation, activate, revoke, destroy}
 use Rattle.rules.specs.Records.{inState, movedTo, withCount}

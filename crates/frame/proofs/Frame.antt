@@ -21,7 +21,7 @@ use Rattle.ttlv.specs.Fields.{ended, bodyOf}
 use Rattle.ttlv.specs.Found.{bodyAt}
 use Rattle.ttlv.specs.declared.BodyField.{BodyField}
 use Rattle.ttlv.specs.declared.BodyField.the-variants.{Body, NoBody}
-use Rattle.ttlv.proofs.Bools.{both}
+use Rattle.octets.proofs.Bools.{both}
 use Rattle.ttlv.proofs.Step.{rest}
 use Rattle.ttlv.proofs.Found.{body-first}
 use Rattle.ttlv.proofs.Tree.{Rest}
@@ -37,7 +37,8 @@ use Rattle.frame.specs.Tags.{requestHeader, requestMessage}
 use Rattle.frame.specs.Frame.{Asked, Header, Frame, Request, Framed, refused, asked, headerIn, itemsIn, frameIn, versionOk, countOk, optionOf, optionOk, framing, framed}
 use Rattle.frame.specs.Readers.{headerRead, itemsRead, bodyEnd, itemsAt, frameRead, framingIn, framingOf}
 use Rattle.frame.proofs.Items.{none-left}
-use Rattle.frame.proofs.Runs.{not-some, some-is, tail, length-tail, run-behind, ended-yes, body-some, body-none}
+use Rattle.octets.proofs.Maybe.{not-some, some-is}
+use Rattle.frame.proofs.Runs.{tail, length-tail, run-behind, ended-yes, body-some, body-none}
 
 -- ---- a message, its one structure and what is in it
 

@@ -27,7 +27,7 @@ use Rattle.ttlv.specs.declared.NumberField.{NumberField}
 use Rattle.ttlv.specs.declared.NumberField.the-variants.{Number, NoNumber}
 use Rattle.ttlv.specs.declared.BodyField.{BodyField}
 use Rattle.ttlv.specs.declared.BodyField.the-variants.{Body, NoBody}
-use Rattle.ttlv.proofs.Bools.{both}
+use Rattle.octets.proofs.Bools.{both}
 use Rattle.ttlv.proofs.Step.{rest}
 use Rattle.ttlv.proofs.Found.{bytes-ends}
 use Rattle.ttlv.proofs.Tree.{Rest}
@@ -38,7 +38,8 @@ use Rattle.frame.specs.declared.ItemRead.the-variants.{Item, NoItem}
 use Rattle.frame.specs.Tags.{operationTag, requestPayload, uniqueBatchItemId}
 use Rattle.frame.specs.Frame.{Asked, idMost, idOk, idBytes, itemIn}
 use Rattle.frame.specs.Readers.{numberEnd, bytesEnd, idSpan, idAt, operationEnd, payloadAt, itemRead, idOf, partsIn, partsOf}
-use Rattle.frame.proofs.Runs.{not-some, some-is, tail, tail-none, length-tail, run-behind, ended-yes, ended-not, number-some, number-none, bytes-some, bytes-none, body-some, body-none, optional-there, optional-absent}
+use Rattle.octets.proofs.Maybe.{not-some, some-is}
+use Rattle.frame.proofs.Runs.{tail, tail-none, length-tail, run-behind, ended-yes, ended-not, number-some, number-none, bytes-some, bytes-none, body-some, body-none, optional-there, optional-absent}
 
 -- ---- the ID
 

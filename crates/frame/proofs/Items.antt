@@ -31,7 +31,8 @@ use Rattle.frame.specs.declared.ItemsRead.the-variants.{Items as Counted
 use Rattle.frame.specs.Tags.{batchItem}
 use Rattle.frame.specs.Frame.{Asked, itemIn, itemsIn}
 use Rattle.frame.specs.Readers.{itemsRead}
-use Rattle.frame.proofs.Runs.{not-some, some-is, tail, run-behind}
+use Rattle.octets.proofs.Maybe.{not-some, some-is}
+use Rattle.frame.proofs.Runs.{tail, run-behind}
 
 -- ---- how many there are, n having been counted before
 

@@ -22,13 +22,6 @@ use Rattle.ttlv.proofs.Step.{rest}
 use Rattle.ttlv.proofs.Tree.{Rest}
 use Rattle.ttlv.proofs.Lift.{bytesRead, numberRead, bodyRead, isNumber, starts-lifts, ended-lifts, bytes-lifts, number-lifts, body-lifts}
 
--- nothing is not something
-pub not-some : {A : Type 0} {a : A} → none ≡ some a → ⊥
-not-some h = let z : _≡_ {A = ℕ} 0 1 = cc in omega arith
-
-pub some-is : {A : Type 0} {a b : A} → some a ≡ some b → a ≡ b
-some-is h = cc
-
 -- s from n on
 abbrev pub tail : List ℕ → ℕ → List ℕ
 tail s n = take (length s - n) (drop n s)

@@ -10,14 +10,11 @@ use lib.ListN.{length, length-append}
 use lib.Dec.{leb, ltb}
 use borrow.Author.Tests.{leb-true, le-leb, lt-leb, lt-ltb, le-ltb, ltb-true, ltb-false}
 use Rattle.octets.specs.Octets.{all, Bytes}
+use Rattle.octets.proofs.Bools.{both}
 use Rattle.octets.proofs.If.{ifb-true, ifb-false, on-bool}
 use Rattle.identifier.specs.Identifier.{digit, digits, isDecimal, isLetter, isDigit, digitOf, fromDigitsAfter}
 
 -- ---- tests
-
-pub both : (a b : Bool) → (a && b) ≡ true → (a ≡ true) × (b ≡ true)
-both true b e = (refl, e)
-both false b e = absurd (false≢true e)
 
 between : (l c h : ℕ) → (leb l c && leb c h) ≡ true → (l ≤ c) × (c ≤ h)
 between l c h e =

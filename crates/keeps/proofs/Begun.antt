@@ -14,7 +14,7 @@ use Rattle.table.specs.declared.Record.{Record}
 use Rattle.table.specs.Layout.{materialSize}
 use Rattle.table.proofs.Lines.{InRange}
 use Rattle.soundness.specs.Sound.{bitsOk, maskOk, unitOk, totalOk}
-use Rattle.soundness.proofs.Bools.{and-l, and-r, and-i, or-cases}
+use Rattle.octets.proofs.Bools.{and-l, and-r, and-i, or-cases}
 use Rattle.soundness.proofs.SoundIs.{Unlimited, Limited, Fit}
 use Rattle.rules.specs.declared.Attributes.{Attributes}
 use Rattle.rules.specs.Numbers.{preActive}

@@ -9,6 +9,7 @@ use mathlib.Core.List.{List}
 use lib.ListN.{length}
 use borrow.Author.Tests.{eqb-false}
 use Rattle.octets.specs.Octets.{Bytes, part}
+use Rattle.octets.proofs.Bools.{or-not-l, or-not-r}
 use Rattle.octets.proofs.Numbers.{fromBe-lt}
 use Rattle.octets.proofs.Stores.{length-part}
 use Rattle.table.specs.declared.Record.{Record}
@@ -50,14 +51,6 @@ held-blank n few = record { right = blank-sound n few; bytes = bytes-blank n }
 -- what a search finds stands
 pub found-stands : (n : ℕ) (t : List ℕ) (serial i : ℕ) → find n t serial ≡ At i → Stands t i
 found-stands n t serial i e z = find-nonzero n t serial i e (sym (find-serial n t serial i e) ∙ z)
-
-or-first : (a b : Bool) → (a || b) ≡ false → a ≡ false
-or-first true b e = e
-or-first false b e = refl
-
-or-second : (a b : Bool) → (a || b) ≡ false → b ≡ false
-or-second true b e = absurd (true≢false e)
-or-second false b e = e
 
 -- ---- the theorems
 
@@ -113,11 +106,11 @@ module _ (n : ℕ) (t : List ℕ) (held : Held n t) where
     -- there is a place, and a serial
     pub with-place : {P : Type 0} → ((k : ℕ) → newPlace n t ≡ At k → P) → P
     unfolding isFull
-    with-place f = on-found (newPlace n t) f (λ e. absurd (true≢false (sym (isNothing-none (newPlace n t) e) ∙ or-first _ _ room)))
+    with-place f = on-found (newPlace n t) f (λ e. absurd (true≢false (sym (isNothing-none (newPlace n t) e) ∙ or-not-l _ _ room)))
 
     pub next-fits : nextSerial t < 256 ^ 4
     unfolding isFull
-    next-fits = omega (arith, last-fits, eqb-false (lastSerial t) serialMost (or-second (isNothing (newPlace n t)) _ room))
+    next-fits = omega (arith, last-fits, eqb-false (lastSerial t) serialMost (or-not-r (isNothing (newPlace n t)) _ room))
 
     module _ (fresh : List ℕ) (fresh-bytes : Bytes fresh) (long : materialSize ≤ length fresh) where
       -- Create

@@ -1,6 +1,8 @@
 -- The laws that every layer shares.
 -- Assumes nothing.
 pub mod If
+pub mod Bools
+pub mod Maybe
 pub mod Numbers
 pub mod Stores
 pub mod Over

@@ -118,3 +118,10 @@ prefix-more m t at k h l e =
 -- a run of stores from the front is what is written over the front
 pub sets-over : (b t : List ℕ) → length b ≤ length t → sets t 0 b ≡ over b t
 sets-over b t h = sets-eq b t 0 (omega arith) ∙ rw zero-add
+
+-- a part as it is lent to the number reader
+pub lent-field : (t : List ℕ) (at w : ℕ) → at + w ≤ length t → w ≤ 8 → take 8 (take (at + w - at) (drop at t)) ≡ part t at w
+lent-field t at w l h =
+    let e : at + w - at ≡ w = omega arith in
+    let k : length (part t at w) ≡ w = length-part t at w l in
+    rw e (take-all 8 (part t at w) (omega arith))

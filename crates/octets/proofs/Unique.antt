@@ -9,6 +9,8 @@ use Rattle.octets.proofs.fewer.Reads as fewer
 use Rattle.octets.proofs.fewer.Kinds as fewer-kinds
 use Rattle.octets.proofs.number.Reads as number
 use Rattle.octets.proofs.number.Kinds as number-kinds
+use Rattle.octets.proofs.number_at.Reads as number-at
+use Rattle.octets.proofs.number_at.Kinds as number-at-kinds
 use Rattle.octets.proofs.put.Reads as put
 use Rattle.octets.proofs.put.Kinds as put-kinds
 use Rattle.octets.proofs.put_all.Reads as put-all
@@ -23,6 +25,10 @@ fewer-unique κs a r r′ s s′ p q = p ∙ sym q
 pub number-unique : (κs : Lfts 1) (a : Dens κs number-kinds.ps) (r r′ : resT number-kinds.r κs .Denot) (s s′ : AtExit (endedOf 1 number-kinds.ps number-kinds.r) κs)
     → number.Post κs a r s → number.Post κs a r′ s′ → r ≡ r′
 number-unique κs a r r′ s s′ p q = p .0 ∙ sym (q .0)
+
+pub number-at-unique : (κs : Lfts 1) (a : Dens κs number-at-kinds.ps) (r r′ : resT number-at-kinds.r κs .Denot) (s s′ : AtExit (endedOf 1 number-at-kinds.ps number-at-kinds.r) κs)
+    → number-at.Post κs a r s → number-at.Post κs a r′ s′ → r ≡ r′
+number-at-unique κs a r r′ s s′ p q = p .0 ∙ sym (q .0)
 
 pub put-unique : (κs : Lfts 1) (a : Dens κs put-kinds.ps) (r r′ : resT put-kinds.r κs .Denot) (s s′ : AtExit (endedOf 1 put-kinds.ps put-kinds.r) κs)
     → put.Post κs a r s → put.Post κs a r′ s′ → now (s .0) ≡ now (s′ .0)

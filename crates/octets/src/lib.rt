@@ -4,7 +4,7 @@ ghost use mathlib.Core.Path.{_≡_};
 ghost use Prim.Native.Nat.{ℕ, _+_, _^_, _≤_, _<_, min};
 ghost use lib.ListN.{length, take};
 ghost use lib.Seq.{sets};
-ghost use Rattle.octets.specs.Octets.{be, fromBe, all, isZero};
+ghost use Rattle.octets.specs.Octets.{be, fromBe, part, all, isZero};
 
 fn wide(x: u8) -> u64
     ensures { λ r. ⌜ (r ≡ x) × (r < 256) ⌝ }
@@ -36,6 +36,14 @@ pub fn number(s: &[u8]) -> u64
     n
 }
 
+// The number that `width` bytes from `at` on spell: one reader for every field of a record.
+pub fn number_at(s: &[u8], at: usize, width: usize) -> u64
+    requires { ⌜ (at + width ≤ length (now s)) × (width ≤ 8) ⌝ }
+    ensures { λ r. ⌜ (r ≡ fromBe (part (now (s .entry)) at width)) × (r < 256 ^ width) ⌝ }
+{
+    number(&s[at..at + width])
+}
+
 // Writes v as `width` bytes from `at` on: one function for every width.
 pub fn put(t: &mut [u8], at: usize, width: usize, v: u64)
     requires { ⌜ at + width ≤ length (now t) ⌝ }
@@ -62,16 +70,15 @@ pub fn put_all(t: &mut [u8], at: usize, s: &[u8])
     }
 }
 
-// Whether s holds nothing but zeros.
+// Whether s holds nothing but zeros. It looks at every byte, with no way out between them, so that a compiler can take many at once.
 pub fn all_zero(s: &[u8]) -> bool
     ensures { λ r. ⌜ r ≡ all isZero (now (s .entry)) ⌝ }
 {
+    let mut clear = true;
     let mut k: usize = 0;
     while k < s.len() {
-        if s[k] != 0 {
-            return false;
-        }
+        clear = clear & (s[k] == 0);
         k += 1;
     }
-    true
+    clear
 }

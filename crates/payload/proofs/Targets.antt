@@ -22,7 +22,7 @@ use Rattle.ttlv.specs.declared.BytesField.the-variants.{Span, NoSpan}
 use Rattle.ttlv.specs.declared.NumberField.the-variants.{Number, NoNumber}
 use Rattle.ttlv.specs.declared.BodyField.the-variants.{Body, NoBody}
 use Rattle.ttlv.proofs.Step.{rest}
-use Rattle.ttlv.proofs.Bools.{both}
+use Rattle.octets.proofs.Bools.{both}
 use Rattle.ttlv.proofs.Lift.{bytesRead, starts-lifts, bytes-lifts, bytes-rest}
 use Rattle.identifier.specs.Identifier.{serialOf}
 use Rattle.rules.specs.States.{codeOk}

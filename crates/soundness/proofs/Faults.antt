@@ -9,7 +9,7 @@ use mathlib.Core.Option.{Option, none, some}
 use mathlib.Core.List.{List, [], _∷_, map}
 use lib.ListN.{length, getD}
 use Rattle.octets.proofs.If.{ifb-true, on-if}
-use Rattle.soundness.proofs.Bools.{not-both}
+use Rattle.octets.proofs.Bools.{not-both}
 use Rattle.table.specs.declared.Found.{Found}
 use Rattle.table.specs.declared.Found.the-variants.{At, Nothing}
 use Rattle.table.specs.Search.{first}

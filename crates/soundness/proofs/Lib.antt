@@ -1,6 +1,5 @@
 -- Laws of the soundness rules: the rule list, the facts of a sound table, the blank table.
 -- Assumes nothing.
-pub mod Bools
 pub mod Parts
 pub mod Faults
 pub mod SoundIs

@@ -1,14 +1,20 @@
 -- Parts of the table and of a record as the check's functions lend them, and as the rules name them.
 -- Assumes nothing.
-use mathlib.Core.Path.{_≡_, sym, _∙_}
-use Prim.Native.Nat.{ℕ, _+_, _-_, min}
-use native.Mathlib.Nat.{min-eq-left, min-eq-right}
+use mathlib.Core.Path.{_≡_, sym, ap, ap₂, _∙_}
+use Prim.Native.Nat.{ℕ, _+_, _-_, _≤_, _<_, min}
+use native.Mathlib.Nat.{min-eq-left, min-eq-right, min-le-right}
 use native.Mathlib.Decide.{decLe}
 use native.Mathlib.Omega.{arith}
 use mathlib.Core.List.{List}
 use lib.ListN.{length, take, drop, length-drop, drop-of-length-le}
 use lib.Seq.{take-all}
 use Rattle.octets.specs.Octets.{part}
+use Rattle.octets.proofs.Stores.{length-part, part-part}
+use Rattle.table.specs.declared.Record.{Record}
+use Rattle.table.specs.Layout.{bodyOf, sizeOf, materialSize}
+use Rattle.table.specs.Records.{placeAt}
+use Rattle.table.proofs.Places.{place-fields}
+use Rattle.soundness.specs.Checked.{zerosFrom}
 
 -- what is left of m from k on, or from its end if k lies past it
 pub tail-lent : (m : List ℕ) (k len : ℕ) → length m ≡ 32 → len ≡ min k 32 → take (32 - len) (drop len m) ≡ drop k m
@@ -22,3 +28,17 @@ tail-lent m k len l e = elim (decLe k 32) [
 -- the w bytes from `at` on, lent
 pub lent-part : (t : List ℕ) (at a w : ℕ) → at ≡ a → take (at + w - at) (drop at t) ≡ part t a w
 lent-part t at a w e = let z : at + w - at ≡ w = omega arith in rw (z, e)
+
+-- the material of the record at place i from where its zeros start, lent where it stands
+pub material-lent : (n : ℕ) (t : List ℕ) (i : ℕ) (r : Record) (body z : ℕ) → length t ≡ sizeOf n → i < n → r ≡ placeAt n t i → body ≡ bodyOf n i → z ≡ min (zerosFrom r) materialSize
+    → take (body + 24 + materialSize - (body + 24 + z)) (drop (body + 24 + z) t) ≡ drop (zerosFrom r) (r .material)
+material-lent n t i r body z big lo same eb ez =
+    let k = zerosFrom r in
+    let few : z ≤ 32 = rw ez (min-le-right k 32) in
+    let at = bodyOf n i + 24 in
+    let left : body + 24 + 32 - (body + 24 + z) ≡ 32 - z = omega arith in
+    let material : part t at materialSize ≡ r .material = ap (λ (x : Record). x .material) (place-fields n t i) ∙ ap (λ (x : Record). x .material) (sym same) in
+    ap₂ (λ (w from : ℕ). take w (drop from t)) left (ap (λ (b : ℕ). b + 24 + z) eb)
+    ∙ sym (part-part t at 32 z (32 - z) (omega arith))
+    ∙ tail-lent (part t at 32) k z (length-part t at 32 (omega arith)) ez
+    ∙ ap (drop k) material

@@ -1,6 +1,6 @@
 -- What the check asks of the whole table and of one place after the other, each place once; that it asks what `sound` asks is a law.
 -- Assumes nothing.
-use Prim.Native.Nat.{ℕ}
+use Prim.Native.Nat.{ℕ, _/_, _≤_, _<_}
 use mathlib.Core.Bool.{Bool, true, false, _&&_}
 use mathlib.Core.List.{List}
 use lib.Dec.{leb, eqb}
@@ -8,8 +8,8 @@ use Rattle.octets.specs.If.{ifb}
 use Rattle.table.specs.declared.Record.{Record}
 use Rattle.table.specs.declared.Found.{Found}
 use Rattle.table.specs.declared.Found.the-variants.{At, Nothing}
-use Rattle.table.specs.Records.{placeAt, isFree, lastSerial}
-use Rattle.table.specs.Search.{find}
+use Rattle.table.specs.Records.{placeAt, serialAt, isFree, lastSerial}
+use Rattle.table.specs.Search.{find, isDestroyed}
 use Rattle.soundness.specs.Sound.{sizeRight, countRight, leadRight, freeRight, zerosRight, stateRight, bitsRight, maskRight, limitRight, tailRight, wipedRight, replacedRight, replacementRight, linksRight}
 
 -- rules 1 to 3
@@ -27,6 +27,14 @@ namesRight last r = leb (r .serial) last && replacedRight r && replacementRight 
 -- rules 12 and 13: the material
 unfoldable pub materialRight : Record → Bool
 materialRight r = tailRight r && wipedRight r
+
+-- where the zeros in a record's material start, by those two rules: behind its length, or at the front if it is destroyed
+unfoldable pub zerosFrom : Record → ℕ
+zerosFrom r = ifb (isDestroyed (r .state)) 0 (r .bits / 8)
+
+-- no serial at the places below i is above `top`
+abbrev pub TopBelow : List ℕ → ℕ → ℕ → Type 0
+TopBelow t i top = (j : ℕ) → j < i → serialAt t j ≤ top
 
 -- a search found this place
 unfoldable pub isAt : ℕ → Found → Bool

@@ -1,14 +1,14 @@
 // The soundness check of a stored table.
 // It writes nothing, and takes a table of any size and any content.
 ghost use mathlib.Core.Path.{_≡_};
-ghost use Prim.Native.Nat.{_<_};
+ghost use Prim.Native.Nat.{_<_, min, max};
 ghost use lib.ListN.{length};
 ghost use lib.Dec.{eqb};
-ghost use Rattle.table.specs.Layout.{sizeOf};
-ghost use Rattle.table.specs.Records.{lastSerial};
+ghost use Rattle.table.specs.Layout.{materialSize, sizeOf};
+ghost use Rattle.table.specs.Records.{placeAt, serialAt, lastSerial};
 ghost use Rattle.table.specs.Search.{find};
-ghost use Rattle.soundness.specs.Sound.{bitsOk, maskOk, unitOk, totalOk, limitRight, tailRight, wipedRight, freeRight, zerosRight, ifStands, namesReplacement, namesReplaced, sound};
-ghost use Rattle.soundness.specs.Checked.{wholeRight, valuesRight, materialRight, namesRight, isAt, standingRight, placeRight};
+ghost use Rattle.soundness.specs.Sound.{bitsOk, maskOk, unitOk, totalOk, limitRight, freeRight, zerosRight, ifStands, namesReplacement, namesReplaced, sound};
+ghost use Rattle.soundness.specs.Checked.{wholeRight, valuesRight, zerosFrom, materialRight, namesRight, isAt, TopBelow, standingRight, placeRight};
 use table::Found;
 use table::Layout;
 use table::Record;
@@ -66,33 +66,6 @@ fn values_right(p: Record) -> bool
         & limit_right(p)
 }
 
-// Rule 12: the material past its length is zero.
-fn tail_right(p: Record) -> bool
-    ensures { λ r. ⌜ r ≡ tailRight p ⌝ }
-{
-    let material = p.material;
-    let len = octets::fewer((p.bits / 8) as usize, Layout::MATERIAL);
-    octets::all_zero(&material[len..])
-}
-
-// Rule 13: a destroyed record has no material.
-fn wiped_right(p: Record) -> bool
-    ensures { λ r. ⌜ r ≡ wipedRight p ⌝ }
-{
-    if table::is_destroyed(p.state) {
-        let material = p.material;
-        return octets::all_zero(&material);
-    }
-    true
-}
-
-// Rules 12 and 13.
-fn material_right(p: Record) -> bool
-    ensures { λ r. ⌜ r ≡ materialRight p ⌝ }
-{
-    tail_right(p) & wiped_right(p)
-}
-
 // Rules 7, 14 and 15: the serial and those that it is linked to, where `last` is the last one issued.
 fn names_right(p: Record, last: u32) -> bool
     ensures { λ r. ⌜ r ≡ namesRight last p ⌝ }
@@ -148,15 +121,40 @@ fn zeros_right(t: &[u8], n: usize, i: usize) -> bool
     ensures { λ r. ⌜ r ≡ zerosRight n (now (t .entry)) i ⌝ }
 {
     let layout = Layout { places: n };
-    let zeros = layout.body(i) + 20;
+    let zeros = layout.body(i) + Layout::ZEROS_IN;
     octets::all_zero(&t[zeros..zeros + 4])
 }
 
-// Rule 6: the search for the serial of place i gives place i.
-fn own_place(t: &[u8], n: usize, i: usize, serial: u32) -> bool
-    requires { ⌜ length (now t) ≡ sizeOf n ⌝ }
+// Where the zeros in a record's material start: behind its length, or at the front if the record is destroyed.
+fn zeros_from(p: Record) -> usize
+    ensures { λ r. ⌜ r ≡ min (zerosFrom p) materialSize ⌝ }
+{
+    if table::is_destroyed(p.state) {
+        return 0;
+    }
+    octets::fewer((p.bits / 8) as usize, Layout::MATERIAL)
+}
+
+// Rules 12 and 13, of the record p that stands at place i: its material is looked at where it stands.
+fn material_right(t: &[u8], n: usize, i: usize, p: Record) -> bool
+    requires { ⌜ (length (now t) ≡ sizeOf n) × ((i < n) × (p ≡ placeAt n (now t) i)) ⌝ }
+    ensures { λ r. ⌜ r ≡ materialRight p ⌝ }
+{
+    let layout = Layout { places: n };
+    let start = layout.body(i) + Layout::MATERIAL_IN;
+    let from = start + zeros_from(p);
+    let end = start + Layout::MATERIAL;
+    octets::all_zero(&t[from..end])
+}
+
+// Rule 6: the search for the serial of place i gives place i. A serial above all that stand at lower places needs no search: `top` is as high as any of them.
+fn own_place(t: &[u8], n: usize, i: usize, top: u32, serial: u32) -> bool
+    requires { ⌜ (length (now t) ≡ sizeOf n) × ((i < n) × ((serial ≡ serialAt (now t) i) × TopBelow (now t) i top)) ⌝ }
     ensures { λ r. ⌜ r ≡ isAt i (find n (now (t .entry)) serial) ⌝ }
 {
+    if top < serial {
+        return true;
+    }
     match table::find(t, n, serial) {
         Found::At(j) => j == i,
         Found::Nothing => false,
@@ -169,10 +167,7 @@ fn back_right(t: &[u8], n: usize, serial: u32, replaced: u32) -> bool
     ensures { λ r. ⌜ r ≡ ifStands (namesReplacement n (now (t .entry)) serial) (find n (now (t .entry)) replaced) ⌝ }
 {
     match table::find(t, n, replaced) {
-        Found::At(j) => {
-            let old = table::load(t, n, j);
-            old.replacement == serial
-        }
+        Found::At(j) => { records::replacement(t, n, j) == serial }
         Found::Nothing => true,
     }
 }
@@ -183,34 +178,44 @@ fn forth_right(t: &[u8], n: usize, serial: u32, replacement: u32) -> bool
     ensures { λ r. ⌜ r ≡ ifStands (namesReplaced n (now (t .entry)) serial) (find n (now (t .entry)) replacement) ⌝ }
 {
     match table::find(t, n, replacement) {
-        Found::At(j) => {
-            let heir = table::load(t, n, j);
-            heir.replaced == serial
-        }
+        Found::At(j) => { records::replaced(t, n, j) == serial }
         Found::Nothing => true,
     }
 }
 
-// Rules 5 to 16, of the record p that stands at place i, where `last` is the last serial issued: the check has read both.
-fn standing_right(t: &[u8], n: usize, i: usize, last: u32, p: Record) -> bool
-    requires { ⌜ (length (now t) ≡ sizeOf n) × ((i < n) × (last ≡ lastSerial (now t))) ⌝ }
+// Rules 5 to 16, of the record p that stands at place i, where `last` is the last serial issued: the check has read both, and `top` from the serials of the lower places.
+fn standing_right(t: &[u8], n: usize, i: usize, last: u32, top: u32, p: Record) -> bool
+    requires { ⌜ (length (now t) ≡ sizeOf n) × ((i < n) × ((last ≡ lastSerial (now t)) × ((p ≡ placeAt n (now t) i) × TopBelow (now t) i top))) ⌝ }
     ensures { λ r. ⌜ r ≡ standingRight n (now (t .entry)) i p ⌝ }
 {
-    let alone = zeros_right(t, n, i) & values_right(p) & material_right(p) & names_right(p, last);
+    let alone = zeros_right(t, n, i)
+        & values_right(p)
+        & material_right(t, n, i, p)
+        & names_right(p, last);
     let links = back_right(t, n, p.serial, p.replaced) & forth_right(t, n, p.serial, p.replacement);
-    alone & own_place(t, n, i, p.serial) & links
+    alone & own_place(t, n, i, top, p.serial) & links
 }
 
 // Rules 4 to 16 at place i.
-fn place_right(t: &[u8], n: usize, i: usize, last: u32) -> bool
-    requires { ⌜ (length (now t) ≡ sizeOf n) × ((i < n) × (last ≡ lastSerial (now t))) ⌝ }
+fn place_right(t: &[u8], n: usize, i: usize, last: u32, top: u32) -> bool
+    requires { ⌜ (length (now t) ≡ sizeOf n) × ((i < n) × ((last ≡ lastSerial (now t)) × TopBelow (now t) i top)) ⌝ }
     ensures { λ r. ⌜ r ≡ placeRight n (now (t .entry)) i ⌝ }
 {
     if table::serial_at(t, i) == 0 {
         return free_right(t, n, i);
     }
-    let p = table::load(t, n, i);
-    standing_right(t, n, i, last, p)
+    let p = records::load(t, n, i);
+    standing_right(t, n, i, last, top, p)
+}
+
+// The higher of two serials.
+fn higher(a: u32, b: u32) -> u32
+    ensures { λ r. ⌜ r ≡ max a b ⌝ }
+{
+    if a < b {
+        return b;
+    }
+    a
 }
 
 // ---- the check
@@ -223,11 +228,13 @@ pub fn is_sound(t: &[u8], n: usize) -> bool
         return false;
     }
     let last = table::last_serial(t);
+    let mut top: u32 = 0;
     let mut i: usize = 0;
     while i < n {
-        if !place_right(t, n, i, last) {
+        if !place_right(t, n, i, last, top) {
             return false;
         }
+        top = higher(top, table::serial_at(t, i));
         i += 1;
     }
     true

@@ -175,10 +175,3 @@ module _ (t : List ℕ) {t₁ t₂ t₃ t₄ t₅ : List ℕ} (at : ℕ) where
   pub body-chain : (a b c : ℕ) (m : List ℕ) → t₁ ≡ sets t at (be 8 a) → t₂ ≡ sets t₁ (at + 8) (be 8 b) → t₃ ≡ sets t₂ (at + 16) (be 4 c) → t₄ ≡ sets t₃ (at + zerosIn) (be 4 0)
       → t₅ ≡ sets t₄ (at + 24) m → t₅ ≡ sets t at (body a b c m)
   body-chain a b c m e₁ e₂ e₃ e₄ e₅ = cc (body-sets t at a b c m)
-
--- a part as it is lent to the number reader
-pub lent-field : (t : List ℕ) (at w : ℕ) → at + w ≤ length t → w ≤ 8 → take 8 (take (at + w - at) (drop at t)) ≡ part t at w
-lent-field t at w l h =
-    let e : at + w - at ≡ w = omega arith in
-    let k : length (part t at w) ≡ w = length-part t at w l in
-    rw e (take-all 8 (part t at w) (omega arith))

@@ -11,10 +11,6 @@ use Rattle.table.proofs.Layout.body.Reads as body-reads
 use Rattle.table.proofs.Layout.body.Kinds as body-kinds
 use Rattle.table.proofs.Layout.size.Reads as size-reads
 use Rattle.table.proofs.Layout.size.Kinds as size-kinds
-use Rattle.table.proofs.load.Reads as load-reads
-use Rattle.table.proofs.load.Kinds as load-kinds
-use Rattle.table.proofs.store.Reads as store-reads
-use Rattle.table.proofs.store.Kinds as store-kinds
 use Rattle.table.proofs.last_serial.Reads as last-serial-reads
 use Rattle.table.proofs.last_serial.Kinds as last-serial-kinds
 use Rattle.table.proofs.set_last_serial.Reads as set-last-serial-reads
@@ -41,14 +37,6 @@ body-unique κs a r r′ s s′ p q = p ∙ sym q
 pub size-unique : (κs : Lfts 0) (a : Dens κs size-kinds.ps) (r r′ : resT size-kinds.r κs .Denot) (s s′ : AtExit (endedOf 0 size-kinds.ps size-kinds.r) κs)
     → size-reads.Post κs a r s → size-reads.Post κs a r′ s′ → r ≡ r′
 size-unique κs a r r′ s s′ p q = p ∙ sym q
-
-pub load-unique : (κs : Lfts 1) (a : Dens κs load-kinds.ps) (r r′ : resT load-kinds.r κs .Denot) (s s′ : AtExit (endedOf 1 load-kinds.ps load-kinds.r) κs)
-    → load-reads.Post κs a r s → load-reads.Post κs a r′ s′ → r ≡ r′
-load-unique κs a r r′ s s′ p q = p ∙ sym q
-
-pub store-unique : (κs : Lfts 1) (a : Dens κs store-kinds.ps) (r r′ : resT store-kinds.r κs .Denot) (s s′ : AtExit (endedOf 1 store-kinds.ps store-kinds.r) κs)
-    → store-reads.Post κs a r s → store-reads.Post κs a r′ s′ → now (s .0) ≡ now (s′ .0)
-store-unique κs a r r′ s s′ p q = p ∙ sym q
 
 pub last-serial-unique : (κs : Lfts 1) (a : Dens κs last-serial-kinds.ps) (r r′ : resT last-serial-kinds.r κs .Denot) (s s′ : AtExit (endedOf 1 last-serial-kinds.ps last-serial-kinds.r) κs)
     → last-serial-reads.Post κs a r s → last-serial-reads.Post κs a r′ s′ → r ≡ r′

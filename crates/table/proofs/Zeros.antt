@@ -10,6 +10,7 @@ use lib.ListN.{length, take, drop, set, replicate}
 use lib.Seq.{sets}
 use borrow.Author.Tests.{eqb-true}
 use Rattle.octets.specs.Octets.{fromBe, part, all, isZero, allZero, Bytes}
+use Rattle.octets.proofs.Bools.{and-l, and-r}
 use Rattle.octets.proofs.Numbers.{fromBe-be, be-zero}
 
 -- zeros pass the test
@@ -18,22 +19,14 @@ unfolding all
 zeros-pass zero = refl
 zeros-pass (suc k) = zeros-pass k
 
-and-left : (a b : Bool) → (a && b) ≡ true → a ≡ true
-and-left true b e = refl
-and-left false b e = e
-
-and-right : (a b : Bool) → (a && b) ≡ true → b ≡ true
-and-right true b e = e
-and-right false b e = absurd (let z : _≡_ {A = ℕ} 0 1 = cc in omega arith)
-
 -- and what passes is zeros
 pub pass-zeros : (s : List ℕ) → allZero s ≡ true → s ≡ replicate (length s) 0
 unfolding all
 pass-zeros [] e = refl
 pass-zeros (x ∷ s) e =
     ap₂ (λ (y : ℕ) (ys : List ℕ). y ∷ ys)
-    (eqb-true x 0 (and-left (isZero x) (allZero s) e))
-    (pass-zeros s (and-right (isZero x) (allZero s) e))
+    (eqb-true x 0 (and-l (isZero x) (allZero s) e))
+    (pass-zeros s (and-r (isZero x) (allZero s) e))
 
 pow-positive : (w : ℕ) → 0 < 256 ^ w
 pow-positive zero = omega (arith, pow-zero 256)

@@ -3,10 +3,8 @@
 ghost use mathlib.Core.Path.{_≡_};
 ghost use Prim.Native.Nat.{_+_, _^_, _≤_, _<_};
 ghost use lib.ListN.{length};
-ghost use lib.Seq.{sets};
-ghost use Rattle.octets.specs.Octets.{fromBe, part};
-ghost use Rattle.table.specs.Layout.{leadSize, lineSize, bodySize, materialSize, lineOf, bodyOf, sizeOf};
-ghost use Rattle.table.specs.Records.{line, body, placeAt, withPlace, serialAt, stateAt, lastSerial, withLast, placesSaid};
+ghost use Rattle.table.specs.Layout.{leadSize, lineSize, lineOf, bodyOf, sizeOf};
+ghost use Rattle.table.specs.Records.{serialAt, stateAt, lastSerial, withLast, placesSaid};
 ghost use Rattle.table.specs.Search.{first, hasSerial, isNothing, find, isDestroyed, freePlace, destroyedPlace, newPlace};
 
 // The layout of a table of so many places: constants for sizes, and the offsets of a place's line and body.
@@ -22,6 +20,11 @@ impl Layout {
     pub const BODY: usize = 56;
 
     pub const MATERIAL: usize = 32;
+
+    // Where the four zeros and the material stand in a body.
+    pub const ZEROS_IN: usize = 20;
+
+    pub const MATERIAL_IN: usize = 24;
 
     // Where the line of place i starts. The caller shows that the offset is a usize.
     pub fn line(i: usize) -> usize
@@ -68,122 +71,12 @@ pub enum Found {
     Nothing,
 }
 
-// The number that `width` bytes from `at` on spell: one reader for every field. Its callers show that the field lies in the table.
-fn field(t: &[u8], at: usize, width: usize) -> u64
-    requires { ⌜ (at + width ≤ length (now t)) × (width ≤ 8) ⌝ }
-    ensures { λ r. ⌜ (r ≡ fromBe (part (now (t .entry)) at width)) × (r < 256 ^ width) ⌝ }
-{
-    octets::number(&t[at..at + width])
-}
-
-// The material that stands from `at` on; its caller shows that it lies in the table.
-fn material_at(t: &[u8], at: usize) -> [u8; 32]
-    requires { ⌜ at + materialSize ≤ length (now t) ⌝ }
-    ensures { λ r. ⌜ r ≡ part (now (t .entry)) at materialSize ⌝ }
-{
-    let mut m = [0u8; 32];
-    let mut k: usize = 0;
-    while k < Layout::MATERIAL {
-        m[k] = t[at + k];
-        k += 1;
-    }
-    m
-}
-
-// The record at place i.
-pub fn load(t: &[u8], n: usize, i: usize) -> Record
-    requires { ⌜ (length (now t) ≡ sizeOf n) × (i < n) ⌝ }
-    ensures { λ r. ⌜ r ≡ placeAt n (now (t .entry)) i ⌝ }
-{
-    let line = Layout::line(i);
-    let layout = Layout { places: n };
-    let body = layout.body(i);
-    let serial = field(t, line, 4) as u32;
-    let state = field(t, line + 4, 1) as u8;
-    let unit = field(t, line + 5, 1) as u8;
-    let bits = field(t, line + 6, 2) as u16;
-    let replaced = field(t, line + 8, 4) as u32;
-    let replacement = field(t, line + 12, 4) as u32;
-    let total = field(t, body, 8);
-    let count = field(t, body + 8, 8);
-    let mask = field(t, body + 16, 4) as u32;
-    let material = material_at(t, body + 24);
-    Record {
-        serial,
-        state,
-        unit,
-        bits,
-        replaced,
-        replacement,
-        total,
-        count,
-        mask,
-        material,
-    }
-}
-
-// Writes a line from `at` on; its caller shows that it lies in the table.
-fn put_line(
-    t: &mut [u8],
-    at: usize,
-    serial: u32,
-    state: u8,
-    unit: u8,
-    bits: u16,
-    replaced: u32,
-    replacement: u32,
-)
-    requires { ⌜ at + lineSize ≤ length (now t) ⌝ }
-    ensures { λ _. ⌜ now (t .exit) ≡ sets (now (t .entry)) at (line serial state unit bits replaced replacement) ⌝ }
-{
-    octets::put(t, at, 4, serial as u64);
-    octets::put(t, at + 4, 1, state as u64);
-    octets::put(t, at + 5, 1, unit as u64);
-    octets::put(t, at + 6, 2, bits as u64);
-    octets::put(t, at + 8, 4, replaced as u64);
-    octets::put(t, at + 12, 4, replacement as u64);
-}
-
-// Writes a body from `at` on; its caller shows that it lies in the table.
-fn put_body(t: &mut [u8], at: usize, total: u64, count: u64, mask: u32, material: [u8; 32])
-    requires { ⌜ at + bodySize ≤ length (now t) ⌝ }
-    ensures { λ _. ⌜ now (t .exit) ≡ sets (now (t .entry)) at (body total count mask material) ⌝ }
-{
-    octets::put(t, at, 8, total);
-    octets::put(t, at + 8, 8, count);
-    octets::put(t, at + 16, 4, mask as u64);
-    octets::put(t, at + 20, 4, 0);
-    octets::put_all(t, at + 24, &material);
-}
-
-// Stores a record at place i.
-pub fn store(t: &mut [u8], n: usize, i: usize, r: Record)
-    requires { ⌜ (length (now t) ≡ sizeOf n) × (i < n) ⌝ }
-    ensures { λ _. ⌜ now (t .exit) ≡ withPlace n (now (t .entry)) i r ⌝ }
-{
-    let line_at = Layout::line(i);
-    let layout = Layout { places: n };
-    let body_at = layout.body(i);
-    let material = r.material;
-    put_line(
-        t,
-        line_at,
-        r.serial,
-        r.state,
-        r.unit,
-        r.bits,
-        r.replaced,
-        r.replacement,
-    );
-    put_body(t, body_at, r.total, r.count, r.mask, material);
-}
-
 // The last serial issued.
 pub fn last_serial(t: &[u8]) -> u32
     requires { ⌜ leadSize ≤ length (now t) ⌝ }
     ensures { λ r. ⌜ r ≡ lastSerial (now (t .entry)) ⌝ }
 {
-    field(t, 0, 4) as u32
+    octets::number_at(t, 0, 4) as u32
 }
 
 // Makes this serial the last one issued.
@@ -199,7 +92,7 @@ pub fn places_said(t: &[u8]) -> u32
     requires { ⌜ leadSize ≤ length (now t) ⌝ }
     ensures { λ r. ⌜ r ≡ placesSaid (now (t .entry)) ⌝ }
 {
-    field(t, 4, 4) as u32
+    octets::number_at(t, 4, 4) as u32
 }
 
 // The serial of place i, read by itself.
@@ -208,7 +101,7 @@ pub fn serial_at(t: &[u8], i: usize) -> u32
     ensures { λ r. ⌜ r ≡ serialAt (now (t .entry)) i ⌝ }
 {
     let at = Layout::line(i);
-    field(t, at, 4) as u32
+    octets::number_at(t, at, 4) as u32
 }
 
 // The state of place i, read by itself.
@@ -217,7 +110,7 @@ fn state_at(t: &[u8], i: usize) -> u8
     ensures { λ r. ⌜ r ≡ stateAt (now (t .entry)) i ⌝ }
 {
     let at = Layout::line(i);
-    field(t, at + 4, 1) as u8
+    octets::number_at(t, at + 4, 1) as u8
 }
 
 // Whether a state is 5 or 6.

@@ -9,7 +9,7 @@ use lib.Dec.{ltb, eqb}
 use borrow.Author.Tests.{eqb-true, eqb-false, ltb-true, not-true, eq-eqb, ne-eqb, lt-ltb}
 use Rattle.ttlv.specs.Types.{structure, tagLead, lengthOk, valueOk}
 use Rattle.ttlv.specs.Items.{Items, value, group, encode, tagOk, itemOk, wellFormed}
-use Rattle.ttlv.proofs.Bools.{both, and-i}
+use Rattle.octets.proofs.Bools.{both, and-i}
 
 -- an item that can be written
 pub record FineValue (tag kind : ℕ) (v : List ℕ) : Type 0 where

@@ -22,7 +22,7 @@ use Rattle.ttlv.specs.declared.BytesField.{BytesField}
 use Rattle.ttlv.specs.declared.BytesField.the-variants.{Span, NoSpan}
 use Rattle.ttlv.specs.declared.NumberField.the-variants.{Number}
 use Rattle.ttlv.specs.declared.BodyField.the-variants.{Body, NoBody}
-use Rattle.ttlv.proofs.Bools.{both, and-i, and-no, and-second}
+use Rattle.octets.proofs.Bools.{both, and-i, and-no, and-second}
 use Rattle.ttlv.proofs.Step.{Within, Holds, value-ends, group-ends}
 
 -- ---- from the item at the front to the answer

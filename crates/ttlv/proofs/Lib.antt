@@ -1,6 +1,5 @@
 -- The laws of TTLV.
 -- Assumes nothing.
-pub mod Bools
 pub mod View
 pub mod Put
 pub mod Turns

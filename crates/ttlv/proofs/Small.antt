@@ -12,7 +12,7 @@ use borrow.Author.Tests.{eqb-true, eqb-false, lt-leb}
 use Rattle.octets.specs.Octets.{fromBe, fromBeAfter, all, allZero}
 use Rattle.octets.proofs.If.{on-bool}
 use Rattle.octets.proofs.Numbers.{fromBe-more}
-use Rattle.ttlv.proofs.Bools.{both, and-second}
+use Rattle.octets.proofs.Bools.{both, and-second}
 use Rattle.ttlv.proofs.View.{empty}
 
 grows : (xs : List ℕ) (a : ℕ) → a ≤ fromBeAfter a xs

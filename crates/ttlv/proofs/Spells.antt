@@ -19,7 +19,7 @@ use Rattle.ttlv.specs.Parse.{firstOf, more, walk, parse}
 use Rattle.ttlv.specs.declared.First.{First}
 use Rattle.ttlv.specs.declared.First.the-variants.{End, Bad, Value, Group}
 use Rattle.ttlv.proofs.View.{Head, View, end, bad, val, grp, view}
-use Rattle.ttlv.proofs.Bools.{both}
+use Rattle.octets.proofs.Bools.{both}
 use Rattle.ttlv.proofs.Turns.{whole}
 use Rattle.ttlv.proofs.Put.{inv-value, inv-group, no-some}
 

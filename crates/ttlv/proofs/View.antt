@@ -14,7 +14,7 @@ use Rattle.ttlv.specs.Types.{structure, tagLead, padded, lengthOk, value
 use Rattle.ttlv.specs.Parse.{headed, firstOf}
 use Rattle.ttlv.specs.declared.First.{First}
 use Rattle.ttlv.specs.declared.First.the-variants.{End, Bad, Value, Group}
-use Rattle.ttlv.proofs.Bools.{both, and-i, and-second, and-no}
+use Rattle.octets.proofs.Bools.{both, and-i, and-second, and-no}
 
 -- ---- the view
 

@@ -18,7 +18,7 @@ use Rattle.ttlv.specs.Types.{structure, integer, longInteger, bigInteger, enume
 use Rattle.ttlv.specs.Items.{Items, nil, value, group, encode, tagOk, itemOk, wellFormed}
 use Rattle.ttlv.specs.Parse.{parse}
 use Rattle.ttlv.proofs.Back.{parse-back}
-use Rattle.ttlv.proofs.Bools.{both}
+use Rattle.octets.proofs.Bools.{both}
 use Rattle.ttlv_write.specs.Write.{tagOf, item, numberItem, bit, fits, spelled, valueFits, writable, Wrote}
 use Rattle.ttlv_write.proofs.Sizes.{length-value}
 use Rattle.ttlv_write.proofs.Holds.{wrote-size, wrote-bytes}

@@ -17,7 +17,7 @@ use Rattle.act.proofs.fail.Reads as fail-reads
 use Rattle.act.proofs.store_at.Reads as store-at-reads
 use Rattle.rules.proofs.grant.Reads as grant-reads
 use Rattle.rules.proofs.with_count.Reads as with-count-reads
-use Rattle.table.proofs.load.Reads as load-reads
+use Rattle.records.proofs.load.Reads as load-reads
 
 load-requires : tie.Need-load-requires
 load-requires c κs = search needs

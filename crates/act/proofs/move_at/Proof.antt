@@ -15,7 +15,7 @@ use Rattle.act.proofs.fail.Reads as fail-reads
 use Rattle.act.proofs.store_at.Reads as store-at-reads
 use Rattle.rules.proofs.moved_to.Reads as moved-to-reads
 use Rattle.rules.proofs.next_state.Reads as next-state-reads
-use Rattle.table.proofs.load.Reads as load-reads
+use Rattle.records.proofs.load.Reads as load-reads
 
 load-requires : tie.Need-load-requires
 load-requires c κs = search needs

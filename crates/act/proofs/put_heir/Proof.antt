@@ -15,8 +15,8 @@ use Rattle.act.proofs.put_heir.Reads as reads
 use Rattle.act.proofs.put_heir.Lts as lts
 use Rattle.act.proofs.put_born.Reads as put-born-reads
 use Rattle.rules.proofs.linked_to.Reads as linked-to-reads
-use Rattle.table.proofs.load.Reads as load-reads
-use Rattle.table.proofs.store.Reads as store-reads
+use Rattle.records.proofs.load.Reads as load-reads
+use Rattle.records.proofs.store.Reads as store-reads
 
 load-requires : tie.Need-load-requires
 load-requires c κs = search needs

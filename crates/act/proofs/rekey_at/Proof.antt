@@ -16,7 +16,7 @@ use Rattle.act.proofs.rekey_at.Lts as lts
 use Rattle.act.proofs.fail.Reads as fail-reads
 use Rattle.act.proofs.replace_at.Reads as replace-at-reads
 use Rattle.table.proofs.is_destroyed.Reads as is-destroyed-reads
-use Rattle.table.proofs.load.Reads as load-reads
+use Rattle.records.proofs.load.Reads as load-reads
 
 load-requires : tie.Need-load-requires
 load-requires c κs = search needs

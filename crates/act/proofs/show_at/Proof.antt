@@ -8,7 +8,7 @@ use Rattle.act.proofs.show_at.Statement.{statement}
 use Rattle.act.proofs.show_at.Tie as tie
 use Rattle.act.proofs.show_at.Reads as reads
 use Rattle.act.proofs.show_at.Lts as lts
-use Rattle.table.proofs.load.Reads as load-reads
+use Rattle.records.proofs.load.Reads as load-reads
 
 load-requires : tie.Need-load-requires
 load-requires c κs = search needs

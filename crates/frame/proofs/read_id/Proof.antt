@@ -7,7 +7,7 @@ use lib.ListN.{length, take, drop}
 use lib.Dec.{leb}
 use borrow.Author.Tests.{not-true, not-false, eq-eqb, ne-eqb, le-leb, lt-leb}
 use Rattle.octets.proofs.If.{ifb-true, ifb-false}
-use Rattle.ttlv.proofs.Bools.{and-i, and-no, and-second}
+use Rattle.octets.proofs.Bools.{and-i, and-no, and-second}
 use Rattle.frame.specs.Readers.{idSpan, idAt}
 use borrow.Author.Needs.{needs}
 use Rattle.frame.proofs.read_id.Statement.{statement}

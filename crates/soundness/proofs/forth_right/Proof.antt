@@ -1,10 +1,9 @@
 -- `soundness::forth_right`. By cases on what the search found; a place found is one of the table's.
 -- Assumes nothing.
-use Prim.Native.Nat.{_-_}
+use Prim.Native.Nat.{ℕ, _-_}
 use mathlib.Core.Path.{_≡_, sym, ap, _∙_}
 use lib.Dec.{eqb}
 use borrow.Author.Needs.{needs}
-use Rattle.table.specs.declared.Record.{Record}
 use Rattle.table.specs.declared.Found.the-variants.{At}
 use Rattle.table.specs.Search.{find}
 use Rattle.table.proofs.Finds.{find-below}
@@ -18,8 +17,8 @@ find-requires c κs = search needs
 enum-known-j : tie.Need-enum-known-j
 enum-known-j c = search needs
 
-load-requires : tie.Need-load-requires
-load-requires c κs =
+replaced-requires : tie.Need-replaced-requires
+replaced-requires c κs =
     let a = c .before .before .before .before .before .args in
     (c .before .before .before .before .before .pre, find-below (a .n) (a .t .now) (a .replacement) _ (sym (c .before .before .before .find .ensures) ∙ c .before .j .given .1))
 
@@ -29,9 +28,9 @@ enum-told c = search needs
 returns : tie.Need-returns
 unfolding ifStands
 returns c =
-    let a = c .before .before .before .before .before .before .before .args in
-    let e : find (a .n) (a .t .now) (a .replacement) ≡ At (c .before .before .before .j .given .0 .0) = sym (c .before .before .before .before .before .find .ensures) ∙ c .before .before .before .j .given .1 in
-    ap (λ (r : Record). eqb (r .replaced) (a .serial)) (c .before .load .ensures) ∙ sym (ap (ifStands (namesReplaced (a .n) (a .t .now) (a .serial))) e)
+    let a = c .before .before .before .before .before .before .args in
+    let e : find (a .n) (a .t .now) (a .replacement) ≡ At (c .before .before .j .given .0 .0) = sym (c .before .before .before .before .find .ensures) ∙ c .before .before .j .given .1 in
+    ap (λ (x : ℕ). eqb x (a .serial)) (c .replaced .ensures) ∙ sym (ap (ifStands (namesReplaced (a .n) (a .t .now) (a .serial))) e)
 
 returns-2 : tie.Need-returns-2
 unfolding ifStands
@@ -41,4 +40,4 @@ returns-2 c =
 
 pub forth-right-spec : {M : Type 1} → statement M
 forth-right-spec =
-    tie.close (tie.spec find-requires enum-known-j load-requires enum-told returns returns-2)
+    tie.close (tie.spec find-requires enum-known-j replaced-requires enum-told returns returns-2)

@@ -6,7 +6,7 @@ use borrow.Author.Needs.{needs}
 use Rattle.octets.specs.Octets.{allZero}
 use Rattle.table.specs.Layout.{lineOf, bodyOf, lineSize, bodySize}
 use Rattle.soundness.specs.Sound.{freeRight}
-use Rattle.soundness.proofs.Bools.{and-cong}
+use Rattle.octets.proofs.Bools.{and-cong}
 use Rattle.soundness.proofs.Parts.{lent-part}
 use Rattle.soundness.proofs.free_right.Statement.{statement}
 use Rattle.soundness.proofs.free_right.Tie as tie

@@ -1,22 +1,24 @@
 -- `soundness::is_sound`. The places counted so far have passed; the law of the check says the rest.
 -- Assumes nothing.
-use Prim.Native.Nat.{_-_, _≤_}
-use mathlib.Core.Path.{_≡_, sym, _∙_}
+use Prim.Native.Nat.{_+_, _-_, _≤_, _<_, max}
+use mathlib.Core.Path.{_≡_, sym, ap, _∙_, subst}
 use native.Mathlib.Nat.{not-suc-le-zero}
 use native.Mathlib.Omega.{arith}
 use lib.ListN.{length}
 use borrow.Author.Needs.{needs}
 use borrow.Author.Tests.{not-true, not-false}
 use Rattle.table.specs.Layout.{sizeOf}
-use Rattle.soundness.proofs.Checked.{Passed, passed-more, whole-size, checked-sound, unsound-whole, unsound-place}
+use Rattle.table.specs.Records.{serialAt}
+use Rattle.soundness.specs.Checked.{TopBelow}
+use Rattle.soundness.proofs.Checked.{Passed, passed-more, top-more, whole-size, checked-sound, unsound-whole, unsound-place}
 use Rattle.soundness.proofs.is_sound.Statement.{statement}
 use Rattle.soundness.proofs.is_sound.Tie as tie
 
 abbrev Inv-loop : tie.InvT-loop
-Inv-loop t n last i₀ i = (i ≤ n) × Passed n t i
+Inv-loop t n last top₀ i₀ top i = (i ≤ n) × (Passed n t i × TopBelow t i top)
 
 abbrev μ-loop : tie.MeasureT-loop
-μ-loop t n last i₀ i = n - i
+μ-loop t n last top₀ i₀ top i = n - i
 
 whole-right-requires : tie.Need-whole-right-requires Inv-loop μ-loop
 whole-right-requires c κs = tt
@@ -33,18 +35,29 @@ last-serial-requires c κs =
     omega arith
 
 loop-holds : tie.Need-loop-holds Inv-loop μ-loop
-loop-holds c = (omega arith, λ k l. absurd (not-suc-le-zero l))
+loop-holds c = (omega arith, (λ k l. absurd (not-suc-le-zero l), λ j l. absurd (not-suc-le-zero l)))
 
 place-right-requires : tie.Need-place-right-requires Inv-loop μ-loop
 place-right-requires c κs =
     let a = c .before .before .before .before .before .before .args in
     let sized : length (a .t .now) ≡ sizeOf (a .n) = whole-size (a .n) (a .t .now) (sym (c .before .before .before .before .whole-right .ensures) ∙ not-false _ (c .before .before .before .if1 .left)) in
-    (sized, (c .loop-test .taken, c .before .before .last-serial .ensures))
+    (sized, (c .loop-test .taken, (c .before .before .last-serial .ensures, c .before .loop .inv .1 .1)))
 
 returns-2 : tie.Need-returns-2 Inv-loop μ-loop
 returns-2 c =
     let a = c .before .before .before .before .before .before .before .before .args in
     sym (unsound-place (a .n) (a .t .now) (c .before .before .before .loop .i) (c .before .before .loop-test .taken) (sym (c .before .place-right .ensures) ∙ not-true _ (c .if2 .taken)))
+
+serial-at-requires : tie.Need-serial-at-requires Inv-loop μ-loop
+serial-at-requires c κs =
+    let a = c .before .before .before .before .before .before .before .before .args in
+    let l = c .before .before .before .loop in
+    let sized : length (a .t .now) ≡ sizeOf (a .n) = whole-size (a .n) (a .t .now) (sym (c .before .before .before .before .before .before .whole-right .ensures) ∙ not-false _ (c .before .before .before .before .before .if1 .left)) in
+    let low : l .i < a .n = c .before .before .loop-test .taken in
+    omega arith
+
+higher-requires : tie.Need-higher-requires Inv-loop μ-loop
+higher-requires c κs = tt
 
 add-i : tie.Need-add-i Inv-loop μ-loop
 add-i c = search needs
@@ -54,16 +67,22 @@ loop-less c = omega arith
 
 loop-again : tie.Need-loop-again Inv-loop μ-loop
 loop-again c =
-    let a = c .before .before .before .before .before .before .before .before .args in
-    let l = c .before .before .before .loop in
-    (omega arith, passed-more (a .n) (a .t .now) (l .i) (l .inv .1) (sym (c .before .place-right .ensures) ∙ not-false _ (c .if2 .left)))
+    let a = c .before .before .before .before .before .before .before .before .before .before .args in
+    let l = c .before .before .before .before .before .loop in
+    let top : c .higher .result ≡ max (l .top) (serialAt (a .t .now) (l .i)) = c .higher .ensures ∙ ap (max (l .top)) (c .before .serial-at .ensures) in (
+      omega arith,
+      (
+        passed-more (a .n) (a .t .now) (l .i) (l .inv .1 .0) (sym (c .before .before .before .place-right .ensures) ∙ not-false _ (c .before .before .if2 .left)),
+        subst (TopBelow (a .t .now) (l .i + 1)) (sym top) (top-more (a .t .now) (l .i) (l .top) (l .inv .1 .1)),
+      ),
+    )
 
 returns-3 : tie.Need-returns-3 Inv-loop μ-loop
 returns-3 c =
     let a = c .before .before .before .before .before .before .args in
     let l = c .before .loop in
     let past : a .n ≤ l .i = omega arith in
-    sym (checked-sound (a .n) (a .t .now) (sym (c .before .before .before .before .whole-right .ensures) ∙ not-false _ (c .before .before .before .if1 .left)) (λ i h. l .inv .1 i (omega arith)))
+    sym (checked-sound (a .n) (a .t .now) (sym (c .before .before .before .before .whole-right .ensures) ∙ not-false _ (c .before .before .before .if1 .left)) (λ i h. l .inv .1 .0 i (omega arith)))
 
 pub is-sound-spec : {M : Type 1} → statement M
 is-sound-spec =
@@ -77,6 +96,8 @@ is-sound-spec =
     loop-holds
     place-right-requires
     returns-2
+    serial-at-requires
+    higher-requires
     add-i
     loop-less
     loop-again

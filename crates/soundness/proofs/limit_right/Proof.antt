@@ -6,7 +6,7 @@ use Rattle.soundness.proofs.limit_right.Tie as tie
 use Prim.Native.Nat.{_-_}
 use borrow.Author.Tests.{eq-eqb, ne-eqb}
 use Rattle.octets.proofs.If.{ifb-true, ifb-false}
-use Rattle.soundness.proofs.Bools.{and-cong}
+use Rattle.octets.proofs.Bools.{and-cong}
 use mathlib.Core.Path.{refl, sym, _∙_}
 use Rattle.soundness.specs.Sound.{limitRight}
 

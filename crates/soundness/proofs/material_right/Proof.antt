@@ -1,21 +1,67 @@
--- `soundness::material_right`. The two tests are the definition's.
+-- `soundness::material_right`. What is lent is the material from where its zeros start.
 -- Assumes nothing.
+use Prim.Native.Nat.{_-_}
+use mathlib.Core.Path.{sym, ap, _∙_}
+use borrow.Author.Needs.{needs}
+use Rattle.octets.specs.Octets.{allZero}
+use Rattle.soundness.proofs.Parts.{material-lent}
+use Rattle.soundness.proofs.Checked.{material-zeros}
 use borrow.Author.Needs.{needs}
 use Rattle.soundness.proofs.material_right.Statement.{statement}
 use Rattle.soundness.proofs.material_right.Tie as tie
-use Prim.Native.Nat.{_-_}
-use Rattle.soundness.proofs.Bools.{and-cong}
-use Rattle.soundness.specs.Checked.{materialRight}
+use Rattle.soundness.proofs.material_right.Reads as reads
+use Rattle.soundness.proofs.material_right.Lts as lts
+use Rattle.octets.proofs.all_zero.Reads as all-zero-reads
+use Rattle.soundness.proofs.zeros_from.Reads as zeros-from-reads
+use Rattle.table.proofs.Layout.body.Reads as body-reads
 
-tail-right-requires : tie.Need-tail-right-requires
-tail-right-requires c κs = search needs
+body-requires : tie.Need-body-requires
+body-requires c κs = search needs
 
-wiped-right-requires : tie.Need-wiped-right-requires
-wiped-right-requires c κs = search needs
+add-start : tie.Need-add-start
+add-start c = search needs
+
+zeros-from-requires : tie.Need-zeros-from-requires
+zeros-from-requires c κs = search needs
+
+add-from : tie.Need-add-from
+add-from c = search needs
+
+add-end : tie.Need-add-end
+add-end c = search needs
+
+sub-all-zero : tie.Need-sub-all-zero
+sub-all-zero c = search needs
+
+part-all-zero-start : tie.Need-part-all-zero-start
+part-all-zero-start c = search needs
+
+part-all-zero-end : tie.Need-part-all-zero-end
+part-all-zero-end c = search needs
+
+all-zero-requires : tie.Need-all-zero-requires
+all-zero-requires c κs = search needs
 
 returns : tie.Need-returns
-unfolding materialRight
-returns c = and-cong (c .before .tail-right .ensures) (c .wiped-right .ensures)
+returns c =
+    let a = c .before .before .before .before .before .args in
+    let p = c .before .before .before .before .before .pre in
+    let z = c .before .before .zeros-from in
+    c .all-zero .ensures
+    ∙ ap allZero (material-lent (a .n) (a .t .now) (a .i) (a .p) (c .before .before .before .body .result) (z .result) (p .0) (p .1 .0) (p .1 .1) (c .before .before .before .body .ensures) (z .ensures))
+    ∙ sym (material-zeros (a .p))
 
 pub material-right-spec : {M : Type 1} → statement M
-material-right-spec = tie.close (tie.spec tail-right-requires wiped-right-requires returns)
+material-right-spec =
+    tie.close
+    (tie.spec
+    body-requires
+    add-start
+    zeros-from-requires
+    add-from
+    add-end
+    sub-all-zero
+    part-all-zero-start
+    part-all-zero-end
+    all-zero-requires
+    returns)

@@ -1,7 +1,10 @@
 -- `soundness::standing_right`. The tests are the definition's, in its order.
 -- Assumes nothing.
 use Prim.Native.Nat.{_-_}
+use mathlib.Core.Path.{sym, ap, _∙_}
 use borrow.Author.Needs.{needs}
+use Rattle.table.specs.declared.Record.{Record}
+use Rattle.table.proofs.Places.{serial-is}
 use Rattle.soundness.proofs.Checked.{standing-parts}
 use Rattle.soundness.proofs.standing_right.Statement.{statement}
 use Rattle.soundness.proofs.standing_right.Tie as tie
@@ -25,13 +28,16 @@ forth-right-requires : tie.Need-forth-right-requires
 forth-right-requires c κs = search needs
 
 own-place-requires : tie.Need-own-place-requires
-own-place-requires c κs = search needs
+own-place-requires c κs =
+    let a = c .before .before .before .before .before .before .before .args in
+    let p = c .before .before .before .before .before .before .before .pre in
+    (p .0, (p .1 .0, (ap (λ (r : Record). r .serial) (p .1 .1 .1 .0) ∙ sym (serial-is (a .n) (a .t .now) (a .i)), p .1 .1 .1 .1)))
 
 returns : tie.Need-returns
 returns c =
     let a = c .before .before .before .before .before .before .before .before .args in
     standing-parts (a .n) (a .t .now) (a .i) (a .last) (a .p)
-    (c .before .before .before .before .before .before .before .before .pre .1 .1)
+    (c .before .before .before .before .before .before .before .before .pre .1 .1 .0)
     (c .before .before .before .before .before .before .zeros-right .ensures)
     (c .before .before .before .before .before .values-right .ensures)
     (c .before .before .before .before .material-right .ensures)

@@ -9,7 +9,7 @@ use borrow.Author.Needs.{needs}
 use borrow.Author.Tests.{eqb-true, not-true, not-false}
 use Rattle.table.specs.Layout.{sizeOf}
 use Rattle.soundness.specs.Sound.{countRight, leadRight}
-use Rattle.soundness.proofs.Bools.{and-cong}
+use Rattle.octets.proofs.Bools.{and-cong}
 use Rattle.soundness.proofs.Checked.{whole-sized, whole-unsized}
 use Rattle.soundness.proofs.whole_right.Statement.{statement}
 use Rattle.soundness.proofs.whole_right.Tie as tie

@@ -6,10 +6,10 @@ use Rattle.table.proofs.last_serial.Statement.{statement}
 use Rattle.table.proofs.last_serial.Tie as tie
 use Rattle.table.proofs.last_serial.Reads as reads
 use Rattle.table.proofs.last_serial.Lts as lts
-use Rattle.table.proofs.field.Reads as field-reads
+use Rattle.octets.proofs.number_at.Reads as number-at-reads
 
-field-requires : tie.Need-field-requires
-field-requires c κs = search needs
+number-at-requires : tie.Need-number-at-requires
+number-at-requires c κs = search needs
 
 cast-result : tie.Need-cast-result
 cast-result c = search needs
@@ -19,4 +19,4 @@ unfolding lastSerial
 returns c = cc
 
 pub last-serial-spec : {M : Type 1} → statement M
-last-serial-spec = tie.close (tie.spec field-requires cast-result returns)
+last-serial-spec = tie.close (tie.spec number-at-requires cast-result returns)

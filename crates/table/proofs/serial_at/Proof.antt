@@ -7,13 +7,13 @@ use Rattle.table.proofs.serial_at.Tie as tie
 use Rattle.table.proofs.serial_at.Reads as reads
 use Rattle.table.proofs.serial_at.Lts as lts
 use Rattle.table.proofs.Layout.line.Reads as line-reads
-use Rattle.table.proofs.field.Reads as field-reads
+use Rattle.octets.proofs.number_at.Reads as number-at-reads
 
 line-requires : tie.Need-line-requires
 line-requires c κs = search needs
 
-field-requires : tie.Need-field-requires
-field-requires c κs = search needs
+number-at-requires : tie.Need-number-at-requires
+number-at-requires c κs = search needs
 
 cast-result : tie.Need-cast-result
 cast-result c = search needs
@@ -23,4 +23,4 @@ unfolding serialAt
 returns c = cc
 
 pub serial-at-spec : {M : Type 1} → statement M
-serial-at-spec = tie.close (tie.spec line-requires field-requires cast-result returns)
+serial-at-spec = tie.close (tie.spec line-requires number-at-requires cast-result returns)

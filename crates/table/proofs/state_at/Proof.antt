@@ -7,16 +7,16 @@ use Rattle.table.proofs.state_at.Tie as tie
 use Rattle.table.proofs.state_at.Reads as reads
 use Rattle.table.proofs.state_at.Lts as lts
 use Rattle.table.proofs.Layout.line.Reads as line-reads
-use Rattle.table.proofs.field.Reads as field-reads
+use Rattle.octets.proofs.number_at.Reads as number-at-reads
 
 line-requires : tie.Need-line-requires
 line-requires c κs = search needs
 
-add-field : tie.Need-add-field
-add-field c = search needs
+add-number-at : tie.Need-add-number-at
+add-number-at c = search needs
 
-field-requires : tie.Need-field-requires
-field-requires c κs = search needs
+number-at-requires : tie.Need-number-at-requires
+number-at-requires c κs = search needs
 
 cast-result : tie.Need-cast-result
 cast-result c = search needs
@@ -26,4 +26,4 @@ unfolding stateAt
 returns c = cc
 
 pub state-at-spec : {M : Type 1} → statement M
-state-at-spec = tie.close (tie.spec line-requires add-field field-requires cast-result returns)
+state-at-spec = tie.close (tie.spec line-requires add-number-at number-at-requires cast-result returns)

@@ -6,7 +6,7 @@ use mathlib.Core.Logic.{⊎-elim}
 use lib.Dec.{eqb}
 use borrow.Author.Tests.{eq-eqb, ne-eqb}
 use Rattle.ttlv.specs.Types.{longInteger, boolean, dateTime, dateTimeExtended}
-use Rattle.ttlv.proofs.Bools.{or-first, or-second}
+use Rattle.octets.proofs.Bools.{or-first, or-second}
 use Rattle.ttlv.proofs.is_long.Statement.{statement}
 use Rattle.ttlv.proofs.is_long.Tie as tie
 use Rattle.ttlv.proofs.is_long.Reads as reads

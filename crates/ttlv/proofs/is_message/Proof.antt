@@ -5,7 +5,7 @@ use native.Mathlib.Omega.{arith}
 use lib.ListN.{length}
 use lib.Dec.{eqb}
 use borrow.Author.Tests.{eq-eqb, ne-eqb}
-use Rattle.ttlv.proofs.Bools.{and-no, and-second}
+use Rattle.octets.proofs.Bools.{and-no, and-second}
 use Rattle.ttlv.proofs.Step.{group-ends}
 use Rattle.ttlv.proofs.One.{one-end, one-bad, one-value, one-group}
 use borrow.Author.Needs.{needs}

@@ -7,7 +7,7 @@ use lib.Dec.{eqb, leb}
 use borrow.Author.Tests.{eq-eqb, ne-eqb, le-leb, lt-leb}
 use Rattle.octets.proofs.If.{ifb-true, ifb-false}
 use Rattle.ttlv.specs.Types.{structure, bigInteger, textString, byteString, isWord, isLong, lengthOk}
-use Rattle.ttlv.proofs.Bools.{and-second, and-no, or-first, or-second}
+use Rattle.octets.proofs.Bools.{and-second, and-no, or-first, or-second}
 use borrow.Author.Needs.{needs}
 use Rattle.ttlv.proofs.length_ok.Statement.{statement}
 use Rattle.ttlv.proofs.length_ok.Tie as tie

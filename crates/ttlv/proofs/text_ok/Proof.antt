@@ -9,7 +9,7 @@ use lib.Dec.{leb}
 use borrow.Author.Tests.{lt-leb, le-leb}
 use Rattle.octets.specs.Octets.{all}
 use Rattle.ttlv.specs.Types.{isTextByte, text}
-use Rattle.ttlv.proofs.Bools.{and-i, and-second, and-no}
+use Rattle.octets.proofs.Bools.{and-i, and-second, and-no}
 use Rattle.octets.proofs.All.{all-go, all-stop, all-end}
 use borrow.Author.Needs.{needs}
 use Rattle.ttlv.proofs.text_ok.Statement.{statement}

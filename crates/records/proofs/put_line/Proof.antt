@@ -1,11 +1,11 @@
--- `table::put_line`. The six fields, written one after another, are the line.
+-- `records::put_line`. The six fields, written one after another, are the line.
 -- Assumes nothing.
 use Rattle.table.proofs.Lines.{line-chain}
 use borrow.Author.Needs.{needs}
-use Rattle.table.proofs.put_line.Statement.{statement}
-use Rattle.table.proofs.put_line.Tie as tie
-use Rattle.table.proofs.put_line.Reads as reads
-use Rattle.table.proofs.put_line.Lts as lts
+use Rattle.records.proofs.put_line.Statement.{statement}
+use Rattle.records.proofs.put_line.Tie as tie
+use Rattle.records.proofs.put_line.Reads as reads
+use Rattle.records.proofs.put_line.Lts as lts
 use Rattle.octets.proofs.put.Reads as put-reads
 
 put-requires : tie.Need-put-requires

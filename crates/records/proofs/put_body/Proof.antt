@@ -1,11 +1,11 @@
--- `table::put_body`. The five fields, written one after another, are the body.
+-- `records::put_body`. The five fields, written one after another, are the body.
 -- Assumes nothing.
 use Rattle.table.proofs.Lines.{body-chain}
 use borrow.Author.Needs.{needs}
-use Rattle.table.proofs.put_body.Statement.{statement}
-use Rattle.table.proofs.put_body.Tie as tie
-use Rattle.table.proofs.put_body.Reads as reads
-use Rattle.table.proofs.put_body.Lts as lts
+use Rattle.records.proofs.put_body.Statement.{statement}
+use Rattle.records.proofs.put_body.Tie as tie
+use Rattle.records.proofs.put_body.Reads as reads
+use Rattle.records.proofs.put_body.Lts as lts
 use Rattle.octets.proofs.put.Reads as put-reads
 use Rattle.octets.proofs.put_all.Reads as put-all-reads
 

@@ -1,4 +1,4 @@
--- `table::material_at`. The front of the array is what stands from `at` on, as far as it was copied.
+-- `records::material_at`. The front of the array is what stands from `at` on, as far as it was copied.
 -- Assumes nothing.
 use Prim.Native.Nat.{_-_, _≤_}
 use mathlib.Core.Path.{_≡_, refl, sym, _∙_}
@@ -7,11 +7,11 @@ use lib.ListN.{length, take, length-set}
 use lib.Seq.{take-all}
 use Rattle.octets.specs.Octets.{part}
 use Rattle.octets.proofs.Stores.{prefix-more}
 use Rattle.table.specs.Layout.{materialSize}
-use Rattle.table.proofs.material_at.Statement.{statement}
-use Rattle.table.proofs.material_at.Tie as tie
-use Rattle.table.proofs.material_at.Reads as reads
-use Rattle.table.proofs.material_at.Lts as lts
+use Rattle.records.proofs.material_at.Statement.{statement}
+use Rattle.records.proofs.material_at.Tie as tie
+use Rattle.records.proofs.material_at.Reads as reads
+use Rattle.records.proofs.material_at.Lts as lts
 
 abbrev Inv-loop : tie.InvT-loop
 Inv-loop t at m₀ k₀ m k = (k ≤ materialSize) × ((length m ≡ materialSize) × (take k m ≡ part t at k))

@@ -1,0 +1,131 @@
+-- `records::load`. The fields, read one by one, are the record at the place.
+-- Assumes nothing.
+use Rattle.table.proofs.Places.{place-fields}
+use borrow.Author.Needs.{needs}
+use Rattle.records.proofs.load.Statement.{statement}
+use Rattle.records.proofs.load.Tie as tie
+use Rattle.records.proofs.load.Reads as reads
+use Rattle.records.proofs.load.Lts as lts
+use Rattle.table.proofs.Layout.body.Reads as body-reads
+use Rattle.table.proofs.Layout.line.Reads as line-reads
+use Rattle.octets.proofs.number_at.Reads as number-at-reads
+use Rattle.records.proofs.material_at.Reads as material-at-reads
+
+line-requires : tie.Need-line-requires
+line-requires c κs = search needs
+
+body-requires : tie.Need-body-requires
+body-requires c κs = search needs
+
+number-at-requires : tie.Need-number-at-requires
+number-at-requires c κs = search needs
+
+cast-serial : tie.Need-cast-serial
+cast-serial c = search needs
+
+add-number-at : tie.Need-add-number-at
+add-number-at c = search needs
+
+number-at-requires-2 : tie.Need-number-at-requires-2
+number-at-requires-2 c κs = search needs
+
+cast-state : tie.Need-cast-state
+cast-state c = search needs
+
+add-number-at-2 : tie.Need-add-number-at-2
+add-number-at-2 c = search needs
+
+number-at-requires-3 : tie.Need-number-at-requires-3
+number-at-requires-3 c κs = search needs
+
+cast-unit : tie.Need-cast-unit
+cast-unit c = search needs
+
+add-number-at-3 : tie.Need-add-number-at-3
+add-number-at-3 c = search needs
+
+number-at-requires-4 : tie.Need-number-at-requires-4
+number-at-requires-4 c κs = search needs
+
+cast-bits : tie.Need-cast-bits
+cast-bits c = search needs
+
+add-number-at-4 : tie.Need-add-number-at-4
+add-number-at-4 c = search needs
+
+number-at-requires-5 : tie.Need-number-at-requires-5
+number-at-requires-5 c κs = search needs
+
+cast-replaced : tie.Need-cast-replaced
+cast-replaced c = search needs
+
+add-number-at-5 : tie.Need-add-number-at-5
+add-number-at-5 c = search needs
+
+number-at-requires-6 : tie.Need-number-at-requires-6
+number-at-requires-6 c κs = search needs
+
+cast-replacement : tie.Need-cast-replacement
+cast-replacement c = search needs
+
+number-at-requires-7 : tie.Need-number-at-requires-7
+number-at-requires-7 c κs = search needs
+
+add-number-at-6 : tie.Need-add-number-at-6
+add-number-at-6 c = search needs
+
+number-at-requires-8 : tie.Need-number-at-requires-8
+number-at-requires-8 c κs = search needs
+
+add-number-at-7 : tie.Need-add-number-at-7
+add-number-at-7 c = search needs
+
+number-at-requires-9 : tie.Need-number-at-requires-9
+number-at-requires-9 c κs = search needs
+
+cast-mask : tie.Need-cast-mask
+cast-mask c = search needs
+
+add-material-at : tie.Need-add-material-at
+add-material-at c = search needs
+
+material-at-requires : tie.Need-material-at-requires
+material-at-requires c κs = search needs
+
+returns : tie.Need-returns
+returns c =
+    let a = c .before .before .before .before .before .before .before .before .before .before .before .before .before .args in
+    cc (place-fields (a .n) (a .t .now) (a .i))
+
+pub load-spec : {M : Type 1} → statement M
+load-spec =
+    tie.close
+    (tie.spec
+    line-requires
+    body-requires
+    number-at-requires
+    cast-serial
+    add-number-at
+    number-at-requires-2
+    cast-state
+    add-number-at-2
+    number-at-requires-3
+    cast-unit
+    add-number-at-3
+    number-at-requires-4
+    cast-bits
+    add-number-at-4
+    number-at-requires-5
+    cast-replaced
+    add-number-at-5
+    number-at-requires-6
+    cast-replacement
+    number-at-requires-7
+    add-number-at-6
+    number-at-requires-8
+    add-number-at-7
+    number-at-requires-9
+    cast-mask
+    add-material-at
+    material-at-requires
+    returns)

@@ -1,0 +1,42 @@
+-- `records::replaced`. The field of the line is the record's.
+-- Assumes nothing.
+use Prim.Native.Nat.{ℕ, _+_}
+use mathlib.Core.Path.{ap, _∙_}
+use Rattle.octets.specs.Octets.{fromBe, part}
+use Rattle.table.specs.declared.Record.{Record}
+use Rattle.table.proofs.Places.{place-fields}
+use borrow.Author.Needs.{needs}
+use Rattle.records.proofs.replaced.Statement.{statement}
+use Rattle.records.proofs.replaced.Tie as tie
+use Rattle.records.proofs.replaced.Reads as reads
+use Rattle.records.proofs.replaced.Lts as lts
+use Rattle.octets.proofs.number_at.Reads as number-at-reads
+use Rattle.table.proofs.Layout.line.Reads as line-reads
+
+-- src/lib.rt:64:9
+line-requires : tie.Need-line-requires
+line-requires c κs = search needs
+
+-- src/lib.rt:65:26
+add-number-at : tie.Need-add-number-at
+add-number-at c = search needs
+
+-- src/lib.rt:65:5
+number-at-requires : tie.Need-number-at-requires
+number-at-requires c κs = search needs
+
+-- src/lib.rt:65:5
+cast-result : tie.Need-cast-result
+cast-result c = search needs
+
+-- src/lib.rt:60:1
+returns : tie.Need-returns
+returns c =
+    let a = c .before .before .before .args in
+    c .number-at .ensures .0
+    ∙ ap (λ (line : ℕ). fromBe (part (a .t .now) (line + 8) 4)) (c .before .line .ensures)
+    ∙ ap (λ (r : Record). r .replaced) (place-fields (a .n) (a .t .now) (a .i))
+
+pub replaced-spec : {M : Type 1} → statement M
+replaced-spec =
+    tie.close (tie.spec line-requires add-number-at number-at-requires cast-result returns)

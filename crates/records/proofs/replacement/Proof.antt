@@ -1,0 +1,42 @@
+-- `records::replacement`. The field of the line is the record's.
+-- Assumes nothing.
+use Prim.Native.Nat.{ℕ, _+_}
+use mathlib.Core.Path.{ap, _∙_}
+use Rattle.octets.specs.Octets.{fromBe, part}
+use Rattle.table.specs.declared.Record.{Record}
+use Rattle.table.proofs.Places.{place-fields}
+use borrow.Author.Needs.{needs}
+use Rattle.records.proofs.replacement.Statement.{statement}
+use Rattle.records.proofs.replacement.Tie as tie
+use Rattle.records.proofs.replacement.Reads as reads
+use Rattle.records.proofs.replacement.Lts as lts
+use Rattle.octets.proofs.number_at.Reads as number-at-reads
+use Rattle.table.proofs.Layout.line.Reads as line-reads
+
+-- src/lib.rt:73:9
+line-requires : tie.Need-line-requires
+line-requires c κs = search needs
+
+-- src/lib.rt:74:26
+add-number-at : tie.Need-add-number-at
+add-number-at c = search needs
+
+-- src/lib.rt:74:5
+number-at-requires : tie.Need-number-at-requires
+number-at-requires c κs = search needs
+
+-- src/lib.rt:74:5
+cast-result : tie.Need-cast-result
+cast-result c = search needs
+
+-- src/lib.rt:69:1
+returns : tie.Need-returns
+returns c =
+    let a = c .before .before .before .args in
+    c .number-at .ensures .0
+    ∙ ap (λ (line : ℕ). fromBe (part (a .t .now) (line + 12) 4)) (c .before .line .ensures)
+    ∙ ap (λ (r : Record). r .replacement) (place-fields (a .n) (a .t .now) (a .i))
+
+pub replacement-spec : {M : Type 1} → statement M
+replacement-spec =
+    tie.close (tie.spec line-requires add-number-at number-at-requires cast-result returns)
