@@ -1,0 +1,1303 @@
+#!/usr/bin/env python3
+"""Writes the bench cards: `stdin`, the script that the program `cards` runs, and `stdout`, what has to come of it.
+
+Both are worked out from the papers alone: TTLV, tags and numbers from KMIP 2.1, rules from the plan ("01"). No engine is asked and none is
+imitated: each card is written down as what is asked together with the answer that the rules give it. Where the papers print bytes, they stand
+here as printed and the builders below are checked against them.
+"""
+
+import pathlib
+
+# ---- TTLV: tag 3 bytes, type 1, length 4, value, zero padding to a multiple of 8 that the length does not count
+
+
+def ttlv(tag, kind, value):
+    return tag.to_bytes(3, "big") + bytes([kind]) + len(value).to_bytes(4, "big") + value + bytes(-len(value) % 8)
+
+
+def structure(tag, *items):
+    return ttlv(tag, 0x01, b"".join(items))
+
+
+def integer(tag, number):
+    return ttlv(tag, 0x02, number.to_bytes(4, "big", signed=True))
+
+
+def long_integer(tag, number):
+    return ttlv(tag, 0x03, number.to_bytes(8, "big", signed=True))
+
+
+def enumeration(tag, number):
+    return ttlv(tag, 0x05, number.to_bytes(4, "big"))
+
+
+def boolean(tag, number):
+    return ttlv(tag, 0x06, number.to_bytes(8, "big"))
+
+
+def text(tag, letters):
+    return ttlv(tag, 0x07, letters.encode("latin-1"))
+
+
+def byte_string(tag, value):
+    return ttlv(tag, 0x08, value)
+
+
+def date_time(tag, number):
+    return ttlv(tag, 0x09, number.to_bytes(8, "big", signed=True))
+
+
+def interval(tag, number):
+    return ttlv(tag, 0x0A, number.to_bytes(4, "big"))
+
+
+# ---- tags (KMIP 2.1, section 11.56)
+
+BATCH_COUNT = 0x42000D
+BATCH_ERROR_CONTINUATION_OPTION = 0x42000E
+BATCH_ITEM = 0x42000F
+CRYPTOGRAPHIC_ALGORITHM = 0x420028
+CRYPTOGRAPHIC_LENGTH = 0x42002A
+CRYPTOGRAPHIC_USAGE_MASK = 0x42002C
+LINK = 0x42004A
+LINK_TYPE = 0x42004B
+LINKED_OBJECT_IDENTIFIER = 0x42004C
+NAME = 0x420053
+NAME_TYPE = 0x420054
+NAME_VALUE = 0x420055
+OBJECT_TYPE = 0x420057
+OFFSET = 0x420058
+OPERATION = 0x42005C
+PROTOCOL_VERSION = 0x420069
+PROTOCOL_VERSION_MAJOR = 0x42006A
+PROTOCOL_VERSION_MINOR = 0x42006B
+REQUEST_HEADER = 0x420077
+REQUEST_MESSAGE = 0x420078
+REQUEST_PAYLOAD = 0x420079
+RESPONSE_HEADER = 0x42007A
+RESPONSE_MESSAGE = 0x42007B
+RESPONSE_PAYLOAD = 0x42007C
+RESULT_REASON = 0x42007E
+RESULT_STATUS = 0x42007F
+REVOCATION_MESSAGE = 0x420080
+REVOCATION_REASON = 0x420081
+REVOCATION_REASON_CODE = 0x420082
+STATE = 0x42008D
+TIME_STAMP = 0x420092
+UNIQUE_BATCH_ITEM_ID = 0x420093
+UNIQUE_IDENTIFIER = 0x420094
+USAGE_LIMITS = 0x420095
+USAGE_LIMITS_COUNT = 0x420096
+USAGE_LIMITS_TOTAL = 0x420097
+USAGE_LIMITS_UNIT = 0x420098
+ATTRIBUTES = 0x420125
+OTHER = 0x420020  # a tag that no payload names
+
+# ---- operations, options, reasons
+
+CREATE = 0x01
+REKEY = 0x04
+GET_ATTRIBUTES = 0x0B
+ALLOCATE = 0x11
+ACTIVATE = 0x12
+REVOKE = 0x13
+DESTROY = 0x14
+
+CONTINUE = 1
+STOP = 2
+
+NOT_SUPPORTED = 0x05
+INVALID_FIELD = 0x07
+PERMISSION_DENIED = 0x0C
+USAGE_LIMIT_EXCEEDED = 0x1A
+OBJECT_DESTROYED = 0x36
+OBJECT_NOT_FOUND = 0x37
+SERVER_LIMIT_EXCEEDED = 0x3A
+WRONG_STATE = 0x43
+
+# ---- requests
+
+
+def header(version, option, count):
+    major, minor = version
+    fields = [structure(PROTOCOL_VERSION, integer(PROTOCOL_VERSION_MAJOR, major), integer(PROTOCOL_VERSION_MINOR, minor))]
+    if option is not None:
+        fields.append(enumeration(BATCH_ERROR_CONTINUATION_OPTION, option))
+    fields.append(integer(BATCH_COUNT, count))
+    return structure(REQUEST_HEADER, *fields)
+
+
+def request(*items, option=None, version=(2, 1), count=None):
+    return structure(REQUEST_MESSAGE, header(version, option, len(items) if count is None else count), *items)
+
+
+def item_of(operation, id, *rest):
+    """A batch item; the same front in requests and responses."""
+    named = [] if id is None else [byte_string(UNIQUE_BATCH_ITEM_ID, id)]
+    return structure(BATCH_ITEM, enumeration(OPERATION, operation), *named, *rest)
+
+
+def ask(operation, *payload, id=None):
+    return item_of(operation, id, structure(REQUEST_PAYLOAD, *payload))
+
+
+def identifier(name):
+    return text(UNIQUE_IDENTIFIER, name)
+
+
+def target(name):
+    return [] if name is None else [identifier(name)]
+
+
+def limit(total, unit):
+    return structure(USAGE_LIMITS, long_integer(USAGE_LIMITS_TOTAL, total), enumeration(USAGE_LIMITS_UNIT, unit))
+
+
+def wanted(*more, algorithm=3, bits=128, mask=4):
+    """The Attributes of a Create."""
+    return structure(
+        ATTRIBUTES,
+        enumeration(CRYPTOGRAPHIC_ALGORITHM, algorithm),
+        integer(CRYPTOGRAPHIC_LENGTH, bits),
+        integer(CRYPTOGRAPHIC_USAGE_MASK, mask),
+        *more,
+    )
+
+
+def symmetric_key():
+    return enumeration(OBJECT_TYPE, 2)
+
+
+def create(*more, id=None, **attributes):
+    return ask(CREATE, symmetric_key(), wanted(*more, **attributes), id=id)
+
+
+def rekey(name=None, *more, id=None):
+    return ask(REKEY, *target(name), *more, id=id)
+
+
+def allocate(name, count, id=None):
+    return ask(ALLOCATE, *target(name), long_integer(USAGE_LIMITS_COUNT, count), id=id)
+
+
+def activate(name=None, *more, id=None):
+    return ask(ACTIVATE, *target(name), *more, id=id)
+
+
+def reason_code(code):
+    return structure(REVOCATION_REASON, enumeration(REVOCATION_REASON_CODE, code))
+
+
+def revoke(name, code, id=None):
+    return ask(REVOKE, *target(name), reason_code(code), id=id)
+
+
+def destroy(name=None, *more, id=None):
+    return ask(DESTROY, *target(name), *more, id=id)
+
+
+def attributes(name=None, *more, id=None):
+    return ask(GET_ATTRIBUTES, *target(name), *more, id=id)
+
+
+# ---- responses
+
+
+def response(*answers, clock=0):
+    version = structure(PROTOCOL_VERSION, integer(PROTOCOL_VERSION_MAJOR, 2), integer(PROTOCOL_VERSION_MINOR, 1))
+    front = structure(RESPONSE_HEADER, version, date_time(TIME_STAMP, clock), integer(BATCH_COUNT, len(answers)))
+    return structure(RESPONSE_MESSAGE, front, *answers)
+
+
+def done(operation, *payload, id=None):
+    return item_of(operation, id, enumeration(RESULT_STATUS, 0), structure(RESPONSE_PAYLOAD, *payload))
+
+
+def failed(operation, reason, id=None):
+    return item_of(operation, id, enumeration(RESULT_STATUS, 1), enumeration(RESULT_REASON, reason))
+
+
+def created(name, id=None):
+    return done(CREATE, symmetric_key(), identifier(name), id=id)
+
+
+def named(operation, name, id=None):
+    """Success that answers an identifier alone."""
+    return done(operation, identifier(name), id=id)
+
+
+def link(kind, name):
+    return structure(LINK, enumeration(LINK_TYPE, kind), text(LINKED_OBJECT_IDENTIFIER, name))
+
+
+def shown(name, state, bits=128, mask=4, limit=None, replaced=None, replacement=None, id=None):
+    """Success of Get Attributes; limit is total, count and unit."""
+    fields = [
+        enumeration(CRYPTOGRAPHIC_ALGORITHM, 3),
+        integer(CRYPTOGRAPHIC_LENGTH, bits),
+        integer(CRYPTOGRAPHIC_USAGE_MASK, mask),
+        enumeration(STATE, state),
+    ]
+    if limit is not None:
+        total, count, unit = limit
+        amounts = [long_integer(USAGE_LIMITS_TOTAL, total), long_integer(USAGE_LIMITS_COUNT, count)]
+        fields.append(structure(USAGE_LIMITS, *amounts, enumeration(USAGE_LIMITS_UNIT, unit)))
+    if replaced is not None:
+        fields.append(link(0x107, replaced))
+    if replacement is not None:
+        fields.append(link(0x106, replacement))
+    return done(GET_ATTRIBUTES, identifier(name), structure(ATTRIBUTES, *fields), id=id)
+
+
+# ---- the stored table: a lead of 16 bytes, 64 lines of 16, 64 bodies of 56
+
+PLACES = 64
+TABLE_SIZE = 4624
+
+
+def line_at(place):
+    return 16 + 16 * place
+
+
+def body_at(place):
+    return 16 + 16 * PLACES + 56 * place
+
+
+def lead(last):
+    return last.to_bytes(4, "big") + PLACES.to_bytes(4, "big") + bytes(8)
+
+
+def line(serial, state, unit=0, bits=128, replaced=0, replacement=0):
+    numbers = [(serial, 4), (state, 1), (unit, 1), (bits, 2), (replaced, 4), (replacement, 4)]
+    return b"".join(number.to_bytes(size, "big") for number, size in numbers)
+
+
+def body(total=0, count=0, mask=4, material=b""):
+    numbers = [(total, 8), (count, 8), (mask, 4), (0, 4)]
+    return b"".join(number.to_bytes(size, "big") for number, size in numbers) + material.ljust(32, b"\0")
+
+
+def fresh(item, size):
+    """The bytes of the strip that a new key takes from the item at this position in its batch: bytes 0 to 255 twice, 32 for each item."""
+    return bytes((32 * item + k) % 256 for k in range(size))
+
+
+# ---- printed bytes
+
+
+def unhex(printed):
+    return bytes.fromhex(printed)
+
+
+# 01, "Bench cards": the whole response to an Activate of "00000001"
+PRINTED_ACTIVATED = unhex(
+    "42007B01 00000090 42007A01 00000048 42006901 00000020 42006A02 00000004 00000002 00000000 42006B02 00000004 00000001 00000000"
+    "42009209 00000008 00000000 00000000 42000D02 00000004 00000001 00000000 42000F01 00000038 42005C05 00000004 00000012 00000000"
+    "42007F05 00000004 00000000 00000000 42007C01 00000010 42009407 00000008 30303030 30303031"
+)
+# worked out beside the papers: a Create of 128 bits with mask 4, its answer on a blank table, and the two answers to a bad Create and an
+# Activate without identifier under Continue
+PRINTED_CREATE = unhex(
+    "42007801 000000A8 42007701 00000038 42006901 00000020 42006A02 00000004 00000002 00000000 42006B02 00000004 00000001 00000000"
+    "42000D02 00000004 00000001 00000000 42000F01 00000060 42005C05 00000004 00000001 00000000 42007901 00000048 42005705 00000004"
+    "00000002 00000000 42012501 00000030 42002805 00000004 00000003 00000000 42002A02 00000004 00000080 00000000 42002C02 00000004"
+    "00000004 00000000"
+)
+PRINTED_CREATED = unhex(
+    "42007B01 000000A0 42007A01 00000048 42006901 00000020 42006A02 00000004 00000002 00000000 42006B02 00000004 00000001 00000000"
+    "42009209 00000008 00000000 00000000 42000D02 00000004 00000001 00000000 42000F01 00000048 42005C05 00000004 00000001 00000000"
+    "42007F05 00000004 00000000 00000000 42007C01 00000020 42005705 00000004 00000002 00000000 42009407 00000008 30303030 30303031"
+)
+PRINTED_BAD_CREATE = unhex(
+    "42007B01 000000C0 42007A01 00000048 42006901 00000020 42006A02 00000004 00000002 00000000 42006B02 00000004 00000001 00000000"
+    "42009209 00000008 00000000 00000000 42000D02 00000004 00000002 00000000 42000F01 00000030 42005C05 00000004 00000001 00000000"
+    "42007F05 00000004 00000001 00000000 42007E05 00000004 00000007 00000000 42000F01 00000030 42005C05 00000004 00000012 00000000"
+    "42007F05 00000004 00000001 00000000 42007E05 00000004 00000037 00000000"
+)
+PRINTED_NAME = unhex("42005301 00000020 42005507 00000004 70756D70 00000000 42005405 00000004 00000001 00000000")
+PRINTED_OFFSET = unhex("4200580A 00000004 000D2F00 00000000")
+
+
+def check_builders():
+    assert response(named(ACTIVATE, "00000001")) == PRINTED_ACTIVATED and len(PRINTED_ACTIVATED) == 152
+    assert request(create()) == PRINTED_CREATE and len(PRINTED_CREATE) == 176
+    assert response(created("00000001")) == PRINTED_CREATED and len(PRINTED_CREATED) == 168
+    assert response(failed(CREATE, INVALID_FIELD), failed(ACTIVATE, OBJECT_NOT_FOUND)) == PRINTED_BAD_CREATE
+    assert structure(NAME, text(NAME_VALUE, "pump"), enumeration(NAME_TYPE, 1)) == PRINTED_NAME
+    assert interval(OFFSET, 864000) == PRINTED_OFFSET
+    # sizes of answers with an ID of 16 bytes
+    id = bytes(16)
+    full = shown("00000002", 1, limit=(5, 5, 1), replaced="00000001", replacement="00000003", id=id)
+    assert len(failed(CREATE, INVALID_FIELD, id=id)) == 80
+    assert len(named(ACTIVATE, "00000001", id=id)) == 88
+    assert len(created("00000001", id=id)) == 104
+    assert len(full) == 296 and len(response(*[full] * 16)) == 4824
+    assert len(request(create(limit(1, 1), id=id))) == 72 + 168
+    assert line_at(1) - line_at(0) == 16 and body_at(0) == 1040 and body_at(PLACES) == TABLE_SIZE
+    assert len(lead(0)) == len(line(1, 1)) == 16 and len(body()) == 56
+
+
+# ---- the script and what comes of it
+
+
+def grouped(octets):
+    """Hex in groups of eight digits."""
+    digits = octets.hex().upper()
+    return " ".join(digits[at : at + 8] for at in range(0, len(digits), 8))
+
+
+class Script:
+    def __init__(self):
+        self.lines = []
+        self.expected = []
+        self.names = set()
+
+    def say(self, line):
+        self.lines.append(line)
+
+    def about(self, *words):
+        self.say("")
+        for line in words:
+            self.say("# " + line)
+
+    def blank(self):
+        self.say("blank")
+
+    def put(self, at, octets):
+        assert at + len(octets) <= TABLE_SIZE
+        self.say(f"put {at} {grouped(octets)}")
+
+    def name(self, name):
+        assert ": " not in name and name.isascii() and name not in self.names, name
+        self.names.add(name)
+
+    def expect(self, name, octets):
+        self.expected.append(f"{name}: {octets.hex().upper()}")
+
+    def table(self, name, at, octets):
+        """These bytes have to stand in the table."""
+        self.name(name)
+        self.say(f"table {name}: {at} {len(octets)}")
+        self.expect(name, octets)
+
+    def output(self, name, at, octets):
+        """These bytes have to stand in the output."""
+        self.name(name)
+        self.say(f"output {name}: {at} {len(octets)}")
+        self.expect(name, octets)
+
+    def refused(self, name, octets, number):
+        self.name(name)
+        self.say(f"request {name}: {grouped(octets)}")
+        self.expected.append(f"{name}: refusal {number}")
+
+    def answered(self, name, octets, answer):
+        self.name(name)
+        self.say(f"request {name}: {grouped(octets)}")
+        self.expect(name, answer)
+
+    def card(self, name, *pairs, option=None, clock=0):
+        """A batch: items asked, each with its answer, or with none where nothing more is answered."""
+        answers = [answer for _, answer in pairs if answer is not None]
+        asked = request(*[item for item, _ in pairs], option=option)
+        self.answered(name, asked, response(*answers, clock=clock))
+
+    def fails(self, name, item, operation, reason):
+        """A batch of one item, which fails."""
+        self.card(name, (item, failed(operation, reason)))
+
+    def key(self, place, line, body):
+        self.put(line_at(place), line)
+        self.put(body_at(place), body)
+
+    def bad(self, line):
+        """A line that is none of a script."""
+        self.say(line)
+        self.expected.append("bad line: " + line)
+
+
+ONE = "00000001"
+TWO = "00000002"
+THREE = "00000003"
+
+
+# ---- the cards that 01 lists, in its order
+
+
+def nested(depth):
+    """Structures inside each other, the innermost at this depth and empty."""
+    return structure(OTHER, nested(depth - 1)) if depth > 1 else structure(OTHER)
+
+
+def cards_of_depth(s):
+    s.about("01: depth 8 is read, depth 9 is refused. A request that is read and is no Request Message is refusal 6; a payload stands at depth 3.")
+    s.blank()
+    s.refused("01 depth 8, structures alone", nested(8), 6)
+    s.refused("01 depth 9, structures alone", nested(9), 5)
+    s.fails("01 depth 8 in a payload", activate(None, nested(5)), ACTIVATE, INVALID_FIELD)
+    s.refused("01 depth 9 in a payload", request(activate(None, nested(6))), 5)
+    s.fails("01 depth 8 in the payload of Ping", ask(0x3B, nested(5)), 0x3B, NOT_SUPPORTED)
+    s.refused("01 depth 9 in the payload of Ping", request(ask(0x3B, nested(6))), 5)
+
+
+def active_key_of_100(s, name):
+    s.blank()
+    s.card(f"{name}, Create", (create(limit(100, 2)), created(ONE)))
+    s.card(f"{name}, Activate", (activate(ONE), named(ACTIVATE, ONE)))
+
+
+def cards_of_grants(s):
+    s.about("01: an Active key, total 100, is granted 60 and 40, then 1.")
+    active_key_of_100(s, "01 total 100")
+    s.card("01 total 100, grant 60", (allocate(ONE, 60), named(ALLOCATE, ONE)))
+    s.table("01 count after 60", body_at(0), body(100, 40, 4, fresh(0, 16)))
+    s.card("01 total 100, grant 40", (allocate(ONE, 40), named(ALLOCATE, ONE)))
+    s.table("01 count after 60 and 40", body_at(0), body(100, 0, 4, fresh(0, 16)))
+    s.fails("01 total 100, grant 1", allocate(ONE, 1), ALLOCATE, USAGE_LIMIT_EXCEEDED)
+    s.table("01 count after 60, 40 and 1", body_at(0), body(100, 0, 4, fresh(0, 16)))
+    s.about("The same in one batch.")
+    s.blank()
+    s.card(
+        "01 total 100 in one batch",
+        (create(limit(100, 2)), created(ONE)),
+        (activate(), named(ACTIVATE, ONE)),
+        (allocate(None, 60), named(ALLOCATE, ONE)),
+        (allocate(None, 40), named(ALLOCATE, ONE)),
+        (allocate(None, 1), failed(ALLOCATE, USAGE_LIMIT_EXCEEDED)),
+    )
+    s.about("01: 101 first gives the same reason, and the count stays 100.")
+    active_key_of_100(s, "01 101 first")
+    s.fails("01 101 first, grant 101", allocate(ONE, 101), ALLOCATE, USAGE_LIMIT_EXCEEDED)
+    s.table("01 count after 101", body_at(0), body(100, 100, 4, fresh(0, 16)))
+
+
+def cards_of_the_end(s):
+    s.about("01: Destroy on Active fails; Revoke code 5, then Destroy: state 5. Then Revoke code 2: state 6.")
+    active_key_of_100(s, "01 end")
+    s.fails("01 Destroy on Active", destroy(ONE), DESTROY, WRONG_STATE)
+    s.table("01 line after Destroy on Active", line_at(0), line(1, 2, 2))
+    s.card("01 Revoke code 5", (revoke(ONE, 5), named(REVOKE, ONE)))
+    s.table("01 line after Revoke code 5", line_at(0), line(1, 3, 2))
+    s.card("01 Destroy after Revoke", (destroy(ONE), named(DESTROY, ONE)))
+    s.table("01 line after Destroy, state 5", line_at(0), line(1, 5, 2))
+    s.table("01 body after Destroy, no key byte", body_at(0), body(100, 100, 4))
+    s.card("01 Revoke code 2 after Destroy", (revoke(ONE, 2), named(REVOKE, ONE)))
+    s.table("01 line after Revoke code 2, state 6", line_at(0), line(1, 6, 2))
+
+
+def cards_of_rekey_twice(s):
+    s.about("01: Re-key twice on one key.")
+    s.blank()
+    s.card("01 Re-key twice, Create", (create(), created(ONE)))
+    s.card("01 Re-key once", (rekey(ONE), named(REKEY, TWO)))
+    s.fails("01 Re-key twice", rekey(ONE), REKEY, PERMISSION_DENIED)
+    s.table("01 lines after Re-key twice", line_at(0), line(1, 1, replacement=2) + line(2, 1, replaced=1) + bytes(16))
+
+
+def cards_of_bad_create(s):
+    s.about("01: a bad Create, then Activate without identifier: under Stop one answer, under Continue Invalid Field and Object Not Found.")
+    s.blank()
+    bad = create(bits=129)
+    s.card("01 bad Create, no option", (bad, failed(CREATE, INVALID_FIELD)), (activate(), None))
+    s.card("01 bad Create, Stop", (bad, failed(CREATE, INVALID_FIELD)), (activate(), None), option=STOP)
+    s.answered("01 bad Create, Continue", request(bad, activate(), option=CONTINUE), PRINTED_BAD_CREATE)
+    s.table("01 lead after bad Creates", 0, lead(0))
+
+
+def cards_of_room_and_batch(s):
+    s.about("01: output 4,823 is refusal 1.")
+    s.blank()
+    s.say("room 4823")
+    s.refused("01 output 4823", PRINTED_CREATE, 1)
+    s.table("01 lead after output 4823", 0, lead(0))
+    s.say("room 4824")
+    s.answered("01 output 4824", PRINTED_CREATE, PRINTED_CREATED)
+    s.about("01: a batch of 16 runs, one of 17 is refusal 8.")
+    s.blank()
+    s.refused("01 batch of 17", request(*[create()] * 17), 8)
+    s.table("01 lead after a batch of 17", 0, lead(0))
+    s.card("01 batch of 16", *[(create(), created(f"{serial:08X}")) for serial in range(1, 17)])
+    s.table("01 lead after a batch of 16", 0, lead(16))
+    s.table("01 body of place 15, from the end of the strip", body_at(15), body(0, 0, 4, fresh(15, 16)))
+
+
+def full_table(s):
+    """64 live keys: Active, without limit, serials 1 to 64 in order."""
+    s.blank()
+    s.put(0, lead(64)[:4])
+    s.put(line_at(0), b"".join(line(serial, 2) for serial in range(1, 65)))
+
+
+def cards_of_a_full_table(s):
+    s.about("01: 64 live keys: Create gives Server Limit Exceeded.")
+    full_table(s)
+    s.fails("01 64 live keys, Create", create(), CREATE, SERVER_LIMIT_EXCEEDED)
+    s.fails("64 live keys, Re-key", rekey(ONE), REKEY, SERVER_LIMIT_EXCEEDED)
+    s.table("01 lead after Create on 64 live keys", 0, lead(64))
+    s.about("01: place 9 destroyed: the new key sits there and the old identifier is not found.")
+    s.card("01 place 9, destroyed", (revoke("0000000A", 1), named(REVOKE, "0000000A")), (destroy("0000000A"), named(DESTROY, "0000000A")))
+    s.table("01 line of place 9, destroyed", line_at(9), line(10, 5))
+    s.card("01 place 9, Create", (create(bits=256, mask=12), created("00000041")))
+    s.table("01 lead after Create in place 9", 0, lead(65))
+    s.table("01 lines of places 8 to 10", line_at(8), line(9, 2) + line(65, 1, bits=256) + line(11, 2))
+    s.table("01 body of place 9", body_at(9), body(0, 0, 12, fresh(0, 32)))
+    s.fails("01 place 9, old identifier", attributes("0000000A"), GET_ATTRIBUTES, OBJECT_NOT_FOUND)
+    s.card("01 place 9, new identifier", (attributes("00000041"), shown("00000041", 1, bits=256, mask=12)))
+    s.about("A free place comes before a destroyed one, and of destroyed ones (state 5 or 6) the lowest is taken.")
+    full_table(s)
+    s.put(line_at(9), line(10, 5))
+    s.put(line_at(40), bytes(16))
+    s.card("free place 40 and destroyed place 9, Create", (create(), created("00000041")))
+    s.table("line of place 9 still destroyed", line_at(9), line(10, 5))
+    s.table("line of place 40 taken", line_at(40), line(65, 1))
+    full_table(s)
+    s.put(line_at(9), line(10, 6))
+    s.put(line_at(12), line(13, 5))
+    s.card("destroyed places 9 and 12, Re-key", (rekey(ONE), named(REKEY, "00000041")))
+    s.table("line of place 0 linked", line_at(0), line(1, 2, replacement=65))
+    s.table("line of place 9 taken by Re-key", line_at(9), line(65, 1, replaced=1))
+    s.table("line of place 12 still destroyed", line_at(12), line(13, 5))
+
+
+def cards_of_the_last_serial(s):
+    s.about('01: last serial FFFFFFFE: Create gives "FFFFFFFF", the next fails.')
+    s.blank()
+    s.put(0, lead(0xFFFFFFFE)[:4])
+    s.card("01 last serial FFFFFFFE, Create", (create(), created("FFFFFFFF")))
+    s.fails("01 last serial FFFFFFFF, Create", create(), CREATE, SERVER_LIMIT_EXCEEDED)
+    s.fails("last serial FFFFFFFF, Re-key", rekey("FFFFFFFF"), REKEY, SERVER_LIMIT_EXCEEDED)
+    s.table("01 lead after the last serial", 0, lead(0xFFFFFFFF))
+    s.table("01 lines after the last serial", line_at(0), line(0xFFFFFFFF, 1) + bytes(16))
+
+
+def cards_of_152_bytes(s):
+    s.about('01: Activate of the Pre-Active "00000001", alone, no Unique Batch Item ID, clock 0: the whole response of 152 bytes as 01 prints it.')
+    s.blank()
+    s.put(0, lead(1)[:4])
+    s.key(0, line(1, 1), body(0, 0, 4, fresh(0, 16)))
+    s.answered("01 Activate, 152 bytes", request(activate(ONE)), PRINTED_ACTIVATED)
+    s.table("01 line after Activate", line_at(0), line(1, 2))
+    s.output("output past the 152 bytes as it was", 152, b"\xFF" * 8)
+
+
+# ---- one operation after the other: successes, and each failure
+
+
+def cards_of_create(s):
+    s.about("Create: the request worked out beside the papers, on a blank table, with its answer of 168 bytes.")
+    s.blank()
+    s.answered("Create, printed request", PRINTED_CREATE, PRINTED_CREATED)
+    s.table("lead after Create", 0, lead(1))
+    s.table("line after Create", line_at(0), line(1, 1))
+    s.table("body after Create", body_at(0), body(0, 0, 4, fresh(0, 16)))
+    s.about("Values at their edges: each length, masks 0 and 00FFFFFF, totals 1 and 1,000,000,000,000, both units.")
+    s.blank()
+    trillion = 1_000_000_000_000
+    s.card(
+        "Create at its edges",
+        (create(limit(1, 1), bits=128, mask=0), created(ONE)),
+        (create(bits=192, mask=0x00FFFFFF), created(TWO)),
+        (create(limit(trillion, 2), bits=256, mask=1), created(THREE)),
+    )
+    s.table("lines after Create at its edges", line_at(0), line(1, 1, 1, 128) + line(2, 1, 0, 192) + line(3, 1, 2, 256))
+    bodies = body(1, 1, 0, fresh(0, 16)) + body(0, 0, 0x00FFFFFF, fresh(1, 24)) + body(trillion, trillion, 1, fresh(2, 32))
+    s.table("bodies after Create at its edges", body_at(0), bodies)
+    s.about("Create: Invalid Field.")
+    s.blank()
+    key, aes = symmetric_key(), enumeration(CRYPTOGRAPHIC_ALGORITHM, 3)
+    bits, mask = integer(CRYPTOGRAPHIC_LENGTH, 128), integer(CRYPTOGRAPHIC_USAGE_MASK, 4)
+    total, unit = long_integer(USAGE_LIMITS_TOTAL, 9), enumeration(USAGE_LIMITS_UNIT, 1)
+    with_count = structure(USAGE_LIMITS, total, long_integer(USAGE_LIMITS_COUNT, 9), unit)
+    for name, payload in [
+        ("nothing", []),
+        ("no attributes", [key]),
+        ("no object type", [wanted()]),
+        ("attributes before the object type", [wanted(), key]),
+        ("object type 1", [enumeration(OBJECT_TYPE, 1), wanted()]),
+        ("object type as Integer", [integer(OBJECT_TYPE, 2), wanted()]),
+        ("an identifier", [identifier(ONE), key, wanted()]),
+        ("something after the attributes", [key, wanted(), mask]),
+        ("algorithm 2", [key, wanted(algorithm=2)]),
+        ("length 129", [key, wanted(bits=129)]),
+        ("length 512", [key, wanted(bits=512)]),
+        ("length -128", [key, wanted(bits=-128)]),
+        ("length as Enumeration", [key, structure(ATTRIBUTES, aes, enumeration(CRYPTOGRAPHIC_LENGTH, 128), mask)]),
+        ("mask 01000000", [key, wanted(mask=0x01000000)]),
+        ("mask -1", [key, wanted(mask=-1)]),
+        ("mask as Enumeration", [key, structure(ATTRIBUTES, aes, bits, enumeration(CRYPTOGRAPHIC_USAGE_MASK, 4))]),
+        ("no mask", [key, structure(ATTRIBUTES, aes, bits)]),
+        ("mask before length", [key, structure(ATTRIBUTES, aes, mask, bits)]),
+        ("total 0", [key, wanted(limit(0, 1))]),
+        ("total -1", [key, wanted(limit(-1, 1))]),
+        ("total 1,000,000,000,001", [key, wanted(limit(trillion + 1, 1))]),
+        ("total as Integer", [key, wanted(structure(USAGE_LIMITS, integer(USAGE_LIMITS_TOTAL, 9), unit))]),
+        ("unit 0", [key, wanted(limit(9, 0))]),
+        ("unit 3", [key, wanted(limit(9, 3))]),
+        ("no unit", [key, wanted(structure(USAGE_LIMITS, total))]),
+        ("unit before total", [key, wanted(structure(USAGE_LIMITS, unit, total))]),
+        ("a count in the limits", [key, wanted(with_count)]),
+        ("two limits", [key, wanted(limit(9, 1), limit(9, 1))]),
+        ("a name", [key, wanted(PRINTED_NAME)]),
+    ]:
+        s.fails(f"Create with {name}", ask(CREATE, *payload), CREATE, INVALID_FIELD)
+    s.table("lead after Creates with invalid fields", 0, lead(0))
+
+
+def six_states(s):
+    """Six keys, in states 1 to 6 and with serials 1 to 6; of a total of 100 there are 50 left in each."""
+    s.blank()
+    s.put(0, lead(6)[:4])
+    s.put(line_at(0), b"".join(line(state, state, 2) for state in range(1, 7)))
+    s.put(body_at(0), b"".join(stored(state) for state in range(1, 7)))
+
+
+def material(state):
+    return bytes([0xA0 + state] * 16) if state < 5 else b""
+
+
+def stored(state):
+    return body(100, 50, 4, material(state))
+
+
+def on_six(s, name, operation, ask_of, results):
+    """An operation on the six keys, one after the other, under Continue: an answer's identifier, or the reason of a failure."""
+    pairs = []
+    for serial, result in zip(range(1, 7), results):
+        answer = named(operation, result) if isinstance(result, str) else failed(operation, result)
+        pairs.append((ask_of(f"{serial:08X}"), answer))
+    six_states(s)
+    s.card(name, *pairs, option=CONTINUE)
+
+
+def lines_of(*states):
+    return b"".join(line(serial, state, 2) for serial, state in zip(range(1, 7), states))
+
+
+FOUR = "00000004"
+FIVE = "00000005"
+SIX = "00000006"
+WRONG = WRONG_STATE
+
+
+def cards_of_activate(s):
+    s.about("Activate: Pre-Active to Active, else Wrong Key Lifecycle State.")
+    on_six(s, "Activate on states 1 to 6", ACTIVATE, activate, [ONE, WRONG, WRONG, WRONG, WRONG, WRONG])
+    s.table("lines after Activate on states 1 to 6", line_at(0), lines_of(2, 2, 3, 4, 5, 6))
+    s.fails("Activate of no key", activate("00000007"), ACTIVATE, OBJECT_NOT_FOUND)
+    s.fails("Activate without identifier", activate(), ACTIVATE, OBJECT_NOT_FOUND)
+    s.fails("Activate with something after the identifier", activate(TWO, integer(OTHER, 1)), ACTIVATE, INVALID_FIELD)
+    s.fails("Activate of no key with something after the identifier", activate("00000007", integer(OTHER, 1)), ACTIVATE, INVALID_FIELD)
+
+
+def cards_of_revoke(s):
+    s.about("Revoke: codes 2 and 3 are compromise (1, 2 and 3 become 4, 5 becomes 6), the others take 2 to 3, else Wrong Key Lifecycle State.")
+    for code in range(1, 8):
+        compromise = code in (2, 3)
+        results = [ONE, TWO, THREE, WRONG, FIVE, WRONG] if compromise else [WRONG, TWO, WRONG, WRONG, WRONG, WRONG]
+        on_six(s, f"Revoke code {code} on states 1 to 6", REVOKE, lambda name: revoke(name, code), results)
+        after = (4, 4, 4, 4, 6, 6) if compromise else (1, 3, 3, 4, 5, 6)
+        s.table(f"lines after Revoke code {code} on states 1 to 6", line_at(0), lines_of(*after))
+    s.table("bodies after Revoke, as they were", body_at(0), b"".join(stored(state) for state in range(1, 7)))
+    s.about("Revoke: Object Not Found and Invalid Field.")
+    s.fails("Revoke of no key", revoke("00000007", 1), REVOKE, OBJECT_NOT_FOUND)
+    s.fails("Revoke without identifier", revoke(None, 1), REVOKE, OBJECT_NOT_FOUND)
+    s.fails("Revoke code 0", revoke(TWO, 0), REVOKE, INVALID_FIELD)
+    s.fails("Revoke code 8", revoke(TWO, 8), REVOKE, INVALID_FIELD)
+    s.fails("Revoke of no key, code 9", revoke("00000007", 9), REVOKE, INVALID_FIELD)
+    code = enumeration(REVOCATION_REASON_CODE, 1)
+    for name, rest in [
+        ("no reason", []),
+        ("an empty reason", [structure(REVOCATION_REASON)]),
+        ("the code as Integer", [structure(REVOCATION_REASON, integer(REVOCATION_REASON_CODE, 1))]),
+        ("a message", [structure(REVOCATION_REASON, code, text(REVOCATION_MESSAGE, "worn out"))]),
+        ("something after the reason", [reason_code(1), integer(OTHER, 1)]),
+    ]:
+        s.fails(f"Revoke with {name}", ask(REVOKE, identifier(TWO), *rest), REVOKE, INVALID_FIELD)
+
+
+def cards_of_destroy(s):
+    s.about("Destroy: 1 and 3 become 5, 4 becomes 6, the material is zeroed, total and count stay. 2: wrong state. 5 and 6: Object Destroyed.")
+    on_six(s, "Destroy on states 1 to 6", DESTROY, destroy, [ONE, WRONG, THREE, FOUR, OBJECT_DESTROYED, OBJECT_DESTROYED])
+    s.table("lines after Destroy on states 1 to 6", line_at(0), lines_of(5, 2, 5, 6, 5, 6))
+    gone = body(100, 50, 4)
+    s.table("bodies after Destroy on states 1 to 6", body_at(0), gone + stored(2) + gone * 4)
+    s.fails("Destroy of no key", destroy("00000007"), DESTROY, OBJECT_NOT_FOUND)
+    s.fails("Destroy without identifier", destroy(), DESTROY, OBJECT_NOT_FOUND)
+    s.fails("Destroy with something after the identifier", destroy(TWO, integer(OTHER, 1)), DESTROY, INVALID_FIELD)
+
+
+def cards_of_allocation(s):
+    s.about("Get Usage Allocation: not Active is Wrong Key Lifecycle State; on the Active key, which has 50 left, all of them are granted.")
+    on_six(s, "Allocation of 50 on states 1 to 6", ALLOCATE, lambda name: allocate(name, 50), [WRONG, TWO, WRONG, WRONG, WRONG, WRONG])
+    used = stored(1) + body(100, 0, 4, material(2)) + stored(3)
+    s.table("bodies after Allocation of 50", body_at(0), used)
+    s.about("More than the count; and 1,000,000,000,000 at once, of a key that has them.")
+    six_states(s)
+    s.fails("Allocation of 51", allocate(TWO, 51), ALLOCATE, USAGE_LIMIT_EXCEEDED)
+    s.fails("Allocation of 2^63 - 1", allocate(TWO, 2**63 - 1), ALLOCATE, USAGE_LIMIT_EXCEEDED)
+    s.table("body after Allocation of too much", body_at(1), stored(2))
+    trillion = 1_000_000_000_000
+    s.put(body_at(1), body(trillion, trillion))
+    s.card("Allocation of 1,000,000,000,000", (allocate(TWO, trillion), named(ALLOCATE, TWO)))
+    s.table("body after Allocation of all", body_at(1), body(trillion, 0))
+    s.about("A key without limit: Invalid Field if it is Active, however much is asked for; Wrong Key Lifecycle State if it is not.")
+    s.blank()
+    s.put(0, lead(2)[:4])
+    s.put(line_at(0), line(1, 2) + line(2, 1))
+    s.fails("Allocation of 1, Active, no limit", allocate(ONE, 1), ALLOCATE, INVALID_FIELD)
+    s.fails("Allocation of 2^63 - 1, Active, no limit", allocate(ONE, 2**63 - 1), ALLOCATE, INVALID_FIELD)
+    s.fails("Allocation of 1, Pre-Active, no limit", allocate(TWO, 1), ALLOCATE, WRONG_STATE)
+    s.about("Object Not Found and Invalid Field. A count below 0 is no large one.")
+    six_states(s)
+    s.fails("Allocation of no key", allocate("00000007", 1), ALLOCATE, OBJECT_NOT_FOUND)
+    s.fails("Allocation without identifier", allocate(None, 1), ALLOCATE, OBJECT_NOT_FOUND)
+    s.fails("Allocation of 0", allocate(TWO, 0), ALLOCATE, INVALID_FIELD)
+    s.fails("Allocation of -1", allocate(TWO, -1), ALLOCATE, INVALID_FIELD)
+    s.fails("Allocation of 0 of no key", allocate("00000007", 0), ALLOCATE, INVALID_FIELD)
+    count = long_integer(USAGE_LIMITS_COUNT, 1)
+    for name, payload in [
+        ("no count", [identifier(TWO)]),
+        ("the count as Integer", [identifier(TWO), integer(USAGE_LIMITS_COUNT, 1)]),
+        ("the count before the identifier", [count, identifier(TWO)]),
+        ("two counts", [identifier(TWO), count, count]),
+    ]:
+        s.fails(f"Allocation with {name}", ask(ALLOCATE, *payload), ALLOCATE, INVALID_FIELD)
+    s.table("bodies after Allocations that failed", body_at(0), b"".join(stored(state) for state in range(1, 7)))
+
+
+def cards_of_rekey(s):
+    s.about("Re-key: attributes copied, new material, count = total, Pre-Active, linked both ways; the old record changes its replacement only.")
+    results = ["00000007", "00000008", "00000009", "0000000A", OBJECT_DESTROYED, OBJECT_DESTROYED]
+    on_six(s, "Re-key on states 1 to 6", REKEY, rekey, results)
+    s.table("lead after Re-key on states 1 to 6", 0, lead(10))
+    old = b"".join(line(serial, serial, 2, replacement=serial + 6) for serial in range(1, 5)) + line(5, 5, 2) + line(6, 6, 2)
+    new = b"".join(line(serial + 6, 1, 2, replaced=serial) for serial in range(1, 5))
+    s.table("old lines after Re-key on states 1 to 6", line_at(0), old)
+    s.table("new lines after Re-key on states 1 to 6", line_at(6), new + bytes(16))
+    s.table("old bodies after Re-key on states 1 to 6", body_at(0), b"".join(stored(state) for state in range(1, 7)))
+    s.table("new bodies after Re-key on states 1 to 6", body_at(6), b"".join(body(100, 100, 4, fresh(item, 16)) for item in range(4)))
+    s.about("Failures. A destroyed key with a replacement is Object Destroyed; a replacement that stands no more is Permission Denied all the same.")
+    s.put(line_at(4), line(5, 5, 2, replacement=6))
+    s.put(line_at(5), line(6, 6, 2, replaced=5))
+    s.fails("Re-key of a destroyed key with a replacement", rekey(FIVE), REKEY, OBJECT_DESTROYED)
+    s.fails("Re-key of a key with a replacement", rekey(ONE), REKEY, PERMISSION_DENIED)
+    s.put(line_at(6), bytes(16))
+    s.put(body_at(6), bytes(56))
+    s.fails("Re-key of a key whose replacement is gone", rekey(ONE), REKEY, PERMISSION_DENIED)
+    s.fails("Re-key of no key", rekey("0000000B"), REKEY, OBJECT_NOT_FOUND)
+    s.fails("Re-key without identifier", rekey(), REKEY, OBJECT_NOT_FOUND)
+    s.fails("Re-key with an Offset", rekey("00000008", PRINTED_OFFSET), REKEY, INVALID_FIELD)
+    s.fails("Re-key of a destroyed key with an Offset", rekey(FIVE, PRINTED_OFFSET), REKEY, INVALID_FIELD)
+    s.table("lead after Re-keys that failed", 0, lead(10))
+    s.about("Lengths and masks are copied, and the length says how much of the strip is taken.")
+    s.blank()
+    s.put(0, lead(2)[:4])
+    s.key(0, line(1, 2, 0, 192), body(0, 0, 0x00FFFFFF, bytes(24)))
+    s.key(1, line(2, 4, 1, 256), body(7, 0, 0, bytes([1] * 32)))
+    s.card("Re-key of 192 and 256 bits", (rekey(ONE), named(REKEY, THREE)), (rekey(TWO), named(REKEY, FOUR)))
+    s.table("lines after Re-key of 192 and 256 bits", line_at(2), line(3, 1, 0, 192, replaced=1) + line(4, 1, 1, 256, replaced=2))
+    s.table("bodies after Re-key of 192 and 256 bits", body_at(2), body(0, 0, 0x00FFFFFF, fresh(0, 24)) + body(7, 7, 0, fresh(1, 32)))
+
+
+def cards_of_attributes(s):
+    s.about("Get Attributes: in every state, with a limit.")
+    six_states(s)
+    pairs = [(attributes(f"{n:08X}"), shown(f"{n:08X}", n, limit=(100, 50, 2))) for n in range(1, 7)]
+    s.card("Get Attributes on states 1 to 6", *pairs)
+    s.fails("Get Attributes of no key", attributes("00000007"), GET_ATTRIBUTES, OBJECT_NOT_FOUND)
+    s.fails("Get Attributes without identifier", attributes(), GET_ATTRIBUTES, OBJECT_NOT_FOUND)
+    s.fails("Get Attributes with something after the identifier", attributes(ONE, integer(OTHER, 1)), GET_ATTRIBUTES, INVALID_FIELD)
+    s.about("No limit and no link; a limit and both links, which with an ID of 16 bytes make an item of 296 bytes; links whose other end is gone.")
+    s.blank()
+    s.put(0, lead(9)[:4])
+    s.key(0, line(1, 3, 0, 256, replacement=2), body(0, 0, 0x00FFFFFF, bytes([1] * 32)))
+    s.key(1, line(2, 2, 1, 192, 1, 4), body(1000, 999, 12, bytes([2] * 24)))
+    s.key(2, line(4, 1, 1, 192, 2), body(1000, 1000, 12, bytes([3] * 24)))
+    s.key(3, line(7, 6, 0, 128, 5, 8), body(0, 0, 0))
+    s.key(4, line(9, 2), body(0, 0, 4, bytes([4] * 16)))
+    s.card("Get Attributes, no limit, no link", (attributes("00000009"), shown("00000009", 2)))
+    s.card("Get Attributes, no limit, replacement", (attributes(ONE), shown(ONE, 3, 256, 0x00FFFFFF, replacement=TWO)))
+    s.card("Get Attributes, limit, replaced", (attributes(FOUR), shown(FOUR, 1, 192, 12, (1000, 1000, 1), replaced=TWO)))
+    id = bytes(range(0xC0, 0xD0))
+    full = shown(TWO, 2, 192, 12, (1000, 999, 1), ONE, FOUR, id=id)
+    assert len(full) == 296
+    s.card("Get Attributes, limit, both links, ID of 16 bytes", (attributes(TWO, id=id), full))
+    dangling = shown("00000007", 6, 128, 0, replaced=FIVE, replacement="00000008")
+    s.card("Get Attributes, destroyed, both links gone", (attributes("00000007"), dangling))
+    s.about("The longest response: sixteen such items, 4,824 bytes.")
+    ids = [bytes(range(16 * n, 16 * n + 16)) for n in range(16)]
+    pairs = [(attributes(TWO, id=id), shown(TWO, 2, 192, 12, (1000, 999, 1), ONE, FOUR, id=id)) for id in ids]
+    assert len(response(*[answer for _, answer in pairs])) == 4824
+    s.card("response of 4824 bytes", *pairs, option=STOP)
+    s.output("output past the 4824 bytes as it was", 4824, b"\xFF" * 8)
+
+
+def cards_of_other_operations(s):
+    s.about("Operation Not Supported, whatever stands in the payload; the operation is echoed.")
+    s.blank()
+    for name, operation in [("0", 0), ("Get", 0x0A), ("Locate", 0x08), ("Ping", 0x3B), ("FFFFFFFF", 0xFFFFFFFF)]:
+        s.fails(f"operation {name}", ask(operation), operation, NOT_SUPPORTED)
+    s.fails("operation Get with an identifier as Integer", ask(0x0A, integer(UNIQUE_IDENTIFIER, 1)), 0x0A, NOT_SUPPORTED)
+
+
+def cards_of_identifiers(s):
+    s.about("Identifier text: the serial as 8 upper-case hex digits; any other text, and eight zeros, names no record. Key 10 stands at place 0.")
+    s.blank()
+    s.put(0, lead(10)[:4])
+    s.key(0, line(10, 2), body())
+    s.card("identifier 0000000A", (attributes("0000000A"), shown("0000000A", 2)))
+    for name, letters in [
+        ("in lower case", "0000000a"),
+        ("of seven digits", "000000A"),
+        ("of nine digits", "00000000A"),
+        ("of sixteen digits", "000000000000000A"),
+        ("of eight zeros", "00000000"),
+        ("of no letters", ""),
+        ("with a blank", "0000000A "),
+        ("key", "key"),
+        ("FFFFFFFF", "FFFFFFFF"),
+    ]:
+        s.fails(f"identifier {name}", attributes(letters), GET_ATTRIBUTES, OBJECT_NOT_FOUND)
+    for name, first in [
+        ("as Enumeration", enumeration(UNIQUE_IDENTIFIER, 1)),
+        ("as Integer", integer(UNIQUE_IDENTIFIER, 10)),
+        ("as Byte String", byte_string(UNIQUE_IDENTIFIER, b"0000000A")),
+        ("as structure", structure(UNIQUE_IDENTIFIER, identifier("0000000A"))),
+    ]:
+        s.fails(f"identifier {name}", ask(GET_ATTRIBUTES, first), GET_ATTRIBUTES, INVALID_FIELD)
+    twice = ask(GET_ATTRIBUTES, identifier("0000000A"), identifier("0000000A"))
+    s.fails("identifier given twice", twice, GET_ATTRIBUTES, INVALID_FIELD)
+    s.fails("identifier under another tag", ask(GET_ATTRIBUTES, text(OTHER, "0000000A")), GET_ATTRIBUTES, INVALID_FIELD)
+
+
+def cards_of_the_placeholder(s):
+    s.about("Create and Re-key set the placeholder, other successes keep it.")
+    s.blank()
+    s.card(
+        "placeholder of Create, through a life",
+        (create(limit(10, 1)), created(ONE)),
+        (activate(), named(ACTIVATE, ONE)),
+        (allocate(None, 10), named(ALLOCATE, ONE)),
+        (attributes(), shown(ONE, 2, limit=(10, 0, 1))),
+        (revoke(None, 1), named(REVOKE, ONE)),
+        (destroy(), named(DESTROY, ONE)),
+        (attributes(), shown(ONE, 5, limit=(10, 0, 1))),
+    )
+    s.card(
+        "placeholder of Re-key",
+        (create(), created(TWO)),
+        (rekey(), named(REKEY, THREE)),
+        (rekey(), named(REKEY, FOUR)),
+        (attributes(), shown(FOUR, 1, replaced=THREE)),
+    )
+    s.card(
+        "placeholder kept by an item with an identifier",
+        (create(), created(FIVE)),
+        (activate(FOUR), named(ACTIVATE, FOUR)),
+        (attributes(), shown(FIVE, 1)),
+    )
+    s.about("It is empty when a request begins, and a failed item of whatever kind empties it; an item with an identifier does not set it.")
+    s.fails("placeholder empty at first", attributes(), GET_ATTRIBUTES, OBJECT_NOT_FOUND)
+    s.card(
+        "placeholder not set by an identifier",
+        (attributes(FIVE), shown(FIVE, 1)),
+        (attributes(), failed(GET_ATTRIBUTES, OBJECT_NOT_FOUND)),
+    )
+    s.card(
+        "placeholder emptied by Operation Not Supported",
+        (create(), created(SIX)),
+        (ask(0x3B), failed(0x3B, NOT_SUPPORTED)),
+        (attributes(), failed(GET_ATTRIBUTES, OBJECT_NOT_FOUND)),
+        option=CONTINUE,
+    )
+    s.card(
+        "placeholder emptied by an identifier that names nothing",
+        (create(), created("00000007")),
+        (attributes("0000FFFF"), failed(GET_ATTRIBUTES, OBJECT_NOT_FOUND)),
+        (attributes(), failed(GET_ATTRIBUTES, OBJECT_NOT_FOUND)),
+        option=CONTINUE,
+    )
+    s.card(
+        "placeholder emptied by an item that used it",
+        (create(), created("00000008")),
+        (allocate(None, 1), failed(ALLOCATE, WRONG_STATE)),
+        (activate(), failed(ACTIVATE, OBJECT_NOT_FOUND)),
+        (create(), created("00000009")),
+        (activate(), named(ACTIVATE, "00000009")),
+        option=CONTINUE,
+    )
+
+
+def cards_of_batches(s):
+    s.about("Under Stop nothing after the first failed item is carried out; under Continue it is. The strip is shared out by position, failed items counted.")
+    s.blank()
+    s.card("Stop, then nothing", (create(bits=129), failed(CREATE, INVALID_FIELD)), (create(), None), (create(), None), option=STOP)
+    s.table("lead after Stop", 0, lead(0))
+    s.card("Continue, then a key", (create(bits=129), failed(CREATE, INVALID_FIELD)), (create(), created(ONE)), option=CONTINUE)
+    s.table("lead after Continue", 0, lead(1))
+    s.table("body after Continue, from byte 32 of the strip", body_at(0), body(0, 0, 4, fresh(1, 16)))
+    s.about("Unique Batch Item IDs of 1, 8, 9 and 16 bytes are echoed, repeats too; an item without one has none in its answer.")
+    for length in (1, 8, 9, 16):
+        id = bytes(range(0xF0, 0xF0 + length))
+        s.card(f"ID of {length} bytes", (attributes(ONE, id=id), shown(ONE, 1, id=id)))
+    s.card(
+        "IDs that repeat, in a batch with and without",
+        (activate(ONE, id=b"\0"), named(ACTIVATE, ONE, id=b"\0")),
+        (activate(ONE, id=b"\0"), failed(ACTIVATE, WRONG_STATE, id=b"\0")),
+        (attributes(ONE), shown(ONE, 2)),
+        (ask(0x3B, id=b"last"), failed(0x3B, NOT_SUPPORTED, id=b"last")),
+        option=CONTINUE,
+    )
+
+
+def cards_of_clocks(s):
+    s.about("Any clock is taken, and is the Time Stamp of the response.")
+    s.blank()
+    for clock in (-1, -(2**63), 2**63 - 1, 1, 1205495800):
+        s.say(f"clock {clock}")
+        s.card(f"clock {clock}", (attributes(), failed(GET_ATTRIBUTES, OBJECT_NOT_FOUND)), clock=clock)
+    stamped = response(failed(GET_ATTRIBUTES, OBJECT_NOT_FOUND), clock=-(2**63))
+    assert stamped[56:72] == unhex("42009209 00000008 80000000 00000000")
+
+
+# ---- refusals
+
+
+def key_to_activate(s):
+    """A Pre-Active key, so that any Activate that were carried out would show."""
+    s.blank()
+    s.put(0, lead(1)[:4])
+    s.key(0, line(1, 1), body(0, 0, 4, fresh(0, 16)))
+
+
+def cards_of_refusals_1_to_4(s):
+    s.about("Refusals 1 and 2: output room below 4,824 bytes; strip not 512 bytes. The table shows that nothing was carried out.")
+    key_to_activate(s)
+    good = request(activate(ONE))
+    s.say("room 0")
+    s.refused("refusal 1, no room", good, 1)
+    s.say("room 4823")
+    s.refused("refusal 1, room 4823", good, 1)
+    s.table("line after refusal 1", line_at(0), line(1, 1))
+    s.say("room 4824")
+    for length in (0, 511, 513, 1024):
+        s.say(f"strip {length}")
+        s.refused(f"refusal 2, strip of {length}", good, 2)
+    s.table("line after refusal 2", line_at(0), line(1, 1))
+    s.say("strip 512")
+    s.about("Refusal 3: the table's size.")
+    for length in (0, 15, 4623):
+        s.say(f"size {length}")
+        s.refused(f"refusal 3, table of {length} bytes", good, 3)
+    s.say("size 4624")
+    s.table("line after refusal 3", line_at(0), line(1, 1))
+    s.about("Refusal 4: request empty, or above 4,096 bytes; one of 4,096 is read.")
+    s.refused("refusal 4, empty request", b"", 4)
+    long = ask(0x3B, byte_string(OTHER, bytes(3984)))
+    assert len(request(long)) == 4096
+    s.fails("request of 4096 bytes", long, 0x3B, NOT_SUPPORTED)
+    s.refused("refusal 4, request of 4097 bytes", request(long) + b"\0", 4)
+    s.table("line after refusal 4", line_at(0), line(1, 1))
+    s.about("The whole table after these refusals; then the room may be larger than it must.")
+    whole = lead(1) + line(1, 1).ljust(16 * PLACES, b"\0") + body(0, 0, 4, fresh(0, 16)).ljust(56 * PLACES, b"\0")
+    s.table("whole table after refusals 1 to 4", 0, whole)
+    s.say("room 8192")
+    s.card("room 8192", (activate(ONE), named(ACTIVATE, ONE)))
+
+
+def cards_of_unsound_tables(s):
+    s.about(
+        "Refusal 3: unsound tables. The first is sound: an Active key with a limit, its replacement, a destroyed key, and one of 192 bits without",
+        "limit; serials 1 to 4, the last issued being 6. Each fault is laid over it and taken back.",
+    )
+    keys = [
+        (line(1, 2, 1, 128, replacement=2), body(100, 40, 4, bytes([1] * 16))),
+        (line(2, 1, 1, 128, replaced=1), body(100, 100, 4, bytes([2] * 16))),
+        (line(3, 5), body()),
+        (line(4, 2, 0, 192), body(0, 0, 4, bytes([4] * 24))),
+    ]
+    sound = lead(6) + b"".join(line for line, _ in keys).ljust(16 * PLACES, b"\0") + b"".join(body for _, body in keys).ljust(56 * PLACES, b"\0")
+    s.blank()
+    s.put(0, sound[: line_at(4)])
+    s.put(body_at(0), sound[body_at(0) : body_at(4)])
+    asked = attributes(FOUR)
+    s.card("sound table of four keys", (asked, shown(FOUR, 2, 192)))
+    trillion = 1_000_000_000_000
+    numbers = lambda *values: b"".join(value.to_bytes(8, "big") for value in values)
+    for name, *faults in [
+        ("place count 63", (4, unhex("0000003F"))),
+        ("place count 65", (4, unhex("00000041"))),
+        ("zeros of the lead", (15, b"\1")),
+        ("a free line with a state", (line_at(5) + 4, b"\1")),
+        ("a free line with a link", (line_at(63) + 12, unhex("00000001"))),
+        ("a free body with a count", (body_at(5) + 8, numbers(1))),
+        ("a free body with a key byte", (body_at(63) + 55, b"\1")),
+        ("zeros of a body", (body_at(3) + 20, unhex("00000001"))),
+        ("a serial twice", (line_at(3), unhex("00000003"))),
+        ("a serial above the last", (line_at(3), unhex("00000007"))),
+        ("last serial below one that stands", (0, unhex("00000003"))),
+        ("state 0", (line_at(3) + 4, b"\0")),
+        ("state 7", (line_at(3) + 4, b"\7")),
+        ("length 0", (line_at(3) + 6, unhex("0000"))),
+        ("length 191", (line_at(3) + 6, unhex("00BF"))),
+        ("length 512", (line_at(3) + 6, unhex("0200"))),
+        ("mask 01000000", (body_at(3) + 16, unhex("01000000"))),
+        ("unit 3", (line_at(0) + 5, b"\3")),
+        ("unit 0 with a total", (body_at(3), numbers(1, 0))),
+        ("unit 0 with a count", (body_at(3), numbers(0, 1))),
+        ("unit 1 with total 0", (line_at(3) + 5, b"\1")),
+        ("total 1,000,000,000,001", (body_at(0), numbers(trillion + 1, 40))),
+        ("total 2^63", (body_at(0), numbers(2**63, 40))),
+        ("count above total", (body_at(0), numbers(100, 101))),
+        ("key bytes past 192 bits", (body_at(3) + 24 + 24, b"\1")),
+        ("key bytes past 128 bits", (body_at(0) + 24 + 16, b"\1")),
+        ("a key byte in state 5", (body_at(2) + 24, b"\1")),
+        ("a key byte in state 6", (line_at(2) + 4, b"\6"), (body_at(2) + 24 + 15, b"\1")),
+        ("replaced by name its own", (line_at(3) + 8, unhex("00000004"))),
+        ("replaced above its own", (line_at(3) + 8, unhex("00000005"))),
+        ("replacement its own", (line_at(3) + 12, unhex("00000004"))),
+        ("replacement below its own", (line_at(3) + 12, unhex("00000003"))),
+        ("replacement above the last", (line_at(3) + 12, unhex("00000007"))),
+        ("replaced does not name back", (line_at(3) + 8, unhex("00000003"))),
+        ("old end of a link gone", (line_at(0) + 12, unhex("00000000"))),
+        ("new end of a link gone", (line_at(1) + 8, unhex("00000000"))),
+    ]:
+        for at, octets in faults:
+            s.put(at, octets)
+        s.refused(f"refusal 3, {name}", request(asked), 3)
+        for at, octets in faults:
+            s.put(at, sound[at : at + len(octets)])
+    s.table("table of four keys as it was", 0, sound[: line_at(5)])
+    s.card("sound table of four keys again", (asked, shown(FOUR, 2, 192)))
+    s.about("Sound: links to serials that were issued and stand no more; a Pre-Active key with nothing left.")
+    s.put(line_at(3) + 12, unhex("00000006"))
+    s.put(body_at(1) + 8, numbers(0))
+    s.card("sound table with a link to a serial that is gone", (asked, shown(FOUR, 2, 192, replacement=SIX)))
+
+
+def cards_of_malformed_requests(s):
+    s.about("Refusal 5: TTLV malformed, anywhere in the request; the payload of an unsupported operation is no exception.")
+    key_to_activate(s)
+    good = request(activate(ONE))
+    s.refused("refusal 5, a byte after the request", good + b"\0", 5)
+    s.refused("refusal 5, an item after the request", good + integer(OTHER, 1), 5)
+    s.refused("refusal 5, last byte missing", good[:-1], 5)
+    s.refused("refusal 5, one byte", good[:1], 5)
+    s.refused("refusal 5, message length one item short", good[:4] + (len(good) - 24).to_bytes(4, "big") + good[8:], 5)
+    s.refused("refusal 5, message length FFFFFFFF", good[:4] + unhex("FFFFFFFF") + good[8:], 5)
+    long_count = PRINTED_CREATE.replace(unhex("42000D02 00000004 00000001 00000000"), unhex("42000D02 00000004 00000001 00000001"))
+    assert long_count != PRINTED_CREATE
+    s.refused("refusal 5, padding of the Batch Count not zero", long_count, 5)
+    for name, item in [
+        ("Boolean 2", boolean(OTHER, 2)),
+        ("text with 1F", text(OTHER, "\x1f")),
+        ("text with 7F", text(OTHER, "\x7f")),
+        ("text with E9", text(OTHER, "\xe9")),
+        ("type 0C", ttlv(OTHER, 0x0C, bytes(8))),
+        ("tag 540001", ttlv(0x540001, 0x02, bytes(4))),
+        ("Integer of 8 bytes", ttlv(OTHER, 0x02, bytes(8))),
+        ("Long Integer of 4 bytes", ttlv(OTHER, 0x03, bytes(4))),
+        ("Big Integer of no bytes", ttlv(OTHER, 0x04, b"")),
+        ("padding of a text not zero", ttlv(OTHER, 0x08, b"abc")[:-1] + b"\1"),
+    ]:
+        s.refused(f"refusal 5, {name} in a payload", request(ask(0x3B, item)), 5)
+    s.fails("text with 20 to 7E in a payload", ask(0x3B, text(OTHER, " ~")), 0x3B, NOT_SUPPORTED)
+    s.table("line after refusal 5", line_at(0), line(1, 1))
+
+
+def cards_of_wrong_frames(s):
+    s.about("Refusal 6: frame wrong. Fields stand in the order given, and nothing else may appear.")
+    key_to_activate(s)
+    item = activate(ONE)
+    operation, payload = enumeration(OPERATION, ACTIVATE), structure(REQUEST_PAYLOAD, identifier(ONE))
+    major, minor = integer(PROTOCOL_VERSION_MAJOR, 2), integer(PROTOCOL_VERSION_MINOR, 1)
+    version, count = structure(PROTOCOL_VERSION, major, minor), integer(BATCH_COUNT, 1)
+    option = enumeration(BATCH_ERROR_CONTINUATION_OPTION, STOP)
+    head = header((2, 1), None, 1)
+    message = lambda *parts: structure(REQUEST_MESSAGE, *parts)
+    headed = lambda *fields: message(structure(REQUEST_HEADER, *fields), item)
+    of = lambda *fields: message(head, structure(BATCH_ITEM, *fields))
+    id = lambda length: byte_string(UNIQUE_BATCH_ITEM_ID, bytes(length))
+    for name, octets in [
+        ("an Integer", integer(OTHER, 8)),
+        ("a Response Message", structure(RESPONSE_MESSAGE, head, item)),
+        ("an empty message", message()),
+        ("no header", message(item)),
+        ("no items", message(head)),
+        ("no items, Batch Count 0", message(header((2, 1), None, 0))),
+        ("header after the item", message(item, head)),
+        ("two headers", message(head, head, item)),
+        ("no version", headed(count)),
+        ("no Batch Count", headed(version)),
+        ("Batch Count before the version", headed(count, version)),
+        ("Batch Count before the option", headed(version, count, option)),
+        ("Batch Count as Enumeration", headed(version, enumeration(BATCH_COUNT, 1))),
+        ("option as Integer", headed(version, integer(BATCH_ERROR_CONTINUATION_OPTION, 2), count)),
+        ("a Time Stamp in the header", headed(version, date_time(TIME_STAMP, 0), count)),
+        ("version without minor", headed(structure(PROTOCOL_VERSION, major), count)),
+        ("minor before major", headed(structure(PROTOCOL_VERSION, minor, major), count)),
+        ("major as Enumeration", headed(structure(PROTOCOL_VERSION, enumeration(PROTOCOL_VERSION_MAJOR, 2), minor), count)),
+        ("no operation", of(payload)),
+        ("no payload", of(operation)),
+        ("payload as Byte String", of(operation, byte_string(REQUEST_PAYLOAD, bytes(8)))),
+        ("payload before the operation", of(payload, operation)),
+        ("two payloads", of(operation, payload, payload)),
+        ("operation as Integer", of(integer(OPERATION, ACTIVATE), payload)),
+        ("ID of no bytes", of(operation, id(0), payload)),
+        ("ID of 17 bytes", of(operation, id(17), payload)),
+        ("ID as Text String", of(operation, text(UNIQUE_BATCH_ITEM_ID, "one"), payload)),
+        ("ID after the payload", of(operation, payload, id(1))),
+        ("fault in item 18", request(*[ask(0x3B)] * 17, structure(BATCH_ITEM, operation))),
+    ]:
+        s.refused(f"refusal 6, {name}", octets, 6)
+    s.table("line after refusal 6", line_at(0), line(1, 1))
+
+
+def cards_of_refusals_7_to_9(s):
+    s.about("Refusal 7: version not 2.1.")
+    key_to_activate(s)
+    item = activate(ONE)
+    for version in [(2, 0), (1, 4), (2, 2), (3, 1), (0, 0), (-2, 1)]:
+        s.refused(f"refusal 7, version {version[0]}.{version[1]}", request(item, version=version), 7)
+    s.table("line after refusal 7", line_at(0), line(1, 1))
+    s.about("Refusal 8: Batch Count not 1 to 16, or not the number of items.")
+    for count in (0, 2, 16, 17, -1):
+        s.refused(f"refusal 8, Batch Count {count} with one item", request(item, count=count), 8)
+    s.refused("refusal 8, Batch Count 1 with two items", request(item, item, count=1), 8)
+    s.refused("refusal 8, 125 items", request(*[ask(0x3B)] * 125), 8)
+    s.table("line after refusal 8", line_at(0), line(1, 1))
+    s.about("Refusal 9: option not 1 or 2.")
+    for option in (0, 3, 0xFFFFFFFF):
+        s.refused(f"refusal 9, option {option}", request(item, option=option), 9)
+    s.table("line after refusal 9", line_at(0), line(1, 1))
+    s.output("output after refusals as it was", 0, b"\xFF" * 8)
+
+
+def cards_of_the_lowest_number(s):
+    s.about("The lowest number that applies is given: all faults at once, then the lowest taken away, one after the other.")
+    key_to_activate(s)
+    item = activate(ONE)
+    s.put(15, b"\1")
+    s.say("room 4823")
+    s.say("strip 511")
+    s.refused("lowest of 1, 2, 3 and 4", b"", 1)
+    s.say("room 4824")
+    s.refused("lowest of 2, 3 and 4", b"", 2)
+    s.say("strip 512")
+    s.refused("lowest of 3 and 4", b"", 3)
+    s.put(15, b"\0")
+    wrong = dict(option=3, version=(2, 0), count=2)
+    s.refused("lowest of 4 and 5", bytes(4097), 4)
+    no_frame = structure(BATCH_ITEM, boolean(OTHER, 2))
+    s.refused("lowest of 5, 6, 7, 8 and 9", request(no_frame, **wrong), 5)
+    no_frame = structure(BATCH_ITEM, boolean(OTHER, 1))
+    s.refused("lowest of 6, 7, 8 and 9", request(no_frame, **wrong), 6)
+    s.refused("lowest of 7, 8 and 9", request(item, **wrong), 7)
+    s.refused("lowest of 8 and 9", request(item, option=3, count=2), 8)
+    s.refused("9 alone", request(item, option=3), 9)
+    s.card("none", (item, named(ACTIVATE, ONE)), option=CONTINUE)
+
+
+# ---- the script itself
+
+
+def cards_of_bad_lines(s):
+    s.about("What is no line of a script is told, and changes nothing.")
+    s.blank()
+    for line in [
+        "bogus",
+        "Blank",
+        "blank 1",
+        "put",
+        "put 4",
+        "put x 00",
+        "put 4 0",
+        "put 4 0G",
+        "put 4 ff",
+        "put 4624 00",
+        "put 4623 0000",
+        "put 18446744073709551616 00",
+        "clock",
+        "clock x",
+        "clock -",
+        "clock -0",
+        "clock 9223372036854775808",
+        "clock -9223372036854775809",
+        "clock 18446744073709551616",
+        "room",
+        "room -1",
+        "room 4824 ",
+        "strip 5x",
+        "size",
+        "request 42",
+        "request odd: 420",
+        "request lower case: 4a",
+        "table",
+        "table no numbers: ",
+        "table one number: 4",
+        "table three numbers: 4 4 4",
+        "table beyond: 4620 5",
+        "table far beyond: 18446744073709551609 18446744073709551609",
+        "output beyond: 8192 1",
+    ]:
+        s.bad(line)
+    s.table("table after bad lines", 0, lead(0))
+    s.about("More lent than there is.")
+    for verb, most in [("room", 8192), ("strip", 1024), ("size", 4624)]:
+        s.blank()
+        s.say(f"{verb} {most + 1}")
+        s.name(f"{verb} {most + 1}")
+        s.say(f"request {verb} {most + 1}: 42")
+        s.expected.append(f"{verb} {most + 1}: no such {verb}")
+
+
+def all_cards():
+    s = Script()
+    s.say("# The bench cards of document 01, and one success and each failure of each operation, each refusal, and what the table holds after some of them.")
+    s.say("# Written by make_cards.py, with what is expected of it; what the commands are says the library `cardslib`.")
+    for cards in [
+        cards_of_depth,
+        cards_of_grants,
+        cards_of_the_end,
+        cards_of_rekey_twice,
+        cards_of_bad_create,
+        cards_of_room_and_batch,
+        cards_of_a_full_table,
+        cards_of_the_last_serial,
+        cards_of_152_bytes,
+        cards_of_create,
+        cards_of_rekey,
+        cards_of_allocation,
+        cards_of_activate,
+        cards_of_revoke,
+        cards_of_destroy,
+        cards_of_attributes,
+        cards_of_other_operations,
+        cards_of_identifiers,
+        cards_of_the_placeholder,
+        cards_of_batches,
+        cards_of_clocks,
+        cards_of_refusals_1_to_4,
+        cards_of_unsound_tables,
+        cards_of_malformed_requests,
+        cards_of_wrong_frames,
+        cards_of_refusals_7_to_9,
+        cards_of_the_lowest_number,
+        cards_of_bad_lines,
+    ]:
+        cards(s)
+    return s
+
+
+def main():
+    check_builders()
+    s = all_cards()
+    here = pathlib.Path(__file__).parent
+    (here / "stdin").write_text("\n".join(s.lines) + "\n")
+    (here / "stdout").write_text("\n".join(s.expected) + "\n")
+    requests = sum(line.startswith("request ") for line in s.lines)
+    views = sum(line.startswith(("table ", "output ")) for line in s.lines)
+    print(f"{requests} requests, {views} views of table or output, {len(s.expected)} lines expected")
+
+
+main()

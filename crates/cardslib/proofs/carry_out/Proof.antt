@@ -1,0 +1,217 @@
+-- `cardslib::carry_out`. The parts are within.
+-- Assumes nothing.
+use mathlib.Core.Path.{sym}
+use native.Mathlib.Omega.{arith}
+use lib.Seq.{length-take-le}
+use borrow.Author.Needs.{needs}
+use Rattle.cardslib.proofs.carry_out.Statement.{statement}
+use Rattle.cardslib.proofs.carry_out.Tie as tie
+use Rattle.cardslib.proofs.carry_out.Reads as reads
+use Rattle.cardslib.proofs.carry_out.Lts as lts
+use Rattle.cardslib.proofs.blank.Reads as blank-reads
+use Rattle.cardslib.proofs.kept.Reads as kept-reads
+use Rattle.cardslib.proofs.lend.Reads as lend-reads
+use Rattle.cardslib.proofs.put.Reads as put-reads
+use Rattle.cardslib.proofs.read.find.Reads as find-reads
+use Rattle.cardslib.proofs.read.past.Reads as past-reads
+use Rattle.cardslib.proofs.request.Reads as request-reads
+use Rattle.cardslib.proofs.set_clock.Reads as set-clock-reads
+use Rattle.cardslib.proofs.show.Reads as show-reads
+use Rattle.cardslib.proofs.verb_of.Reads as verb-of-reads
+
+find-requires : tie.Need-find-requires
+find-requires c κs = search needs
+
+slice-aggregate-verb-of : tie.Need-slice-aggregate-verb-of
+slice-aggregate-verb-of c = sym (length-take-le _ _ (omega arith))
+
+verb-of-requires : tie.Need-verb-of-requires
+verb-of-requires c κs = search needs
+
+past-requires : tie.Need-past-requires
+past-requires c κs = search needs
+
+sub-rest : tie.Need-sub-rest
+sub-rest c = search needs
+
+part-rest-start : tie.Need-part-rest-start
+part-rest-start c = search needs
+
+part-rest-end : tie.Need-part-rest-end
+part-rest-end c = search needs
+
+enum-told : tie.Need-enum-told
+enum-told c = search needs
+
+blank-requires : tie.Need-blank-requires
+blank-requires c κs = search needs
+
+enum-told-2 : tie.Need-enum-told-2
+enum-told-2 c = search needs
+
+put-requires : tie.Need-put-requires
+put-requires c κs = search needs
+
+kept-requires : tie.Need-kept-requires
+kept-requires c κs = search needs
+
+enum-told-3 : tie.Need-enum-told-3
+enum-told-3 c = search needs
+
+set-clock-requires : tie.Need-set-clock-requires
+set-clock-requires c κs = search needs
+
+enum-told-4 : tie.Need-enum-told-4
+enum-told-4 c = search needs
+
+lend-requires : tie.Need-lend-requires
+lend-requires c κs = search needs
+
+enum-told-5 : tie.Need-enum-told-5
+enum-told-5 c = search needs
+
+lend-requires-2 : tie.Need-lend-requires-2
+lend-requires-2 c κs = search needs
+
+enum-told-6 : tie.Need-enum-told-6
+enum-told-6 c = search needs
+
+lend-requires-3 : tie.Need-lend-requires-3
+lend-requires-3 c κs = search needs
+
+enum-told-7 : tie.Need-enum-told-7
+enum-told-7 c = search needs
+
+request-requires : tie.Need-request-requires
+request-requires c κs = search needs
+
+kept-requires-2 : tie.Need-kept-requires-2
+kept-requires-2 c κs = search needs
+
+enum-told-8 : tie.Need-enum-told-8
+enum-told-8 c = search needs
+
+show-requires : tie.Need-show-requires
+show-requires c κs = search needs
+
+kept-requires-3 : tie.Need-kept-requires-3
+kept-requires-3 c κs = search needs
+
+enum-told-9 : tie.Need-enum-told-9
+enum-told-9 c = search needs
+
+show-requires-2 : tie.Need-show-requires-2
+show-requires-2 c κs = search needs
+
+kept-requires-4 : tie.Need-kept-requires-4
+kept-requires-4 c κs = search needs
+
+enum-told-10 : tie.Need-enum-told-10
+enum-told-10 c = search needs
+
+kept-requires-5 : tie.Need-kept-requires-5
+kept-requires-5 c κs = search needs
+
+same-length : tie.Need-same-length
+same-length c = search needs
+
+same-length-2 : tie.Need-same-length-2
+same-length-2 c = search needs
+
+returns : tie.Need-returns
+returns c = search needs
+
+same-length-3 : tie.Need-same-length-3
+same-length-3 c = search needs
+
+returns-2 : tie.Need-returns-2
+returns-2 c = search needs
+
+returns-3 : tie.Need-returns-3
+returns-3 c = search needs
+
+returns-4 : tie.Need-returns-4
+returns-4 c = search needs
+
+returns-5 : tie.Need-returns-5
+returns-5 c = search needs
+
+returns-6 : tie.Need-returns-6
+returns-6 c = search needs
+
+same-length-4 : tie.Need-same-length-4
+same-length-4 c = search needs
+
+same-length-5 : tie.Need-same-length-5
+same-length-5 c = search needs
+
+returns-7 : tie.Need-returns-7
+returns-7 c = search needs
+
+same-length-6 : tie.Need-same-length-6
+same-length-6 c = search needs
+
+returns-8 : tie.Need-returns-8
+returns-8 c = search needs
+
+same-length-7 : tie.Need-same-length-7
+same-length-7 c = search needs
+
+returns-9 : tie.Need-returns-9
+returns-9 c = search needs
+
+returns-10 : tie.Need-returns-10
+returns-10 c = search needs
+
+pub carry-out-spec : {M : Type 1} → statement M
+carry-out-spec =
+    tie.close
+    (tie.spec
+    find-requires
+    slice-aggregate-verb-of
+    verb-of-requires
+    past-requires
+    sub-rest
+    part-rest-start
+    part-rest-end
+    enum-told
+    blank-requires
+    enum-told-2
+    put-requires
+    kept-requires
+    enum-told-3
+    set-clock-requires
+    enum-told-4
+    lend-requires
+    enum-told-5
+    lend-requires-2
+    enum-told-6
+    lend-requires-3
+    enum-told-7
+    request-requires
+    kept-requires-2
+    enum-told-8
+    show-requires
+    kept-requires-3
+    enum-told-9
+    show-requires-2
+    kept-requires-4
+    enum-told-10
+    kept-requires-5
+    same-length
+    same-length-2
+    returns
+    same-length-3
+    returns-2
+    returns-3
+    returns-4
+    returns-5
+    returns-6
+    same-length-4
+    same-length-5
+    returns-7
+    same-length-6
+    returns-8
+    same-length-7
+    returns-9
+    returns-10)

@@ -1,0 +1,57 @@
+-- `cardslib::fill`. Every place written is within.
+-- Assumes nothing.
+use Prim.Native.Nat.{_≤_, _-_}
+use mathlib.Core.Path.{_≡_}
+use native.Mathlib.Omega.{arith}
+use lib.ListN.{length, length-set}
+use borrow.Author.Needs.{needs}
+use Rattle.cardslib.proofs.fill.Statement.{statement}
+use Rattle.cardslib.proofs.fill.Tie as tie
+use Rattle.cardslib.proofs.fill.Reads as reads
+use Rattle.cardslib.proofs.fill.Lts as lts
+use Rattle.cardslib.proofs.first_byte.Reads as first-byte-reads
+
+abbrev Inv-loop : tie.InvT-loop
+Inv-loop s₀ buffer i₀ s i = (length s ≡ length s₀) × (i ≤ length s)
+
+abbrev μ-loop : tie.MeasureT-loop
+μ-loop s₀ buffer i₀ s i = length s₀ - i
+
+loop-holds : tie.Need-loop-holds Inv-loop μ-loop
+loop-holds c = search needs
+
+first-byte-requires : tie.Need-first-byte-requires Inv-loop μ-loop
+first-byte-requires c κs = search needs
+
+slice-write-s : tie.Need-slice-write-s Inv-loop μ-loop
+slice-write-s c = search needs
+
+add-i : tie.Need-add-i Inv-loop μ-loop
+add-i c = search needs
+
+loop-less : tie.Need-loop-less Inv-loop μ-loop
+loop-less c = search needs
+
+loop-again : tie.Need-loop-again Inv-loop μ-loop
+loop-again c = (simp length-set (omega arith), simp length-set (omega arith))
+
+same-length : tie.Need-same-length Inv-loop μ-loop
+same-length c = search needs
+
+returns : tie.Need-returns Inv-loop μ-loop
+returns c = search needs
+
+pub fill-spec : {M : Type 1} → statement M
+fill-spec =
+    tie.close
+    (tie.spec
+    Inv-loop
+    μ-loop
+    loop-holds
+    first-byte-requires
+    slice-write-s
+    add-i
+    loop-less
+    loop-again
+    same-length
+    returns)

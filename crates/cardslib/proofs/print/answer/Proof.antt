@@ -1,0 +1,66 @@
+-- `cardslib::print::answer`. The response is within the output.
+-- Assumes nothing.
+use mathlib.Core.Path.{sym}
+use native.Mathlib.Omega.{arith}
+use lib.Seq.{length-take-le}
+use borrow.Author.Needs.{needs}
+use Rattle.cardslib.proofs.print.answer.Statement.{statement}
+use Rattle.cardslib.proofs.print.answer.Tie as tie
+use Rattle.cardslib.proofs.print.answer.Reads as reads
+use Rattle.cardslib.proofs.print.answer.Lts as lts
+use Rattle.cardslib.proofs.print.bytes.Reads as bytes-reads
+use Rattle.io.proofs.print_decimal.Reads as print-decimal-reads
+use Rattle.io.proofs.write_all.Reads as write-all-reads
+
+slice-aggregate-write-all : tie.Need-slice-aggregate-write-all
+slice-aggregate-write-all c = search needs
+
+write-all-requires : tie.Need-write-all-requires
+write-all-requires c κs = search needs
+
+print-decimal-requires : tie.Need-print-decimal-requires
+print-decimal-requires c κs = search needs
+
+slice-aggregate-write-all-2 : tie.Need-slice-aggregate-write-all-2
+slice-aggregate-write-all-2 c = search needs
+
+write-all-requires-2 : tie.Need-write-all-requires-2
+write-all-requires-2 c κs = search needs
+
+returns : tie.Need-returns
+returns c = search needs
+
+slice-aggregate-write-all-3 : tie.Need-slice-aggregate-write-all-3
+slice-aggregate-write-all-3 c = search needs
+
+write-all-requires-3 : tie.Need-write-all-requires-3
+write-all-requires-3 c κs = search needs
+
+returns-2 : tie.Need-returns-2
+returns-2 c = search needs
+
+slice-aggregate-bytes : tie.Need-slice-aggregate-bytes
+slice-aggregate-bytes c = sym (length-take-le _ _ (omega arith))
+
+bytes-requires : tie.Need-bytes-requires
+bytes-requires c κs = search needs
+
+returns-3 : tie.Need-returns-3
+returns-3 c = search needs
+
+pub answer-spec : {M : Type 1} → statement M
+answer-spec =
+    tie.close
+    (tie.spec
+    slice-aggregate-write-all
+    write-all-requires
+    print-decimal-requires
+    slice-aggregate-write-all-2
+    write-all-requires-2
+    returns
+    slice-aggregate-write-all-3
+    write-all-requires-3
+    returns-2
+    slice-aggregate-bytes
+    bytes-requires
+    returns-3)

@@ -1,0 +1,88 @@
+-- `cardslib::request`. The parts are within.
+-- Assumes nothing.
+use mathlib.Core.Path.{sym}
+use native.Mathlib.Omega.{arith}
+use lib.Seq.{length-take-le}
+use borrow.Author.Needs.{needs}
+use Rattle.cardslib.proofs.request.Statement.{statement}
+use Rattle.cardslib.proofs.request.Tie as tie
+use Rattle.cardslib.proofs.request.Reads as reads
+use Rattle.cardslib.proofs.request.Lts as lts
+use Rattle.cardslib.proofs.answer.Reads as answer-reads
+use Rattle.cardslib.proofs.print.name.Reads as name-reads
+use Rattle.cardslib.proofs.read.bytes_in.Reads as bytes-in-reads
+use Rattle.cardslib.proofs.read.name_end.Reads as name-end-reads
+use Rattle.cardslib.proofs.read.past.Reads as past-reads
+
+name-end-requires : tie.Need-name-end-requires
+name-end-requires c κs = search needs
+
+returns : tie.Need-returns
+returns c = search needs
+
+past-requires : tie.Need-past-requires
+past-requires c κs = search needs
+
+sub-bytes-in : tie.Need-sub-bytes-in
+sub-bytes-in c = search needs
+
+part-bytes-in-start : tie.Need-part-bytes-in-start
+part-bytes-in-start c = search needs
+
+part-bytes-in-end : tie.Need-part-bytes-in-end
+part-bytes-in-end c = search needs
+
+slice-aggregate-bytes-in : tie.Need-slice-aggregate-bytes-in
+slice-aggregate-bytes-in c = search needs
+
+bytes-in-requires : tie.Need-bytes-in-requires
+bytes-in-requires c κs = search needs
+
+returns-2 : tie.Need-returns-2
+returns-2 c = search needs
+
+slice-aggregate-name : tie.Need-slice-aggregate-name
+slice-aggregate-name c = sym (length-take-le _ _ (omega arith))
+
+name-requires : tie.Need-name-requires
+name-requires c κs = search needs
+
+array-share-prefix-bytes : tie.Need-array-share-prefix-bytes
+array-share-prefix-bytes c = search needs
+
+slice-aggregate-answer : tie.Need-slice-aggregate-answer
+slice-aggregate-answer c = sym (length-take-le _ _ (omega arith))
+
+answer-requires : tie.Need-answer-requires
+answer-requires c κs = search needs
+
+same-length : tie.Need-same-length
+same-length c = search needs
+
+same-length-2 : tie.Need-same-length-2
+same-length-2 c = search needs
+
+returns-3 : tie.Need-returns-3
+returns-3 c = search needs
+
+pub request-spec : {M : Type 1} → statement M
+request-spec =
+    tie.close
+    (tie.spec
+    name-end-requires
+    returns
+    past-requires
+    sub-bytes-in
+    part-bytes-in-start
+    part-bytes-in-end
+    slice-aggregate-bytes-in
+    bytes-in-requires
+    returns-2
+    slice-aggregate-name
+    name-requires
+    array-share-prefix-bytes
+    slice-aggregate-answer
+    answer-requires
+    same-length
+    same-length-2
+    returns-3)
