@@ -799,6 +799,19 @@ def cards_of_rekey(s):
     s.table("bodies after Re-key of 192 and 256 bits", body_at(2), body(0, 0, 0x00FFFFFF, fresh(0, 24)) + body(7, 7, 0, fresh(1, 32)))
 
 
+def cards_of_single_changes(s):
+    s.about("Changes of state that are not among 01's cards, each by a request of its own.")
+    six_states(s)
+    for name, serial in [(ONE, 1), (TWO, 2), (THREE, 3)]:
+        s.card(f"compromise in state {serial}, alone", (revoke(name, 2), named(REVOKE, name)))
+    s.table("lines after compromise alone", line_at(0), lines_of(4, 4, 4, 4, 5, 6))
+    s.card("Destroy in state 4, alone", (destroy(FOUR), named(DESTROY, FOUR)))
+    s.table("lines after Destroy in state 4", line_at(0), lines_of(4, 4, 4, 6, 5, 6))
+    six_states(s)
+    s.card("Destroy in state 1, alone", (destroy(ONE), named(DESTROY, ONE)))
+    s.table("lines after Destroy in state 1", line_at(0), lines_of(5, 2, 3, 4, 5, 6))
+
+
 def cards_of_attributes(s):
     s.about("Get Attributes: in every state, with a limit.")
     six_states(s)
@@ -1053,12 +1066,12 @@ def cards_of_unsound_tables(s):
         ("key bytes past 128 bits", (body_at(0) + 24 + 16, b"\1")),
         ("a key byte in state 5", (body_at(2) + 24, b"\1")),
         ("a key byte in state 6", (line_at(2) + 4, b"\6"), (body_at(2) + 24 + 15, b"\1")),
-        ("replaced by name its own", (line_at(3) + 8, unhex("00000004"))),
-        ("replaced above its own", (line_at(3) + 8, unhex("00000005"))),
-        ("replacement its own", (line_at(3) + 12, unhex("00000004"))),
-        ("replacement below its own", (line_at(3) + 12, unhex("00000003"))),
-        ("replacement above the last", (line_at(3) + 12, unhex("00000007"))),
-        ("replaced does not name back", (line_at(3) + 8, unhex("00000003"))),
+        ("replaced serial its own", (line_at(3) + 8, unhex("00000004"))),
+        ("replaced serial above its own", (line_at(3) + 8, unhex("00000005"))),
+        ("replacement serial its own", (line_at(3) + 12, unhex("00000004"))),
+        ("replacement serial below its own", (line_at(3) + 12, unhex("00000003"))),
+        ("replacement serial above the last", (line_at(3) + 12, unhex("00000007"))),
+        ("replaced serial of a key that does not name back", (line_at(3) + 8, unhex("00000003"))),
         ("old end of a link gone", (line_at(0) + 12, unhex("00000000"))),
         ("new end of a link gone", (line_at(1) + 8, unhex("00000000"))),
     ]:
@@ -1254,7 +1267,19 @@ def cards_of_bad_lines(s):
 def all_cards():
     s = Script()
     s.say("# The bench cards of document 01, and one success and each failure of each operation, each refusal, and what the table holds after some of them.")
-    s.say("# Written by make_cards.py, with what is expected of it; what the commands are says the library `cardslib`.")
+    s.say("# Written by make_cards.py, together with what is expected of it. The commands, one a line; numbers are decimal, and blanks between bytes are skipped:")
+    for command in [
+        "blank                       a blank table, an output full of FF, clock 0, room 4824, strip 512 (the bytes 0 to 255 twice), size 4624",
+        "put OFFSET HEX              lays bytes over the table",
+        "clock NUMBER                the clock from here on, from -2^63 to 2^63 - 1",
+        "room NUMBER                 how many bytes of output are lent from here on, at most 8192",
+        "strip NUMBER                how many bytes of the strip, at most 1024",
+        "size NUMBER                 how many bytes of the table, at most 4624",
+        "request NAME: HEX           serves a request of at most 8192 bytes, and prints NAME and the response, or the refusal",
+        "table NAME: OFFSET LENGTH   prints NAME and bytes of the table",
+        "output NAME: OFFSET LENGTH  prints NAME and bytes of the output",
+    ]:
+        s.say("#   " + command)
     for cards in [
         cards_of_depth,
         cards_of_grants,
@@ -1271,6 +1296,7 @@ def all_cards():
         cards_of_activate,
         cards_of_revoke,
         cards_of_destroy,
+        cards_of_single_changes,
         cards_of_attributes,
         cards_of_other_operations,
         cards_of_identifiers,
@@ -1300,4 +1326,5 @@ def main():
     print(f"{requests} requests, {views} views of table or output, {len(s.expected)} lines expected")
 
 
-main()
+if __name__ == "__main__":
+    main()

@@ -45,7 +45,7 @@ struct Done {
     setting: Setting,
 }
 
-// The setting that a blank table starts with.
+// The setting that a blank table starts with: room, strip and table as large as 01 has them.
 fn usual() -> Setting {
     Setting {
         clock: 0,
@@ -55,7 +55,8 @@ fn usual() -> Setting {
     }
 }
 
-fn kept(good: bool, setting: Setting) -> Done {
+// A line that was one of a script or not, and the setting after it.
+fn ended(good: bool, setting: Setting) -> Done {
     Done { good, setting }
 }
 
@@ -77,6 +78,7 @@ fn fill(s: &mut [u8], buffer: Buffer) {
     }
 }
 
+// The command that a word names.
 fn verb_of(word: &[u8]) -> Verb {
     if read::same(word, b"blank") {
         return Verb::Blank;
@@ -111,27 +113,27 @@ fn verb_of(word: &[u8]) -> Verb {
 // `blank`: the table, the output and the setting as they are at first.
 fn blank(rest: &[u8], table: &mut [u8], out: &mut [u8], setting: Setting) -> Done {
     if rest.len() != 0 {
-        return kept(false, setting);
+        return ended(false, setting);
     }
     fill(table, Buffer::Table);
     fill(out, Buffer::Output);
-    kept(true, usual())
+    ended(true, usual())
 }
 
-// `clock NUMBER`
+// `clock NUMBER`: the clock from here on.
 fn set_clock(rest: &[u8], setting: Setting) -> Done {
     let Clock::Is(clock) = read::clock_in(rest) else {
-        return kept(false, setting);
+        return ended(false, setting);
     };
     let mut s = setting;
     s.clock = clock;
-    kept(true, s)
+    ended(true, s)
 }
 
 // `size NUMBER`, `strip NUMBER`, `room NUMBER`: how many bytes of a buffer are lent from here on.
 fn lend(rest: &[u8], buffer: Buffer, setting: Setting) -> Done {
     let Number::Is(n) = read::number_in(rest) else {
-        return kept(false, setting);
+        return ended(false, setting);
     };
     let mut s = setting;
     match buffer {
@@ -139,7 +141,7 @@ fn lend(rest: &[u8], buffer: Buffer, setting: Setting) -> Done {
         Buffer::Strip => s.strip = n,
         Buffer::Output => s.room = n,
     }
-    kept(true, s)
+    ended(true, s)
 }
 
 // Lays s over the front of t, as much of it as t has room for.
@@ -161,11 +163,11 @@ fn put(rest: &[u8], table: &mut [u8]) -> bool {
         return false;
     };
     let mut bytes = [0u8; 4624];
-    let read = read::bytes_in(&rest[gap..], &mut bytes);
-    if !read.good {
+    let found = read::bytes_in(&rest[gap..], &mut bytes);
+    if !found.good {
         return false;
     }
-    let n = read.count;
+    let n = found.count;
     if n == 0 {
         return false;
     }
@@ -198,7 +200,7 @@ fn show(rest: &[u8], s: &[u8]) -> bool {
     true
 }
 
-// Serves a request by the setting, and says what came of it.
+// Serves a request by the setting, and prints what came of it, or of what more is lent than there is.
 fn answer(request: &[u8], table: &mut [u8], strip: &[u8], out: &mut [u8], s: Setting) {
     let size = s.size;
     let given = s.strip;
@@ -225,7 +227,7 @@ fn answer(request: &[u8], table: &mut [u8], strip: &[u8], out: &mut [u8], s: Set
     print::answer(out, served.number, served.length);
 }
 
-// `request NAME: HEX`
+// `request NAME: HEX`: serves these bytes.
 fn request(rest: &[u8], table: &mut [u8], strip: &[u8], out: &mut [u8], setting: Setting) -> bool {
     let stop = read::name_end(rest);
     if stop == rest.len() {
@@ -233,11 +235,11 @@ fn request(rest: &[u8], table: &mut [u8], strip: &[u8], out: &mut [u8], setting:
     }
     let from = read::past(rest, stop);
     let mut bytes = [0u8; 8192];
-    let read = read::bytes_in(&rest[from..], &mut bytes);
-    if !read.good {
+    let found = read::bytes_in(&rest[from..], &mut bytes);
+    if !found.good {
         return false;
     }
-    let n = read.count;
+    let n = found.count;
     print::name(&rest[..stop]);
     answer(&bytes[..n], table, strip, out, setting);
     true
@@ -251,15 +253,15 @@ fn carry_out(line: &[u8], table: &mut [u8], strip: &[u8], out: &mut [u8], s: Set
     let rest = &line[from..];
     match verb {
         Verb::Blank => blank(rest, table, out, s),
-        Verb::Put => kept(put(rest, table), s),
+        Verb::Put => ended(put(rest, table), s),
         Verb::Clock => set_clock(rest, s),
         Verb::Size => lend(rest, Buffer::Table, s),
         Verb::Strip => lend(rest, Buffer::Strip, s),
         Verb::Room => lend(rest, Buffer::Output, s),
-        Verb::Request => kept(request(rest, table, strip, out, s), s),
-        Verb::Table => kept(show(rest, table), s),
-        Verb::Output => kept(show(rest, out), s),
-        Verb::Unknown => kept(false, s),
+        Verb::Request => ended(request(rest, table, strip, out, s), s),
+        Verb::Table => ended(show(rest, table), s),
+        Verb::Output => ended(show(rest, out), s),
+        Verb::Unknown => ended(false, s),
     }
 }
 

@@ -9,6 +9,7 @@ fn digit(n: u8) -> u8
     if n < 10 { 48 + n } else { 55 + n }
 }
 
+// A byte as two hex digits.
 fn byte(b: u8) {
     let pair = [digit(b / 16), digit(b % 16)];
     io::write_all(1, &pair);
@@ -35,7 +36,8 @@ pub fn bad_line(s: &[u8]) {
     io::write_all(1, b"\n");
 }
 
-// The response at the front of the output, or the number of the refusal.
+// The response at the front of the output, or the number of the refusal. That a response fits is the engine's promise; here it is tested, so that
+// nothing has to be asked.
 pub fn answer(out: &[u8], number: u32, len: usize) {
     if number != 0 {
         io::write_all(1, b"refusal ");

@@ -141,7 +141,7 @@ pub fn number_in(s: &[u8]) -> Number {
     Number::Is(n)
 }
 
-// A number that is no negative clock.
+// A number without a sign, as a clock.
 fn from_zero(n: usize) -> Clock {
     if n < CLOCK_TOP {
         Clock::Is(n as i64)
@@ -150,7 +150,7 @@ fn from_zero(n: usize) -> Clock {
     }
 }
 
-// A number that stands behind a minus sign; there is no -0. In two's complement the negative of n is n - 1 with every bit turned.
+// A number behind a minus sign, as a clock; there is no -0. In two's complement the negative of n is n - 1 with every bit turned.
 fn below_zero(n: usize) -> Clock {
     if n == 0 {
         return Clock::Bad;
@@ -191,7 +191,7 @@ pub fn span_in(s: &[u8]) -> Span {
     Span::Of { at, len }
 }
 
-// That what stood there was no bytes.
+// What stood there was no bytes, or too many.
 fn bad() -> Count
     ensures { λ r. ⌜ r .count ≡ 0 ⌝ }
 {

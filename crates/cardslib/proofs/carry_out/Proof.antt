@@ -9,7 +9,7 @@ use Rattle.cardslib.proofs.carry_out.Tie as tie
 use Rattle.cardslib.proofs.carry_out.Reads as reads
 use Rattle.cardslib.proofs.carry_out.Lts as lts
 use Rattle.cardslib.proofs.blank.Reads as blank-reads
-use Rattle.cardslib.proofs.kept.Reads as kept-reads
+use Rattle.cardslib.proofs.ended.Reads as ended-reads
 use Rattle.cardslib.proofs.lend.Reads as lend-reads
 use Rattle.cardslib.proofs.put.Reads as put-reads
 use Rattle.cardslib.proofs.read.find.Reads as find-reads
@@ -52,8 +52,8 @@ enum-told-2 c = search needs
 put-requires : tie.Need-put-requires
 put-requires c κs = search needs
 
-kept-requires : tie.Need-kept-requires
-kept-requires c κs = search needs
+ended-requires : tie.Need-ended-requires
+ended-requires c κs = search needs
 
 enum-told-3 : tie.Need-enum-told-3
 enum-told-3 c = search needs
@@ -85,8 +85,8 @@ enum-told-7 c = search needs
 request-requires : tie.Need-request-requires
 request-requires c κs = search needs
 
-kept-requires-2 : tie.Need-kept-requires-2
-kept-requires-2 c κs = search needs
+ended-requires-2 : tie.Need-ended-requires-2
+ended-requires-2 c κs = search needs
 
 enum-told-8 : tie.Need-enum-told-8
 enum-told-8 c = search needs
@@ -94,8 +94,8 @@ enum-told-8 c = search needs
 show-requires : tie.Need-show-requires
 show-requires c κs = search needs
 
-kept-requires-3 : tie.Need-kept-requires-3
-kept-requires-3 c κs = search needs
+ended-requires-3 : tie.Need-ended-requires-3
+ended-requires-3 c κs = search needs
 
 enum-told-9 : tie.Need-enum-told-9
 enum-told-9 c = search needs
@@ -103,14 +103,14 @@ enum-told-9 c = search needs
 show-requires-2 : tie.Need-show-requires-2
 show-requires-2 c κs = search needs
 
-kept-requires-4 : tie.Need-kept-requires-4
-kept-requires-4 c κs = search needs
+ended-requires-4 : tie.Need-ended-requires-4
+ended-requires-4 c κs = search needs
 
 enum-told-10 : tie.Need-enum-told-10
 enum-told-10 c = search needs
 
-kept-requires-5 : tie.Need-kept-requires-5
-kept-requires-5 c κs = search needs
+ended-requires-5 : tie.Need-ended-requires-5
+ended-requires-5 c κs = search needs
 
 same-length : tie.Need-same-length
 same-length c = search needs
@@ -178,7 +178,7 @@ carry-out-spec =
     blank-requires
     enum-told-2
     put-requires
-    kept-requires
+    ended-requires
     enum-told-3
     set-clock-requires
     enum-told-4
@@ -189,15 +189,15 @@ carry-out-spec =
     lend-requires-3
     enum-told-7
     request-requires
-    kept-requires-2
+    ended-requires-2
     enum-told-8
     show-requires
-    kept-requires-3
+    ended-requires-3
     enum-told-9
     show-requires-2
-    kept-requires-4
+    ended-requires-4
     enum-told-10
-    kept-requires-5
+    ended-requires-5
     same-length
     same-length-2
     returns

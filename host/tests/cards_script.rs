@@ -1,0 +1,167 @@
+//! The script of the program `cards` on every engine that is there: its stored answers were worked out from the
+//! papers, and each engine has to give them.
+//! The commands are those of the crate `cardslib`, written down here once more.
+
+mod support;
+
+use junctionmoth::{blank_table, Engine, ROOM, STRIP, TABLE};
+use support::coverage::Coverage;
+use support::{engines, hex, Case, Effect};
+
+const SCRIPT: &str = include_str!("../../crates/cards/stdin");
+const ANSWERS: &str = include_str!("../../crates/cards/stdout");
+
+/// Bytes of output that there are to lend.
+const ROOM_MOST: usize = 8192;
+/// Bytes of strip that there are to lend.
+const STRIP_MOST: usize = 1024;
+/// Bytes of the longest request that a line has.
+const REQUEST_MOST: usize = 8192;
+
+/// How a request is served: the clock, and how many bytes of output, strip and table are lent.
+struct Setting {
+    clock: i64,
+    room: usize,
+    strip: usize,
+    size: usize,
+}
+
+/// The bench: an engine, the table, the output, the setting, and what occurred so far.
+struct Bench {
+    engine: Engine,
+    table: Vec<u8>,
+    out: Vec<u8>,
+    setting: Setting,
+    coverage: Coverage,
+}
+
+fn usual() -> Setting {
+    Setting { clock: 0, room: ROOM, strip: STRIP, size: TABLE }
+}
+
+impl Bench {
+    fn new(engine: Engine) -> Bench {
+        let (table, out) = (blank_table().to_vec(), vec![0xFF; ROOM_MOST]);
+        Bench { engine, table, out, setting: usual(), coverage: Coverage::default() }
+    }
+
+    /// What a line prints: one line or nothing.
+    fn line(&mut self, line: &str) -> String {
+        if line.is_empty() || line.starts_with('#') {
+            return String::new();
+        }
+        self.carry_out(line).unwrap_or_else(|| format!("bad line: {line}\n"))
+    }
+
+    /// What a command prints; nothing at all if it is no command.
+    fn carry_out(&mut self, line: &str) -> Option<String> {
+        let (verb, rest) = line.split_once(' ').unwrap_or((line, ""));
+        match verb {
+            "blank" if rest.is_empty() => self.blank(),
+            "put" => self.put(rest)?,
+            "clock" => self.setting.clock = clock(rest)?,
+            "room" => self.setting.room = number(rest)?,
+            "strip" => self.setting.strip = number(rest)?,
+            "size" => self.setting.size = number(rest)?,
+            "request" => return self.request(rest),
+            "table" => return show(rest, &self.table),
+            "output" => return show(rest, &self.out),
+            _ => return None,
+        }
+        Some(String::new())
+    }
+
+    fn blank(&mut self) {
+        self.table = blank_table().to_vec();
+        self.out.fill(0xFF);
+        self.setting = usual();
+    }
+
+    fn put(&mut self, rest: &str) -> Option<()> {
+        let (at, digits) = rest.split_once(' ')?;
+        let (at, bytes) = (number(at)?, bytes(digits, TABLE)?);
+        let end = at.checked_add(bytes.len())?;
+        self.table.get_mut(at..end).filter(|_| !bytes.is_empty())?.copy_from_slice(&bytes);
+        Some(())
+    }
+
+    fn request(&mut self, rest: &str) -> Option<String> {
+        let (name, digits) = rest.split_once(": ")?;
+        let request = bytes(digits, REQUEST_MOST)?;
+        Some(format!("{name}: {}\n", self.serve(request)))
+    }
+
+    /// Serves a request by the setting: the response, or the refusal, or what there is too little of.
+    fn serve(&mut self, request: Vec<u8>) -> String {
+        let Setting { clock, room, strip, size } = self.setting;
+        for (name, lent, most) in [("size", size, TABLE), ("strip", strip, STRIP_MOST), ("room", room, ROOM_MOST)] {
+            if lent > most {
+                return format!("no such {name}");
+            }
+        }
+        let fresh: Vec<u8> = (0..strip).map(|at| at as u8).collect();
+        let case = Case { request, table: self.table[..size].to_vec(), fresh, clock, room };
+        let (table, out) = (&mut self.table[..size], &mut self.out[..room]);
+        let served = (self.engine)(&case.request, table, &case.fresh, clock, out);
+        let effect = Effect { served, table: table.to_vec(), out: out.to_vec() };
+        self.coverage.count(&case, &effect);
+        match served {
+            Ok(length) => hex(&effect.out[..length]),
+            Err(refusal) => refusal.to_string(),
+        }
+    }
+}
+
+/// A decimal number: digits alone.
+fn number(digits: &str) -> Option<usize> {
+    digits.bytes().all(|digit| digit.is_ascii_digit()).then(|| digits.parse().ok())?
+}
+
+/// A decimal number that may be negative; there is no -0.
+fn clock(digits: &str) -> Option<i64> {
+    let bare = digits.strip_prefix('-').unwrap_or(digits);
+    (number(bare).is_some() && digits != "-0").then(|| digits.parse().ok())?
+}
+
+/// Pairs of upper-case hex digits, with blanks between them where one likes; at most so many.
+fn bytes(digits: &str, most: usize) -> Option<Vec<u8>> {
+    let is_digit = |digit: u8| digit.is_ascii_digit() || (b'A'..=b'F').contains(&digit);
+    let words = digits.split(' ');
+    if !words.clone().all(|word| word.len() % 2 == 0 && word.bytes().all(is_digit)) {
+        return None;
+    }
+    Some(support::unhex(digits)).filter(|bytes| bytes.len() <= most)
+}
+
+/// `NAME: OFFSET LENGTH`: these bytes as a line.
+fn show(rest: &str, bytes: &[u8]) -> Option<String> {
+    let (name, span) = rest.split_once(": ")?;
+    let (at, length) = span.split_once(' ')?;
+    let at = number(at)?;
+    let end = at.checked_add(number(length)?)?;
+    Some(format!("{name}: {}\n", hex(bytes.get(at..end)?)))
+}
+
+#[test]
+fn every_engine_gives_the_stored_answers() {
+    for (name, engine) in engines() {
+        let mut bench = Bench::new(engine);
+        let printed: String = SCRIPT.lines().map(|line| bench.line(line)).collect();
+        for (ours, stored) in printed.lines().zip(ANSWERS.lines()) {
+            assert_eq!(ours, stored, "{name}");
+        }
+        assert_eq!(printed.lines().count(), ANSWERS.lines().count(), "{name}");
+    }
+}
+
+/// Each refusal, each operation with success and each reason, each rule of soundness, each change of state.
+#[test]
+fn the_script_leaves_nothing_out() {
+    let (_, engine) = engines()[0];
+    let mut bench = Bench::new(engine);
+    for line in SCRIPT.lines() {
+        bench.line(line);
+    }
+    let missing = bench.coverage.report();
+    assert!(missing.is_empty(), "{missing:#?}");
+}
