@@ -16,7 +16,7 @@ fn byte(b: u8) {
 }
 
 // Bytes as hex without blanks, to the end of a line.
-pub fn bytes(s: &[u8]) {
+pub(crate) fn bytes(s: &[u8]) {
     for i in 0..s.len() {
         byte(s[i]);
     }
@@ -24,13 +24,13 @@ pub fn bytes(s: &[u8]) {
 }
 
 // The name of a card, before what came of it.
-pub fn name(s: &[u8]) {
+pub(crate) fn name(s: &[u8]) {
     io::write_all(1, s);
     io::write_all(1, b": ");
 }
 
 // A line that is none of a script.
-pub fn bad_line(s: &[u8]) {
+pub(crate) fn bad_line(s: &[u8]) {
     io::write_all(1, b"bad line: ");
     io::write_all(1, s);
     io::write_all(1, b"\n");
@@ -38,7 +38,7 @@ pub fn bad_line(s: &[u8]) {
 
 // The response at the front of the output, or the number of the refusal. That a response fits is the engine's promise; here it is tested, so that
 // nothing has to be asked.
-pub fn answer(out: &[u8], number: u32, len: usize) {
+pub(crate) fn answer(out: &[u8], number: u32, len: usize) {
     if number != 0 {
         io::write_all(1, b"refusal ");
         io::print_decimal(1, number as u64);

@@ -11,31 +11,31 @@ const TENTH: usize = 1844674407370955160;
 const CLOCK_TOP: usize = 0x8000000000000000;
 
 // A number, or none.
-pub enum Number {
+pub(crate) enum Number {
     Is(usize),
     Bad,
 }
 
 // A clock, or none.
-pub enum Clock {
+pub(crate) enum Clock {
     Is(i64),
     Bad,
 }
 
 // Where bytes start and how many they are, or nothing.
-pub enum Span {
+pub(crate) enum Span {
     Of { at: usize, len: usize },
     Bad,
 }
 
 // How many bytes were read, if what stood there was bytes.
-pub struct Count {
-    pub good: bool,
-    pub count: usize,
+pub(crate) struct Count {
+    pub(crate) good: bool,
+    pub(crate) count: usize,
 }
 
 // Where b stands first in s, or the length of s.
-pub fn find(s: &[u8], b: u8) -> usize
+pub(crate) fn find(s: &[u8], b: u8) -> usize
     ensures { λ r. ⌜ r ≤ length (now (s .entry)) ⌝ }
 {
     let mut i: usize = 0;
@@ -49,7 +49,7 @@ pub fn find(s: &[u8], b: u8) -> usize
 }
 
 // Where the colon and the blank that end a name stand first in s, or the length of s.
-pub fn name_end(s: &[u8]) -> usize
+pub(crate) fn name_end(s: &[u8]) -> usize
     ensures { λ r. ⌜ r ≤ length (now (s .entry)) ⌝ }
 {
     let mut i: usize = 1;
@@ -65,14 +65,14 @@ pub fn name_end(s: &[u8]) -> usize
 }
 
 // The place after `at`, or the end of s.
-pub fn past(s: &[u8], at: usize) -> usize
+pub(crate) fn past(s: &[u8], at: usize) -> usize
     ensures { λ r. ⌜ r ≡ min (at + 1) (length (now (s .entry))) ⌝ }
 {
     if at < s.len() { at + 1 } else { s.len() }
 }
 
 // Whether a and b are the same bytes.
-pub fn same(a: &[u8], b: &[u8]) -> bool {
+pub(crate) fn same(a: &[u8], b: &[u8]) -> bool {
     if a.len() != b.len() {
         return false;
     }
@@ -87,7 +87,7 @@ pub fn same(a: &[u8], b: &[u8]) -> bool {
 }
 
 // Whether a line says nothing: an empty one, or a comment.
-pub fn is_silent(line: &[u8]) -> bool {
+pub(crate) fn is_silent(line: &[u8]) -> bool {
     if line.len() == 0 {
         return true;
     }
@@ -121,7 +121,7 @@ fn pair(high: u8, low: u8) -> usize
 }
 
 // A decimal number: one digit or more, at most 18,446,744,073,709,551,609.
-pub fn number_in(s: &[u8]) -> Number {
+pub(crate) fn number_in(s: &[u8]) -> Number {
     if s.len() == 0 {
         return Number::Bad;
     }
@@ -162,7 +162,7 @@ fn below_zero(n: usize) -> Clock {
 }
 
 // A decimal number from -2^63 to 2^63 - 1.
-pub fn clock_in(s: &[u8]) -> Clock {
+pub(crate) fn clock_in(s: &[u8]) -> Clock {
     if s.len() == 0 {
         return Clock::Bad;
     }
@@ -179,7 +179,7 @@ pub fn clock_in(s: &[u8]) -> Clock {
 }
 
 // Two decimal numbers with a blank between them: where bytes start and how many they are.
-pub fn span_in(s: &[u8]) -> Span {
+pub(crate) fn span_in(s: &[u8]) -> Span {
     let gap = find(s, b' ');
     let Number::Is(at) = number_in(&s[..gap]) else {
         return Span::Bad;
@@ -202,7 +202,7 @@ fn bad() -> Count
 }
 
 // Bytes as pairs of upper-case hex digits, with blanks between them where one likes, over the front of out.
-pub fn bytes_in(s: &[u8], out: &mut [u8]) -> Count
+pub(crate) fn bytes_in(s: &[u8], out: &mut [u8]) -> Count
     ensures { λ r. ⌜ r .count ≤ length (now (out .exit)) ⌝ }
 {
     let mut n: usize = 0;
