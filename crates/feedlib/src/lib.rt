@@ -1,0 +1,176 @@
+// The feed program's work: calls of the engine in a plain binary form from one file descriptor, and all that each of them left, to another.
+// What it writes is tested and not proved; the call is the engine's. docs/CONTRACTS.md has the form.
+ghost use mathlib.Core.Path.{_≡_};
+ghost use Prim.Native.Nat.{_≤_};
+ghost use lib.ListN.{length};
+ghost use mathlib.Core.Bool.{true};
+ghost use mir.Syntax.{w64};
+ghost use mir.Val.{ofZ};
+
+// The bytes of a head.
+const HEAD: usize = 25;
+
+// The most that the buffers of request, table and output hold.
+const MOST: usize = 8192;
+
+// The most that the buffer of the strip holds.
+const STRIP_MOST: usize = 1024;
+
+// What stands in front of a call: the lengths of its buffers, the clock, and what fills the output.
+struct Head {
+    request: usize,
+    table: usize,
+    strip: usize,
+    room: usize,
+    clock: i64,
+    fill: u8,
+}
+
+fn length_at(s: &[u8], at: usize) -> usize
+    requires { ⌜ at ≤ 12 ⌝ }
+    requires { ⌜ length (now s) ≡ 25 ⌝ }
+{
+    let end = at + 4;
+    octets::number(&s[at..end]) as usize
+}
+
+// The clock of these 64 bits, two's complement.
+fn clock_of(bits: u64) -> i64
+    ensures { λ r. ⌜ ofZ w64 r ≡ bits ⌝ }
+{
+    if bits < 9223372036854775808 {
+        bits as i64
+    } else {
+        -1 - ((18446744073709551615 - bits) as i64)
+    }
+}
+
+fn read_head(s: &[u8]) -> Head
+    requires { ⌜ length (now s) ≡ 25 ⌝ }
+{
+    Head {
+        request: length_at(s, 0),
+        table: length_at(s, 4),
+        strip: length_at(s, 8),
+        room: length_at(s, 12),
+        clock: clock_of(octets::number(&s[16..24])),
+        fill: s[24],
+    }
+}
+
+// Says that a call is too large for the buffers.
+fn too_large() -> bool {
+    io::write_all(
+        2,
+        b"feed: a length is above what is held: 8192 for request, table and output, 1024 for the strip\n",
+    );
+    false
+}
+
+// Reads all of s; if the input ends before, says so.
+fn take(from: i32, s: &mut [u8]) -> bool {
+    if io::read_full(from, s) == s.len() {
+        return true;
+    }
+    io::write_all(2, b"feed: the input ends inside a case\n");
+    false
+}
+
+fn fill(s: &mut [u8], value: u8) {
+    let mut i: usize = 0;
+    while i < s.len() {
+        s[i] = value;
+        i += 1;
+    }
+}
+
+// Writes what a call left; if the output takes no more, says so.
+fn give(to: i32, number: u32, used: usize, table: &[u8], out: &[u8]) -> bool {
+    let mut front = [0u8; 12];
+    octets::put(&mut front, 0, 4, number as u64);
+    octets::put(&mut front, 4, 8, used as u64);
+    if io::write_all(to, &front) && io::write_all(to, table) && io::write_all(to, out) {
+        return true;
+    }
+    io::write_all(2, b"feed: the output takes no more\n");
+    false
+}
+
+// One call in buffers of its sizes: the bytes read, the engine called, what it left written. Answers whether to go on.
+fn call(
+    from: i32,
+    to: i32,
+    head: Head,
+    request: &mut [u8],
+    table: &mut [u8],
+    strip: &mut [u8],
+    out: &mut [u8],
+) -> bool {
+    if !take(from, request) {
+        return false;
+    }
+    if !take(from, table) {
+        return false;
+    }
+    if !take(from, strip) {
+        return false;
+    }
+    fill(out, head.fill);
+    let served = engine::serve(request, table, strip, head.clock, out);
+    give(to, served.number, served.length, table, out)
+}
+
+// The call that a head stands in front of. Answers whether to go on.
+fn headed(from: i32, to: i32, head: Head) -> bool {
+    let r = head.request;
+    let t = head.table;
+    let s = head.strip;
+    let o = head.room;
+    if MOST < r {
+        return too_large();
+    }
+    if MOST < t {
+        return too_large();
+    }
+    if STRIP_MOST < s {
+        return too_large();
+    }
+    if MOST < o {
+        return too_large();
+    }
+    let mut request = [0u8; MOST];
+    let mut table = [0u8; MOST];
+    let mut strip = [0u8; STRIP_MOST];
+    let mut out = [0u8; MOST];
+    call(
+        from,
+        to,
+        head,
+        &mut request[..r],
+        &mut table[..t],
+        &mut strip[..s],
+        &mut out[..o],
+    )
+}
+
+// The next case, if there is one. Answers whether to go on.
+fn next(from: i32, to: i32) -> bool {
+    let mut head = [0u8; HEAD];
+    let n = io::read_full(from, &mut head);
+    if n == 0 {
+        return false;
+    }
+    if n < HEAD {
+        io::write_all(2, b"feed: the input ends inside a head\n");
+        return false;
+    }
+    headed(from, to, read_head(&head))
+}
+
+// All cases until the input ends. A proved loop has to end, and nothing says that an input does: it counts down from a number that no run uses up.
+pub fn run(from: i32, to: i32) {
+    let mut turns = u64::MAX;
+    while turns > 0 && next(from, to) {
+        turns -= 1;
+    }
+}
