@@ -1,7 +1,7 @@
 //! The proved engine, called through its C function.
 //! Assumes that the linked archive has that function with the signature below and keeps its contract.
 
-use crate::{Refusal, Served};
+use crate::Served;
 
 extern "C" {
     fn junctionmoth_serve(
@@ -38,11 +38,5 @@ pub fn serve(request: &[u8], table: &mut [u8], fresh: &[u8], clock: i64, out: &m
             &mut length,
         )
     };
-    if number == 0 {
-        let length = usize::try_from(length).expect("a response is no longer than the room");
-        assert!(length <= out.len(), "a response is no longer than the room");
-        return Ok(length);
-    }
-    assert_eq!(length, 0, "a refusal has length 0");
-    Err(Refusal::from_number(number).expect("a refusal has a number from 1 to 9"))
+    crate::served(number, length, out.len())
 }

@@ -1,15 +1,16 @@
 //! Junctionmoth for Rust hosts: the proved engine behind a safe call, and what it is tested and raced against.
-//! With the feature `archive` (the default) the proved engine is linked; that it keeps its contract is assumed here.
+//! On x86-64, with the feature `archive` (the default), the proved engine is linked; that it keeps its contract is assumed here.
 
 use std::fmt;
 
-#[cfg(feature = "archive")]
+#[cfg(all(feature = "archive", target_arch = "x86_64"))]
 mod archive;
 pub mod message;
 pub mod model;
 pub mod ordinary;
+pub mod program;
 
-#[cfg(feature = "archive")]
+#[cfg(all(feature = "archive", target_arch = "x86_64"))]
 pub use archive::serve;
 
 /// Bytes of output room that no response exceeds; a call with less is refused.
@@ -27,6 +28,13 @@ pub type Served = Result<usize, Refusal>;
 
 /// An engine: request, table, fresh strip, clock (seconds, as a Date-Time), output.
 pub type Engine = fn(&[u8], &mut [u8], &[u8], i64, &mut [u8]) -> Served;
+
+/// The proved engine as it is linked: the archive on x86-64, and none on any other machine.
+#[cfg(all(feature = "archive", target_arch = "x86_64"))]
+pub const LINKED: Option<Engine> = Some(serve);
+/// The proved engine as it is linked: the archive on x86-64, and none on any other machine.
+#[cfg(not(all(feature = "archive", target_arch = "x86_64")))]
+pub const LINKED: Option<Engine> = None;
 
 /// Why a request was turned away. Where several apply the lowest number is given.
 #[derive(Clone, Copy, Debug, PartialEq, Eq, PartialOrd, Ord, Hash)]
@@ -84,6 +92,17 @@ impl fmt::Display for Refusal {
 }
 
 impl std::error::Error for Refusal {}
+
+/// What the proved engine answered, from its two numbers.
+fn served(number: u32, length: u64, room: usize) -> Served {
+    if number == 0 {
+        let length = usize::try_from(length).expect("a response is no longer than the room");
+        assert!(length <= room, "a response is no longer than the room");
+        return Ok(length);
+    }
+    assert_eq!(length, 0, "a refusal has length 0");
+    Err(Refusal::from_number(number).expect("a refusal has a number from 1 to 9"))
+}
 
 /// A blank table: all zero but the place count.
 pub fn blank_table() -> [u8; TABLE] {

@@ -1,25 +1,34 @@
 //! The proved engine, the model and the ordinary engine on cases from a seed: number, length, whole table and whole
 //! output must agree, and everything that can occur must have occurred. `JUNCTIONMOTH_CASES` and `JUNCTIONMOTH_SEED`
-//! set how many cases and where they start: a failing case is run alone by its own seed and one case.
+//! set how many cases and where they start: a failing case is run alone by its own seed and one case. Where the archive
+//! is linked, the first of them are run on the program too.
 
 mod support;
 
+use junctionmoth::Engine;
 use std::time::Instant;
 use support::coverage::Coverage;
 use support::rng::Rng;
-use support::{engines, Case};
+use support::{all_engines, engines, Case};
+
+/// How many cases are run on the program where the archive is linked.
+const PROGRAM_TOO: u64 = 10_000;
 
 fn main() {
     let cases = setting("JUNCTIONMOTH_CASES", 120_000);
     let seed = setting("JUNCTIONMOTH_SEED", 1);
-    let engines = engines();
-    let names: Vec<&str> = engines.iter().map(|(name, _)| *name).collect();
-    println!("{cases} cases from seed {seed} on: {}", names.join(", "));
+    let (few, all) = (engines(), all_engines());
+    println!("{cases} cases from seed {seed} on: {}", names(&few));
+    if few.len() < all.len() {
+        println!("the first {} of them: {}", cases.min(PROGRAM_TOO), names(&all));
+    }
     let start = Instant::now();
     let mut coverage = Coverage::default();
-    for seed in seed..seed + cases {
+    for number in 0..cases {
+        let seed = seed + number;
         let case = Case::any(&mut Rng::new(seed));
-        let effect = case.run_all(&engines, &format!("JUNCTIONMOTH_SEED={seed}"));
+        let engines = if number < PROGRAM_TOO { &all } else { &few };
+        let effect = case.run_all(engines, &format!("JUNCTIONMOTH_SEED={seed}"));
         coverage.count(&case, &effect);
     }
     let seconds = start.elapsed().as_secs_f64();
@@ -28,6 +37,10 @@ fn main() {
     if cases >= 100_000 {
         assert!(missing.is_empty(), "{}", missing.join("\n"));
     }
+}
+
+fn names(engines: &[(&'static str, Engine)]) -> String {
+    engines.iter().map(|&(name, _)| name).collect::<Vec<_>>().join(", ")
 }
 
 fn setting(name: &str, default: u64) -> u64 {

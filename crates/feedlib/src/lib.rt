@@ -3,7 +3,6 @@
 ghost use mathlib.Core.Path.{_≡_};
 ghost use Prim.Native.Nat.{_≤_};
 ghost use lib.ListN.{length};
-ghost use mathlib.Core.Bool.{true};
 ghost use mir.Syntax.{w64};
 ghost use mir.Val.{ofZ};
 
@@ -26,6 +25,7 @@ struct Head {
     fill: u8,
 }
 
+// The length that stands at this place of a head. `read_head` shows what it asks.
 fn length_at(s: &[u8], at: usize) -> usize
     requires { ⌜ at ≤ 12 ⌝ }
     requires { ⌜ length (now s) ≡ 25 ⌝ }
@@ -45,6 +45,7 @@ fn clock_of(bits: u64) -> i64
     }
 }
 
+// A head's parts. `next` shows its size.
 fn read_head(s: &[u8]) -> Head
     requires { ⌜ length (now s) ≡ 25 ⌝ }
 {

@@ -1,10 +1,10 @@
-//! The race: the proved engine against the ordinary one, in one run on one machine.
+//! The race: the proved engine, linked, against the ordinary one, in one run on one machine, which is an x86-64.
 //! Prints nanoseconds a call and their ratio. What is timed, and how buffers are restored, is said in its first lines.
 
 use junctionmoth::message::{allocation, create, item, request, target, Node};
 use junctionmoth::model::operations::identifier;
 use junctionmoth::model::table::{Record, Table};
-use junctionmoth::{ordinary, Engine, ROOM, STRIP};
+use junctionmoth::{ordinary, Engine, LINKED, ROOM, STRIP};
 use std::hint::black_box;
 use std::time::Instant;
 
@@ -38,6 +38,11 @@ const CONTROL: &str = "\
 Control: the ordinary engine in both columns, to show how far a ratio strays by chance.";
 
 fn main() {
+    let Some(proved) = LINKED else {
+        eprintln!("There is no race here: it needs the proved engine linked, and the archive links on x86-64 alone.");
+        eprintln!("A program under an emulator would be timed with its emulator, which says nothing of the engine.");
+        std::process::exit(2);
+    };
     if cfg!(debug_assertions) {
         println!("This is no release build: its times say nothing. Use cargo run --release --bin race");
     }
@@ -46,9 +51,9 @@ fn main() {
     println!("{:44} {:>9} {:>9} {:>6}  items that succeed", "", "proved", "ordinary", "ratio");
     let restore = fastest((0..ROUNDS).map(|_| restoring(&full())).collect());
     for scene in scenes() {
-        run(&scene, restore);
+        run(proved, &scene, restore);
     }
-    soundness(restore);
+    soundness(proved, restore);
     control(restore);
 }
 
@@ -130,9 +135,9 @@ fn live_record(serial: u32) -> Record {
 }
 
 /// Times both engines on a scene and prints a line.
-fn run(scene: &Scene, restore: f64) {
-    let successes = compare(scene);
-    let (proved, plain) = race(junctionmoth::serve, ordinary::serve, scene);
+fn run(proved: Engine, scene: &Scene, restore: f64) {
+    let successes = compare(proved, scene);
+    let (proved, plain) = race(proved, ordinary::serve, scene);
     print_line(&scene.name, proved - restore, plain - restore, &successes);
 }
 
@@ -144,14 +149,14 @@ fn race(first: Engine, second: Engine, scene: &Scene) -> (f64, f64) {
 }
 
 /// The soundness check, seen through refusal 4, and that of the ordinary engine by itself.
-fn soundness(restore: f64) {
+fn soundness(proved: Engine, restore: f64) {
     println!("\n{SOUNDNESS}");
     let mut tables = tables().to_vec();
     tables.push(("full, unordered", unordered()));
     for (fill, table) in tables {
         let name = format!("refusal 4, {fill} table");
         let alone = fastest((0..ROUNDS).map(|_| checking(&table)).collect());
-        run(&Scene { name, request: Vec::new(), table }, restore);
+        run(proved, &Scene { name, request: Vec::new(), table }, restore);
         println!("{:44} {:>9} {alone:>9.0}", "  the check by itself", "");
     }
 }
@@ -174,9 +179,9 @@ fn buffers(table: &[u8]) -> Buffers {
 }
 
 /// Both engines must do the same. Says how many items succeed, or which refusal is given.
-fn compare(scene: &Scene) -> String {
+fn compare(proved: Engine, scene: &Scene) -> String {
     let (mut one, mut two) = (buffers(&scene.table), buffers(&scene.table));
-    let first = junctionmoth::serve(&scene.request, &mut one.table, &one.fresh, 0, &mut one.out);
+    let first = proved(&scene.request, &mut one.table, &one.fresh, 0, &mut one.out);
     let second = ordinary::serve(&scene.request, &mut two.table, &two.fresh, 0, &mut two.out);
     assert!(first == second && one.table == two.table && one.out == two.out, "{}: the engines differ", scene.name);
     match first {

@@ -8,17 +8,21 @@ pub mod rng;
 pub mod tables;
 
 use junctionmoth::model::table::Table;
-use junctionmoth::{model, ordinary, Engine, Served, ROOM, STRIP};
+use junctionmoth::{model, ordinary, program, Engine, Served, LINKED, ROOM, STRIP};
 use rng::Rng;
 
-/// All engines that are there: the model first.
+/// The engines that every case is run on: the model first; the proved one as the archive, or as the program where no
+/// archive is linked.
 pub fn engines() -> Vec<(&'static str, Engine)> {
-    vec![
-        ("model", model::serve),
-        ("ordinary", ordinary::serve),
-        #[cfg(feature = "archive")]
-        ("proved", junctionmoth::serve),
-    ]
+    all_engines().into_iter().take(3).collect()
+}
+
+/// The same with the program in any case, which is slower than a call.
+pub fn all_engines() -> Vec<(&'static str, Engine)> {
+    let mut engines: Vec<(&str, Engine)> = vec![("model", model::serve), ("ordinary", ordinary::serve)];
+    engines.extend(LINKED.map(|archive| ("proved archive", archive)));
+    engines.push(("proved program", program::serve));
+    engines
 }
 
 /// The inputs of a call.
@@ -29,6 +33,8 @@ pub struct Case {
     pub fresh: Vec<u8>,
     pub clock: i64,
     pub room: usize,
+    /// What the output is full of before the call.
+    pub fill: u8,
 }
 
 /// All that a call gives or changes.
@@ -42,7 +48,7 @@ pub struct Effect {
 impl Case {
     /// A call as the bench program makes it: a strip of the bytes 0 to 255 twice, clock 0, 4,824 bytes of room.
     pub fn new(request: Vec<u8>, table: Vec<u8>) -> Case {
-        Case { request, table, fresh: (0..STRIP).map(|at| at as u8).collect(), clock: 0, room: ROOM }
+        Case { request, table, fresh: (0..STRIP).map(|at| at as u8).collect(), clock: 0, room: ROOM, fill: 0xA5 }
     }
 
     /// Any case at all.
@@ -61,13 +67,14 @@ impl Case {
             } else {
                 rng.pick(&[ROOM, ROOM, ROOM + 1, 8192])
             },
+            fill: rng.next() as u8,
         }
     }
 
-    /// Makes the call on copies; the output is filled with a pattern before.
+    /// Makes the call on copies.
     pub fn run(&self, engine: Engine) -> Effect {
         let mut table = self.table.clone();
-        let mut out = pattern(self.room);
+        let mut out = vec![self.fill; self.room];
         let served = engine(&self.request, &mut table, &self.fresh, self.clock, &mut out);
         Effect { served, table, out }
     }
@@ -78,7 +85,7 @@ impl Case {
         let expected = self.run(model);
         if expected.served.is_err() {
             assert!(
-                expected.table == self.table && expected.out == pattern(self.room),
+                expected.table == self.table && expected.out == vec![self.fill; self.room],
                 "{name}: a refusal left a trace"
             );
         }
@@ -92,7 +99,7 @@ impl Case {
     }
 
     fn report(&self, name: &str, effects: &[(&str, &Effect)]) -> ! {
-        println!("{name}: engines differ; clock {}, room {}", self.clock, self.room);
+        println!("{name}: engines differ; clock {}, room {}, fill {}", self.clock, self.room, self.fill);
         println!("request {}\ntable {}\nfresh {}", hex(&self.request), hex(&self.table), hex(&self.fresh));
         for (engine, effect) in effects {
             let length = effect.served.unwrap_or(0).min(effect.out.len());
@@ -100,7 +107,7 @@ impl Case {
             println!("{engine}: table changed at {:?}", changes(&self.table, &effect.table));
             println!(
                 "{engine}: output changed past the response at {:?}",
-                changes(&pattern(self.room)[length..], &effect.out[length..])
+                changes(&vec![self.fill; self.room][length..], &effect.out[length..])
             );
         }
         panic!("{name}: engines differ");
@@ -147,18 +154,13 @@ fn any_table(rng: &mut Rng, table: &Table) -> Vec<u8> {
             let at = rng.index(bytes.len());
             bytes[at] ^= 1 << rng.below(8);
         }
-        98 => bytes.resize(rng.pick(&[0, 1, 15, 16, 1040, 4623, 4625, 4680, 5648, 9248]), 0),
+        98 => bytes.resize(rng.pick(&[0, 1, 15, 16, 1040, 4623, 4625, 4680, 5648, 8192]), 0),
         _ => {
             let any = rng.bytes(bytes.len());
             bytes = rng.pick(&[any, vec![0; bytes.len()], vec![0xFF; bytes.len()]]);
         }
     }
     bytes
-}
-
-/// What the output holds before a call.
-pub fn pattern(length: usize) -> Vec<u8> {
-    (0..length).map(|at| (at as u8).wrapping_mul(13) ^ 0xA5).collect()
 }
 
 fn changes(before: &[u8], after: &[u8]) -> Vec<usize> {
