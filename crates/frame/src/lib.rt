@@ -145,17 +145,24 @@ fn read_version(s: &[u8]) -> VersionRead
     VersionRead::Version { major, minor }
 }
 
-// The option at the front, if it is there.
+// The option at the front, if it is there: read once, and only where none was read is it asked whether a bad one stands there.
 fn read_option(s: &[u8]) -> NumberField
     ensures { λ r. ⌜ r ≡ optionAt (now (s .entry)) ⌝ }
 {
-    if !ttlv::starts_with(s, BATCH_ERROR_CONTINUATION_OPTION) {
+    let NumberField::Number { value, next } = ttlv::number_field(
+        s,
+        BATCH_ERROR_CONTINUATION_OPTION,
+        ttlv::ENUMERATION,
+    ) else {
+        if ttlv::starts_with(s, BATCH_ERROR_CONTINUATION_OPTION) {
+            return NumberField::NoNumber;
+        }
         return NumberField::Number {
             value: STOP,
             next: 0,
         };
-    }
-    ttlv::number_field(s, BATCH_ERROR_CONTINUATION_OPTION, ttlv::ENUMERATION)
+    };
+    NumberField::Number { value, next }
 }
 
 // The items of a Request Header. `find_frame` shows that they are a run.
@@ -196,19 +203,19 @@ fn read_header(s: &[u8]) -> HeaderRead
     }
 }
 
-// The ID at the front, if it is there.
+// The ID at the front, if it is there: read once, as the option is.
 fn read_id(s: &[u8]) -> BytesField
     ensures { λ r. ⌜ r ≡ idAt (now (s .entry)) ⌝ }
 {
-    if !ttlv::starts_with(s, UNIQUE_BATCH_ITEM_ID) {
-        return BytesField::Span { len: 0, next: 0 };
-    }
     let BytesField::Span { len, next } = ttlv::bytes_field(
         s,
         UNIQUE_BATCH_ITEM_ID,
         ttlv::BYTE_STRING,
     ) else {
-        return BytesField::NoSpan;
+        if ttlv::starts_with(s, UNIQUE_BATCH_ITEM_ID) {
+            return BytesField::NoSpan;
+        }
+        return BytesField::Span { len: 0, next: 0 };
     };
     if len < 1 {
         return BytesField::NoSpan;

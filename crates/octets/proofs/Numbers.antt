@@ -2,13 +2,18 @@
 -- Assumes nothing.
 use mathlib.Core.Path.{_≡_, refl, sym, ap, _∙_}
 use Prim.Native.Nat.{ℕ, zero, suc, _+_, _-_, _*_, _/_, _%_, _^_, _≤_, _<_}
-use native.Mathlib.Nat.{suc-add, add-suc, add-zero, pow-suc, pow-zero, div-add-mod', mul-one, one-mul, mul-assoc, pow-le-pow-right, pow-succ', zero-add}
+use native.Mathlib.Nat.{suc-add, add-suc, add-zero, add-assoc, add-mul, pow-suc, pow-zero, div-add-mod', mul-one, one-mul, mul-assoc, mul-pos, zero-mul, mul-mod-left, pow-le-pow-right, pow-succ', zero-add}
 use native.Mathlib.Omega.{arith}
 use native.Mathlib.Numerals.{add-one}
+use mathlib.Core.Bool.{true, false, _&&_}
 use mathlib.Core.List.{List, [], _∷_, _++_, append-assoc, append-nil}
 use lib.ListN.{length, getD, take, drop, replicate, length-append, length-take, length-drop, replicate-append-replicate}
 use lib.Seq.{take-suc}
-use Rattle.octets.specs.Octets.{be, fromBe, fromBeAfter, part, Bytes}
+use lib.Dec.{eqb}
+use lib.Pow.{pow-add, pow-pos, shl-shr, mod-pow-add, low}
+use borrow.Author.Tests.{eqb-true, eqb-false, ne-eqb}
+use Rattle.octets.specs.Octets.{be, fromBe, fromBeAfter, part, all, allZero, Bytes}
+use Rattle.octets.proofs.If.{on-bool}
 
 pub length-be : (w n : ℕ) → length (be w n) ≡ w
 unfolding be
@@ -107,3 +112,70 @@ more-lt n i b h g = rw (add-one, pow-suc) (omega arith)
 -- one byte more fits a word, if fewer than 8 are in
 pub more-fits : (n i : ℕ) → n < 256 ^ i → i < 8 → n < 2 ^ 56
 more-fits n i h g = omega (arith, pow-le-pow-right {n = 256} (omega arith) {i = i} {j = 7} (omega arith))
+
+-- ---- zeros
+
+grows : (xs : List ℕ) (a : ℕ) → a ≤ fromBeAfter a xs
+unfolding fromBeAfter
+grows [] a = omega arith
+grows (x ∷ xs) a = omega (arith, grows xs (a * 256 + x))
+
+-- bytes spell 0 exactly when they are zeros
+pub zero-spelled : (xs : List ℕ) → eqb (fromBe xs) 0 ≡ allZero xs
+unfolding fromBe fromBeAfter all
+zero-spelled [] = refl
+zero-spelled (x ∷ xs) =
+    on-bool (eqb x 0)
+    (λ e. rw (eqb-true x 0 e) (zero-spelled xs))
+    (λ e. let n = eqb-false x 0 e in rw e (ne-eqb (fromBeAfter (0 * 256 + x) xs) 0 (λ z. n (omega (arith, grows xs (0 * 256 + x))))))
+
+-- ---- bytes behind bytes
+
+after-join : (a : ℕ) (ys : List ℕ) → fromBeAfter a ys ≡ a * 256 ^ length ys + fromBe ys
+unfolding fromBe fromBeAfter
+after-join a [] = omega arith
+after-join a (y ∷ ys) =
+    let p = 256 ^ length ys in
+    let e : (a * 256 + y) * p ≡ a * 256 ^ suc (length ys) + y * p = rw (add-mul, pow-succ', mul-assoc) in
+    let r : y * p + fromBe ys ≡ fromBe (y ∷ ys) = sym (after-join (0 * 256 + y) ys ∙ ap (λ (n : ℕ). n * p + fromBe ys) (omega arith)) in
+    after-join (a * 256 + y) ys ∙ rw (e, add-assoc) (ap (λ (n : ℕ). a * 256 ^ suc (length ys) + n) r)
+
+after-behind : (a : ℕ) (xs ys : List ℕ) → fromBeAfter a (xs ++ ys) ≡ fromBeAfter (fromBeAfter a xs) ys
+unfolding fromBeAfter
+after-behind a [] ys = refl
+after-behind a (x ∷ xs) ys = after-behind (a * 256 + x) xs ys
+
+pub fromBe-join : (xs ys : List ℕ) → fromBe (xs ++ ys) ≡ fromBe xs * 256 ^ length ys + fromBe ys
+unfolding fromBe
+fromBe-join xs ys = after-behind 0 xs ys ∙ after-join (fromBeAfter 0 xs) ys
+
+-- ---- bytes shifted out of a word
+
+-- k bytes are 8 * k bits
+pow-bits : (k : ℕ) → 256 ^ k ≡ 2 ^ (k * 8)
+pow-bits zero = refl
+pow-bits (suc k) =
+    let e : suc k * 8 ≡ k * 8 + 8 = omega arith in
+    rw (e, pow-add 2 (k * 8) 8, pow-suc, pow-bits k)
+
+-- what a shift by c leaves in m + c bits
+shifted : (n m c : ℕ) → n * 2 ^ c % 2 ^ (m + c) ≡ n % 2 ^ m * 2 ^ c
+shifted n m c = mod-pow-add (n * 2 ^ c) m c ∙ rw (shl-shr n c, mul-mod-left n (2 ^ c), add-zero)
+
+times-zero : (n k : ℕ) → 0 < k → eqb (n * k) 0 ≡ eqb n 0
+times-zero n k h =
+    on-bool (eqb n 0)
+    (λ e. rw (eqb-true n 0 e, zero-mul))
+    (λ e. let p = eqb-false n 0 e in rw e (ne-eqb (n * k) 0 (λ z. omega (arith, mul-pos {m = n} {n = k} (omega arith) h))))
+
+-- of eight bytes, with the first shifted out of the word, the others are left: 0 exactly when these are zeros
+pub zeros-left : (xs ys : List ℕ) → Bytes ys → length xs + length ys ≡ 8 → eqb (fromBe (xs ++ ys) * 2 ^ (length xs * 8) % 2 ^ 64) 0 ≡ allZero ys
+zeros-left xs ys b h =
+    let m = length ys * 8 in
+    let c = length xs * 8 in
+    let n = fromBe (xs ++ ys) in
+    let w : m + c ≡ 64 = omega arith in
+    let below : fromBe ys < 2 ^ m = rw (← pow-bits (length ys)) (fromBe-lt ys b) in
+    let rest : n % 2 ^ m ≡ fromBe ys = rw (fromBe-join xs ys, pow-bits (length ys)) (low (fromBe xs) m below) in
+    let left : n * 2 ^ c % 2 ^ 64 ≡ fromBe ys * 2 ^ c = ap (λ (k : ℕ). n * 2 ^ c % 2 ^ k) (sym w) ∙ shifted n m c ∙ ap (λ (k : ℕ). k * 2 ^ c) rest in
+    ap (λ (k : ℕ). eqb k 0) left ∙ times-zero (fromBe ys) (2 ^ c) (pow-pos c) ∙ zero-spelled ys

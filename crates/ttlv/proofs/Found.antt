@@ -1,9 +1,9 @@
 -- What the answers of the field readers say of the item at the front, both ways.
 -- Assumes nothing.
-use mathlib.Core.Path.{_≡_, refl, sym, _∙_}
+use mathlib.Core.Path.{_≡_, refl, sym, ap, _∙_}
 use Prim.Native.Nat.{ℕ}
 use native.Mathlib.Omega.{arith}
-use mathlib.Core.Bool.{_&&_}
+use mathlib.Core.Bool.{true, _&&_}
 use mathlib.Core.List.{List, [], _∷_}
 use mathlib.Core.Logic.{⊎-elim}
 use lib.ListN.{take}
@@ -15,7 +15,7 @@ use Rattle.ttlv.proofs.First.{the-type}
 use Rattle.octets.specs.Octets.{fromBe, part}
 use Rattle.octets.proofs.If.{ifb-true, ifb-false, on-bool}
 use Rattle.ttlv.specs.Parse.{firstOf}
-use Rattle.ttlv.specs.Found.{bytesIn, bytesAt, numberIn, numberAt, bodyIn, bodyAt}
+use Rattle.ttlv.specs.Found.{startsIn, startsAt, bytesIn, bytesAt, numberIn, numberAt, bodyIn, bodyAt}
 use Rattle.ttlv.specs.declared.First.{First}
 use Rattle.ttlv.specs.declared.First.the-variants.{End, Bad, Value, Group}
 use Rattle.ttlv.specs.declared.BytesField.{BytesField}
@@ -113,6 +113,14 @@ module _ (s : List ℕ) (tag kind : ℕ) where
 
   pub number-ends : {v next : ℕ} → numberAt s tag kind ≡ Number v next → Within s next
   number-ends h = let e = bytes-ends (number-bytes h .1) in (omega arith, e .1)
+
+  -- a field that was found stands at the front
+  pub bytes-starts : {n next : ℕ} → bytesAt s tag kind ≡ Span n next → startsAt s tag ≡ true
+  unfolding startsAt startsIn
+  bytes-starts h = ap (startsIn tag) (bytes-first h) ∙ eq-eqb tag tag refl
+
+  pub number-starts : {v next : ℕ} → numberAt s tag kind ≡ Number v next → startsAt s tag ≡ true
+  number-starts h = bytes-starts (number-bytes h .1)
 
 module _ (s : List ℕ) (tag : ℕ) where
   pub body-first : {next : ℕ} → bodyAt s tag ≡ Body next → firstOf s ≡ Group tag next

@@ -14,6 +14,8 @@ pub mod Step
 pub mod One
 pub mod Found
 pub mod Lift
+pub mod Starts
 pub mod Small
+pub mod Padding
 pub mod Unique
 pub mod Eight

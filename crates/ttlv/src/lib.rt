@@ -1,11 +1,11 @@
 // The TTLV reader: what stands at the front of some bytes, whether bytes are items by the rules, and the fields of a run. It knows nothing of keys.
 // Assumes nothing: no public function asks anything of its bytes.
 ghost use mathlib.Core.Path.{_≡_};
-ghost use Prim.Native.Nat.{_^_, _≤_, _<_};
+ghost use Prim.Native.Nat.{_+_, _-_, _^_, _≤_, _<_};
 ghost use lib.ListN.{length};
 ghost use lib.Dec.{leb};
 ghost use Rattle.octets.specs.Maybe.{isSome};
-ghost use Rattle.octets.specs.Octets.{fromBe};
+ghost use Rattle.octets.specs.Octets.{fromBe, part, allZero};
 ghost use Rattle.ttlv.specs.Types.{isWord, isLong, text, lengthOk, valueOk};
 ghost use Rattle.ttlv.specs.Parse.{headed, firstOf, parse, message};
 ghost use Rattle.ttlv.specs.Found.{startsAt, bytesAt, numberAt, bodyAt};
@@ -155,6 +155,19 @@ pub fn value_ok(kind: u8, v: &[u8]) -> bool
     true
 }
 
+// Whether the padding from stop to next is zeros, by the eight bytes that end with it: the bytes in front of it are shifted out. `head_first` shows the bounds.
+fn padding_clear(s: &[u8], stop: usize, next: usize) -> bool
+    requires { ⌜ (stop ≤ next) × (next < stop + 8) × (8 ≤ next) × (next ≤ length (now s)) ⌝ }
+    ensures { λ r. ⌜ r ≡ allZero (part (now (s .entry)) stop (next - stop)) ⌝ }
+{
+    if next == stop {
+        return true;
+    }
+    let from = next - 8;
+    let before = stop - from;
+    octets::number(&s[from..next]) << (before * 8) == 0
+}
+
 // The item whose head says tag, kind and n. `read_first` shows the eight bytes of the head and the bound of n.
 fn head_first(s: &[u8], tag: u32, kind: u8, n: usize) -> First
     requires { ⌜ (8 ≤ length (now s)) × (n < 256 ^ 4) ⌝ }
@@ -174,7 +187,7 @@ fn head_first(s: &[u8], tag: u32, kind: u8, n: usize) -> First
     if !value_ok(kind, &s[8..stop]) {
         return First::Bad;
     }
-    if !octets::all_zero(&s[stop..next]) {
+    if !padding_clear(s, stop, next) {
         return First::Bad;
     }
     First::Value {
@@ -255,23 +268,27 @@ pub fn is_message(s: &[u8]) -> bool
     }
 }
 
-// Whether an item with this tag stands at the front.
+// Whether an item with this tag stands at the front. Another tag is seen by its three bytes.
 pub fn starts_with(s: &[u8], tag: u32) -> bool
     ensures { λ r. ⌜ r ≡ startsAt (now (s .entry)) tag ⌝ }
 {
+    if s.len() < 8 {
+        return false;
+    }
+    let front = octets::number(&s[0..3]) as u32;
+    if front != tag {
+        return false;
+    }
     match read_first(s) {
         First::End => false,
         First::Bad => false,
         First::Value {
-            tag: found,
+            tag: _,
             kind: _,
             len: _,
             next: _,
-        } => found == tag,
-        First::Group {
-            tag: named,
-            next: _,
-        } => named == tag,
+        } => true,
+        First::Group { tag: _, next: _ } => true,
     }
 }
 

@@ -1,8 +1,10 @@
--- `frame::read_option`. By whether it is there.
+-- `frame::read_option`. What was read stands at the front; where nothing was read, by whether the tag stands there.
 -- Assumes nothing.
-use mathlib.Core.Path.{_≡_, refl, sym, ap, _∙_}
-use borrow.Author.Tests.{not-true, not-false, eq-eqb, ne-eqb, le-leb, lt-leb}
+use mathlib.Core.Path.{_≡_, sym, _∙_}
 use Rattle.octets.proofs.If.{ifb-true, ifb-false}
+use Rattle.ttlv.specs.Types.{enumeration}
+use Rattle.ttlv.proofs.Found.{number-starts}
+use Rattle.frame.specs.Tags.{batchErrorContinuationOption}
 use Rattle.frame.specs.Readers.{optionAt}
 use borrow.Author.Needs.{needs}
 use Rattle.frame.proofs.read_option.Statement.{statement}
@@ -12,22 +14,41 @@ use Rattle.frame.proofs.read_option.Lts as lts
 use Rattle.ttlv.proofs.number_field.Reads as number-field-reads
 use Rattle.ttlv.proofs.starts_with.Reads as starts-with-reads
 
+number-field-requires : tie.Need-number-field-requires
+number-field-requires c κs = search needs
+
+enum-known-value : tie.Need-enum-known-value
+enum-known-value c = search needs
+
+enum-told : tie.Need-enum-told
+enum-told c = search needs
+
 starts-with-requires : tie.Need-starts-with-requires
 starts-with-requires c κs = search needs
 
 returns : tie.Need-returns
 unfolding optionAt
 returns c =
-    sym (ifb-false _ _ _ (sym (c .before .starts-with .ensures) ∙ not-true _ (c .if1 .taken)))
-
-number-field-requires : tie.Need-number-field-requires
-number-field-requires c κs = search needs
+    sym (ifb-true _ _ _ (sym (c .before .starts-with .ensures) ∙ c .if1 .taken) ∙ sym (c .before .before .before .before .number-field .ensures) ∙ c .before .before .enum-told .given .1)
 
 returns-2 : tie.Need-returns-2
 unfolding optionAt
-returns-2 c =
-    c .number-field .ensures ∙ sym (ifb-true _ _ _ (sym (c .before .before .starts-with .ensures) ∙ not-false _ (c .before .if1 .left)))
+returns-2 c = sym (ifb-false _ _ _ (sym (c .before .starts-with .ensures) ∙ c .if1 .left))
+
+returns-3 : tie.Need-returns-3
+unfolding optionAt
+returns-3 c =
+    let e = sym (c .before .before .before .number-field .ensures) ∙ c .before .value .given .1 in
+    sym (ifb-true _ _ _ (number-starts (c .before .before .before .before .before .args .s .now) batchErrorContinuationOption enumeration e) ∙ e)
 
 pub read-option-spec : {M : Type 1} → statement M
 read-option-spec =
-    tie.close (tie.spec starts-with-requires returns number-field-requires returns-2)
+    tie.close
+    (tie.spec
+    number-field-requires
+    enum-known-value
+    enum-told
+    starts-with-requires
+    returns
+    returns-2
+    returns-3)

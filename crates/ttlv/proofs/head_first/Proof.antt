@@ -15,8 +15,8 @@ use Rattle.ttlv.proofs.head_first.Statement.{statement}
 use Rattle.ttlv.proofs.head_first.Tie as tie
 use Rattle.ttlv.proofs.head_first.Reads as reads
 use Rattle.ttlv.proofs.head_first.Lts as lts
-use Rattle.octets.proofs.all_zero.Reads as all-zero-reads
 use Rattle.ttlv.proofs.length_ok.Reads as length-ok-reads
+use Rattle.ttlv.proofs.padding_clear.Reads as padding-clear-reads
 use Rattle.ttlv.proofs.value_ok.Reads as value-ok-reads
 
 length-ok-requires : tie.Need-length-ok-requires
@@ -72,37 +72,28 @@ returns-4 c =
     let v : valueOk (a .kind) (part (a .s .now) 8 (a .n)) ≡ false = ap (λ (m : ℕ). valueOk (a .kind) (part (a .s .now) 8 m)) n8 ∙ sym (c .before .value-ok .ensures) ∙ not-true _ (c .if4 .taken) in
     sym (no-value (a .s .now) (a .tag) (a .kind) (a .n) l (c .before .before .before .before .if2 .left) (c .before .before .before .if3 .left) v)
 
-sub-all-zero : tie.Need-sub-all-zero
-sub-all-zero c = search needs
-
-part-all-zero-start : tie.Need-part-all-zero-start
-part-all-zero-start c = search needs
-
-part-all-zero-end : tie.Need-part-all-zero-end
-part-all-zero-end c = search needs
-
-all-zero-requires : tie.Need-all-zero-requires
-all-zero-requires c κs = search needs
+padding-clear-requires : tie.Need-padding-clear-requires
+padding-clear-requires c κs = search needs
 
 returns-5 : tie.Need-returns-5
 returns-5 c =
-    let a = c .before .before .before .before .before .before .before .before .before .before .before .args in
-    let l : lengthOk (a .kind) (a .n) ≡ true = sym (c .before .before .before .before .before .before .before .before .before .length-ok .ensures) ∙ not-false _ (c .before .before .before .before .before .before .before .before .if1 .left) in
+    let a = c .before .before .before .before .before .before .before .before .before .before .args in
+    let l : lengthOk (a .kind) (a .n) ≡ true = sym (c .before .before .before .before .before .before .before .before .length-ok .ensures) ∙ not-false _ (c .before .before .before .before .before .before .before .if1 .left) in
     let n8 : a .n ≡ 8 + a .n - 8 = omega arith in
-    let v : valueOk (a .kind) (part (a .s .now) 8 (a .n)) ≡ true = ap (λ (m : ℕ). valueOk (a .kind) (part (a .s .now) 8 m)) n8 ∙ sym (c .before .before .before .before .value-ok .ensures) ∙ not-false _ (c .before .before .before .if4 .left) in
+    let v : valueOk (a .kind) (part (a .s .now) 8 (a .n)) ≡ true = ap (λ (m : ℕ). valueOk (a .kind) (part (a .s .now) 8 m)) n8 ∙ sym (c .before .before .before .value-ok .ensures) ∙ not-false _ (c .before .before .if4 .left) in
     let np : padded (a .n) - a .n ≡ 8 + padded (a .n) - (8 + a .n) = omega arith in
-    let z : allZero (part (a .s .now) (8 + a .n) (padded (a .n) - a .n)) ≡ false = ap (λ (m : ℕ). allZero (part (a .s .now) (8 + a .n) m)) np ∙ sym (c .before .all-zero .ensures) ∙ not-true _ (c .if5 .taken) in
-    sym (no-zeros (a .s .now) (a .tag) (a .kind) (a .n) l (c .before .before .before .before .before .before .before .if2 .left) (c .before .before .before .before .before .before .if3 .left) v z)
+    let z : allZero (part (a .s .now) (8 + a .n) (padded (a .n) - a .n)) ≡ false = ap (λ (m : ℕ). allZero (part (a .s .now) (8 + a .n) m)) np ∙ sym (c .before .padding-clear .ensures) ∙ not-true _ (c .if5 .taken) in
+    sym (no-zeros (a .s .now) (a .tag) (a .kind) (a .n) l (c .before .before .before .before .before .before .if2 .left) (c .before .before .before .before .before .if3 .left) v z)
 
 returns-6 : tie.Need-returns-6
 returns-6 c =
-    let a = c .before .before .before .before .before .before .before .before .before .before .before .args in
-    let l : lengthOk (a .kind) (a .n) ≡ true = sym (c .before .before .before .before .before .before .before .before .before .length-ok .ensures) ∙ not-false _ (c .before .before .before .before .before .before .before .before .if1 .left) in
+    let a = c .before .before .before .before .before .before .before .before .before .before .args in
+    let l : lengthOk (a .kind) (a .n) ≡ true = sym (c .before .before .before .before .before .before .before .before .length-ok .ensures) ∙ not-false _ (c .before .before .before .before .before .before .before .if1 .left) in
     let n8 : a .n ≡ 8 + a .n - 8 = omega arith in
-    let v : valueOk (a .kind) (part (a .s .now) 8 (a .n)) ≡ true = ap (λ (m : ℕ). valueOk (a .kind) (part (a .s .now) 8 m)) n8 ∙ sym (c .before .before .before .before .value-ok .ensures) ∙ not-false _ (c .before .before .before .if4 .left) in
+    let v : valueOk (a .kind) (part (a .s .now) 8 (a .n)) ≡ true = ap (λ (m : ℕ). valueOk (a .kind) (part (a .s .now) 8 m)) n8 ∙ sym (c .before .before .before .value-ok .ensures) ∙ not-false _ (c .before .before .if4 .left) in
     let np : padded (a .n) - a .n ≡ 8 + padded (a .n) - (8 + a .n) = omega arith in
-    let z : allZero (part (a .s .now) (8 + a .n) (padded (a .n) - a .n)) ≡ true = ap (λ (m : ℕ). allZero (part (a .s .now) (8 + a .n) m)) np ∙ sym (c .before .all-zero .ensures) ∙ not-false _ (c .if5 .left) in
-    sym (value-headed (a .s .now) (a .tag) (a .kind) (a .n) l (c .before .before .before .before .before .before .before .if2 .left) (c .before .before .before .before .before .before .if3 .left) v z)
+    let z : allZero (part (a .s .now) (8 + a .n) (padded (a .n) - a .n)) ≡ true = ap (λ (m : ℕ). allZero (part (a .s .now) (8 + a .n) m)) np ∙ sym (c .before .padding-clear .ensures) ∙ not-false _ (c .if5 .left) in
+    sym (value-headed (a .s .now) (a .tag) (a .kind) (a .n) l (c .before .before .before .before .before .before .if2 .left) (c .before .before .before .before .before .if3 .left) v z)
 
 pub head-first-spec : {M : Type 1} → statement M
 head-first-spec =
@@ -121,9 +112,6 @@ head-first-spec =
     part-value-ok-end
     value-ok-requires
     returns-4
-    sub-all-zero
-    part-all-zero-start
-    part-all-zero-end
-    all-zero-requires
+    padding-clear-requires
     returns-5
     returns-6)
