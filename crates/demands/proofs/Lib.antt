@@ -1,6 +1,5 @@
--- Theorems over the definitions.
+-- Our box meets the demands.
 -- Assumes nothing.
-pub mod Cases
 pub mod Chains
 pub mod Ladder
 pub mod Meets
@@ -11,4 +10,3 @@ pub mod Runs
 pub mod Tame
 pub mod Meets3
 pub mod Serve
-pub mod WrongBoxes

@@ -1,9 +1,7 @@
--- The worked cases that 01 marks P, over the definitions.
+-- What any box has to do: the calls, the three demands, and the log that the third speaks of.
 -- Assumes nothing.
-pub mod Cards
 pub mod Box
 pub mod Demand1
 pub mod Demand2
 pub mod Log
 pub mod Demand3
-pub mod Wrong

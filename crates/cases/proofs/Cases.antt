@@ -24,7 +24,7 @@ use Rattle.answer.specs.Read.{spelled, fixed, serialIn, limitsFirst, orNoLimits
 use Rattle.answer.specs.Respond.{limitItems, linkItems, attributeItems, outcomeItems, idItems, answerItems, batchItems, versionItems, headerItems, respond}
 use Rattle.engine.specs.Batch.{endsBatch, batch, running}
 use Rattle.engine.specs.Serving.{requested, answered, carryOut, serving}
-use Rattle.demands.specs.Cards.{sameItems, isRead, integerRead, integerMalformed, booleanMalformed, textOfEight, textOfNine, nested, countedFrom, callOn, tableFrom, answers, refuses, stateLeft, countLeft, depthEight, depthNine, depthRead, depthRefused, grantRequest, grantResponse, grantsCounted, overRequest, overResponse, grantTooLarge, lifeRequest, lifeResponse, compromiseRequest, compromiseResponse, destroyedInTurn, rekeyRequest, rekeyResponse, rekeyedTwice, stopRequest, stopResponse, stopsThere, continueRequest, continueResponse, goesOn, lastRequest, lastResponse, lastSerialIssued, pCases, allHold}
+use Rattle.cases.specs.Cards.{sameItems, isRead, integerRead, integerMalformed, booleanMalformed, textOfEight, textOfNine, nested, countedFrom, callOn, tableFrom, answers, refuses, stateLeft, countLeft, depthEight, depthNine, depthRead, depthRefused, grantRequest, grantResponse, grantsCounted, overRequest, overResponse, grantTooLarge, lifeRequest, lifeResponse, compromiseRequest, compromiseResponse, destroyedInTurn, rekeyRequest, rekeyResponse, rekeyedTwice, stopRequest, stopResponse, stopsThere, continueRequest, continueResponse, goesOn, lastRequest, lastResponse, lastSerialIssued, pCases, allHold}
 
 -- the definitions that the cases compute with: who opens this opens them all
 unfoldable pub opened : Unit {0}
