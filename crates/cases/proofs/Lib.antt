@@ -1,4 +1,3 @@
--- The worked cases hold, and the wrong boxes do not meet the demands.
+-- The worked cases hold.
 -- Assumes nothing.
 pub mod Cases
-pub mod WrongBoxes

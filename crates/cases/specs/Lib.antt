@@ -1,4 +1,3 @@
--- The worked cases that 01 marks P, over the definitions, and the boxes that it warns of.
+-- The worked cases that 01 marks P, over the definitions.
 -- Assumes nothing.
 pub mod Cards
-pub mod Wrong

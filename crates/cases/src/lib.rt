@@ -1,2 +1,2 @@
-// What is worked out over the definitions: the cases that 01 marks P, and the boxes that it warns of.
+// What is worked out over the definitions: the cases that 01 marks P.
 // It has no function.

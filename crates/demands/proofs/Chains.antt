@@ -7,6 +7,7 @@ use mathlib.Core.Option.{Option, none, some}
 use mathlib.Core.List.{List, [], _∷_, map}
 use lib.Dec.{eqb}
 use borrow.Author.Tests.{eqb-true, eqb-false, eq-eqb}
+use Rattle.octets.proofs.Bools.{and-l, and-r}
 use Rattle.octets.specs.If.{ifb}
 use Rattle.octets.proofs.If.{on-if}
 use Rattle.rules.specs.declared.Reason.{Reason}
@@ -37,15 +38,6 @@ pub record Chained (c : Call) (option i holder : ℕ) (t : List ℕ) (items : Li
   pub links : List Link
   pub chain : Chain c option i holder t items links (ran .table)
   pub answers : map answerOf links ≡ ran .answers
-
--- both halves of a conjunction
-pub and-l : (a b : Bool) → (a && b) ≡ true → a ≡ true
-and-l true b e = refl
-and-l false b e = absurd (false≢true e)
-
-pub and-r : (a b : Bool) → (a && b) ≡ true → b ≡ true
-and-r true b e = e
-and-r false b e = absurd (false≢true e)
 
 -- a batch that ends here: the item failed, and the option is not Continue
 ends-failed : (option : ℕ) (did : Did) → endsBatch option did ≡ true → isFailed (did .outcome) ≡ true

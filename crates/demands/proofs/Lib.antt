@@ -1,4 +1,4 @@
--- Our box meets the demands.
+-- Our box meets the demands, and the wrong boxes do not.
 -- Assumes nothing.
 pub mod Chains
 pub mod Ladder
@@ -10,3 +10,4 @@ pub mod Runs
 pub mod Tame
 pub mod Meets3
 pub mod Serve
+pub mod WrongBoxes

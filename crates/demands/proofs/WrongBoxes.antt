@@ -24,14 +24,14 @@ use Rattle.answer.specs.Respond.{Answer, Response, respond}
 use Rattle.answer.specs.Read.{answersIn}
 use Rattle.octets.proofs.Maybe.{some-is}
 use Rattle.engine.specs.Serving.{Effect, turnedAway, serving}
 use Rattle.demands.specs.Box.{Call, Box, Lent}
 use Rattle.demands.specs.Demand1.{Demand1}
 use Rattle.demands.specs.Demand2.{Demand2, Answered, Link, answerOf, Chain, none-left, stops, goes-on, frameOf, ofFrame, refusalConditions, lowest}
 use Rattle.demands.specs.Log.{Event, heldAfter, paired, itemsOf, answersOf, itemsAsked, answersGiven, logged, issuedBy, grantBy, granted, limitBy, limit}
 use Rattle.demands.specs.Demand3.{Demand3, Run, begins, calls, Stands}
 use Rattle.cases.specs.Cards.{countedFrom, lifeRequest, grantRequest}
-use Rattle.cases.specs.Wrong.{orRefused, RefusesAll, DoesNothing, OneAnswer, wholeRun, firstOnly, AnswersFirst, refilled, withRefill, InventsCount}
+use Rattle.demands.specs.Wrong.{orRefused, RefusesAll, DoesNothing, OneAnswer, wholeRun, firstOnly, AnswersFirst, refilled, withRefill, InventsCount}
 use Rattle.cases.proofs.Cases.{opened}
 
 -- ---- calls that are worked out
 
