@@ -14,7 +14,6 @@ static FEED: LazyLock<Mutex<Child>> = LazyLock::new(|| {
 });
 
 /// Serves one request, as the engine does, on buffers that the program can hold: at most 8,192 bytes, the strip 1,024.
-/// The output has to be full of one byte before, since the program is told only which.
 pub fn serve(request: &[u8], table: &mut [u8], fresh: &[u8], clock: i64, out: &mut [u8]) -> Served {
     let mut feed = FEED.lock().expect("no call of the program failed before");
     let case = case(request, table, fresh, clock, out);
@@ -35,15 +34,12 @@ pub fn serve(request: &[u8], table: &mut [u8], fresh: &[u8], clock: i64, out: &m
 
 /// A call as the program reads it.
 fn case(request: &[u8], table: &[u8], fresh: &[u8], clock: i64, out: &[u8]) -> Vec<u8> {
-    let fill = out.first().copied().unwrap_or(0);
-    assert!(out.iter().all(|&byte| byte == fill), "the output is full of one byte");
     let mut bytes = Vec::new();
     for length in [request.len(), table.len(), fresh.len(), out.len()] {
         bytes.extend(u32::try_from(length).expect("a length of 32 bits").to_be_bytes());
     }
     bytes.extend(clock.to_be_bytes());
-    bytes.push(fill);
-    for part in [request, table, fresh] {
+    for part in [request, table, fresh, out] {
         bytes.extend_from_slice(part);
     }
     bytes

@@ -100,7 +100,7 @@ impl Bench {
             }
         }
         let fresh: Vec<u8> = (0..strip).map(|at| at as u8).collect();
-        let case = Case { request, table: self.table[..size].to_vec(), fresh, clock, room, fill: 0 };
+        let case = Case { request, table: self.table[..size].to_vec(), fresh, clock, room };
         let (table, out) = (&mut self.table[..size], &mut self.out[..room]);
         let served = (self.engine)(&case.request, table, &case.fresh, clock, out);
         let effect = Effect { served, table: table.to_vec(), out: out.to_vec() };

@@ -23,7 +23,7 @@ use Rattle.rules.specs.States.{movedState}
 use Rattle.rules.specs.Records.{newRecord, heirOf, linkedTo, inState, movedTo, withCount}
 use Rattle.rules.specs.Changes.{nextSerial, bornAt, withBorn, withHeir}
 use Rattle.rules.proofs.Material.{bytes-material}
-use Rattle.table.proofs.Zeros.{bytes-zeros}
+use Rattle.octets.proofs.Zeros.{bytes-zeros}
 use Rattle.frame.specs.Frame.{Asked}
 use Rattle.payload.specs.declared.Command.{Command}
 use Rattle.payload.specs.declared.Command.the-variants.{Unsupported, Invalid, Create, Rekey, GetUsageAllocation, Activate, Revoke, Destroy, GetAttributes}

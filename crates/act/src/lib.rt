@@ -59,12 +59,6 @@ enum Deed {
     Show,
 }
 
-const ACTIVATE: u32 = 0x12;
-
-const REVOKE: u32 = 0x13;
-
-const DESTROY: u32 = 0x14;
-
 const SERIAL_MOST: u32 = 4294967295;
 
 // Whether an item failed.
@@ -297,12 +291,19 @@ pub fn perform(t: &mut [u8], n: usize, holder: u32, command: Command, fresh: &[u
             act_on(t, n, holder, target, Deed::Allocate(amount), fresh)
         }
         Command::Activate { target } => {
-            act_on(t, n, holder, target, Deed::Move(ACTIVATE, 0), fresh)
+            act_on(t, n, holder, target, Deed::Move(rules::ACTIVATE, 0), fresh)
         }
         Command::Revoke { target, code } => {
-            act_on(t, n, holder, target, Deed::Move(REVOKE, code), fresh)
+            act_on(t, n, holder, target, Deed::Move(rules::REVOKE, code), fresh)
         }
-        Command::Destroy { target } => act_on(t, n, holder, target, Deed::Move(DESTROY, 0), fresh),
+        Command::Destroy { target } => act_on(
+            t,
+            n,
+            holder,
+            target,
+            Deed::Move(rules::DESTROY, 0),
+            fresh,
+        ),
         Command::GetAttributes { target } => act_on(t, n, holder, target, Deed::Show, fresh),
     }
 }

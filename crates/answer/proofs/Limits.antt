@@ -15,7 +15,7 @@ use Rattle.ttlv.specs.Items.{Items, nil, group}
 use Rattle.ttlv.specs.Fields.{startsWith, ended, bodyOf, optional}
 use Rattle.octets.proofs.Bools.{both}
 use Rattle.payload.specs.Tags.{usageLimits, usageLimitsCount, usageLimitsTotal, usageLimitsUnit}
-use Rattle.soundness.specs.Sound.{unitOk, totalOk}
+use Rattle.values.specs.Values.{unitOk, totalOk}
 use Rattle.act.specs.declared.Shown.{Shown}
 use Rattle.answer.specs.Respond.{word, long, limitItems}
 use Rattle.answer.specs.Read.{Limits, limitsFirst, orNoLimits}

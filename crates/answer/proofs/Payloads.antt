@@ -15,7 +15,7 @@ use Rattle.ttlv.specs.Fields.{startsWith, ended, bodyOf}
 use Rattle.octets.proofs.Bools.{both}
 use Rattle.payload.specs.Tags.{attributes, cryptographicAlgorithm, cryptographicLength, cryptographicUsageMask, objectType, uniqueIdentifier, usageLimits, symmetricKey, aes}
 use Rattle.answer.specs.Tags.{stateTag, replacedObjectLink, replacementObjectLink}
-use Rattle.soundness.specs.Sound.{bitsOk, maskOk}
+use Rattle.values.specs.Values.{bitsOk, maskOk}
 use Rattle.act.specs.declared.Shown.{Shown}
 use Rattle.act.specs.declared.Outcome.{Outcome}
 use Rattle.act.specs.declared.Outcome.the-variants.{Created, Done, Showed}

@@ -16,7 +16,7 @@ use Rattle.frame.specs.Tags.{batchCount, batchItem, operationTag, protocolVersi
 use Rattle.payload.specs.Tags.{attributes, cryptographicAlgorithm, cryptographicLength, cryptographicUsageMask, objectType, uniqueIdentifier, usageLimits, usageLimitsCount, usageLimitsTotal, usageLimitsUnit, symmetricKey, aes}
 use Rattle.answer.specs.Tags.{link, linkType, linkedObjectIdentifier, responseHeader, responseMessage, responsePayload, resultReason, resultStatus, stateTag, timeStamp, replacedObjectLink, replacementObjectLink}
 use Rattle.identifier.specs.Identifier.{serialOf}
-use Rattle.soundness.specs.Sound.{bitsOk, maskOk, unitOk, totalOk}
+use Rattle.values.specs.Values.{bitsOk, maskOk, unitOk, totalOk}
 use Rattle.rules.specs.declared.Reason.{Reason}
 use Rattle.rules.specs.declared.Reason.the-variants.{OperationNotSupported, InvalidField, ObjectNotFound, ObjectDestroyed, PermissionDenied, WrongKeyLifecycleState, UsageLimitExceeded, ServerLimitExceeded}
 use Rattle.rules.specs.Numbers.{reasonNumber, create, rekey, getAttributes, getUsageAllocation, activate, revoke, destroy}

@@ -17,7 +17,7 @@ use Rattle.table.specs.Search.{isDestroyed}
 use Rattle.table.proofs.Lines.{InRange}
 use Rattle.table.proofs.Places.{serial-is, place-range}
 use Rattle.table.proofs.Blank.{zero-place}
-use Rattle.table.proofs.Zeros.{pass-zeros}
+use Rattle.octets.proofs.Zeros.{pass-zeros}
 use Rattle.soundness.proofs.SoundIs.{Sound, Fit, Empty}
 use Rattle.keeps.proofs.Keeps.{Held, facts}
 use Rattle.octets.proofs.Maybe.{some-is}

@@ -13,7 +13,7 @@ use Rattle.octets.specs.Maybe.{_>>=_, _>>_}
 use Rattle.octets.proofs.If.{on-if}
 use Rattle.ttlv.specs.Items.{Items}
 use Rattle.ttlv.specs.Fields.{optional}
-use Rattle.soundness.specs.Sound.{bitsOk, maskOk, unitOk, totalOk}
+use Rattle.values.specs.Values.{bitsOk, maskOk, unitOk, totalOk}
 use Rattle.rules.specs.declared.Attributes.{Attributes}
 use Rattle.rules.specs.Numbers.{create, rekey, getAttributes, getUsageAllocation, activate, revoke, destroy}
 use Rattle.keeps.proofs.Begun.{Allowed}

@@ -20,7 +20,7 @@ use Rattle.table.specs.Search.{find}
 use Rattle.table.proofs.Lines.{InRange}
 use Rattle.table.proofs.Places.{serial-is}
 use Rattle.table.proofs.Finds.{find-below}
-use Rattle.soundness.specs.Sound.{bitsOk, maskOk, unitOk, totalOk}
+use Rattle.values.specs.Values.{bitsOk, maskOk, unitOk, totalOk}
 use Rattle.octets.proofs.Bools.{and-i, tests}
 use Rattle.soundness.proofs.SoundIs.{Stands, Unlimited, Limited, Fit}
 use Rattle.rules.specs.Numbers.{create, rekey, getAttributes, getUsageAllocation, activate, revoke, destroy}

@@ -28,8 +28,6 @@ const FRAME_SIZE: usize = 88;
 
 const MATERIAL: usize = 32;
 
-const BATCH_ITEM: u32 = 0x42000F;
-
 const CONTINUE: u32 = 1;
 
 // What a call answers: the number of the refusal, or 0, and the bytes of the response.
@@ -108,7 +106,7 @@ fn run_items(items: &[u8], table: &mut [u8], fresh: &[u8], option: u32, out: &mu
     let mut holder: u32 = 0;
     let mut at: usize = 0;
     loop {
-        let BodyField::Body { next } = ttlv::body_field(left, BATCH_ITEM) else {
+        let BodyField::Body { next } = ttlv::body_field(left, frame::BATCH_ITEM) else {
             return BatchDone {
                 count: i as u32,
                 used: at,

@@ -7,7 +7,7 @@ ghost use mir.Syntax.{w64};
 ghost use mir.Val.{ofZ};
 
 // The bytes of a head.
-const HEAD: usize = 25;
+const HEAD: usize = 24;
 
 // The most that the buffers of request, table and output hold.
 const MOST: usize = 8192;
@@ -15,20 +15,19 @@ const MOST: usize = 8192;
 // The most that the buffer of the strip holds.
 const STRIP_MOST: usize = 1024;
 
-// What stands in front of a call: the lengths of its buffers, the clock, and what fills the output.
+// What stands in front of a call: the lengths of its buffers, and the clock.
 struct Head {
     request: usize,
     table: usize,
     strip: usize,
     room: usize,
     clock: i64,
-    fill: u8,
 }
 
 // The length that stands at this place of a head. `read_head` shows what it asks.
 fn length_at(s: &[u8], at: usize) -> usize
     requires { ⌜ at ≤ 12 ⌝ }
-    requires { ⌜ length (now s) ≡ 25 ⌝ }
+    requires { ⌜ length (now s) ≡ 24 ⌝ }
 {
     let end = at + 4;
     octets::number(&s[at..end]) as usize
@@ -47,7 +46,7 @@ fn clock_of(bits: u64) -> i64
 
 // A head's parts. `next` shows its size.
 fn read_head(s: &[u8]) -> Head
-    requires { ⌜ length (now s) ≡ 25 ⌝ }
+    requires { ⌜ length (now s) ≡ 24 ⌝ }
 {
     Head {
         request: length_at(s, 0),
@@ -55,7 +54,6 @@ fn read_head(s: &[u8]) -> Head
         strip: length_at(s, 8),
         room: length_at(s, 12),
         clock: clock_of(octets::number(&s[16..24])),
-        fill: s[24],
     }
 }
 
@@ -75,14 +73,6 @@ fn take(from: i32, s: &mut [u8]) -> bool {
     }
     io::write_all(2, b"feed: the input ends inside a case\n");
     false
-}
-
-fn fill(s: &mut [u8], value: u8) {
-    let mut i: usize = 0;
-    while i < s.len() {
-        s[i] = value;
-        i += 1;
-    }
 }
 
 // Writes what a call left; if the output takes no more, says so.
@@ -116,7 +106,9 @@ fn call(
     if !take(from, strip) {
         return false;
     }
-    fill(out, head.fill);
+    if !take(from, out) {
+        return false;
+    }
     let served = engine::serve(request, table, strip, head.clock, out);
     give(to, served.number, served.length, table, out)
 }

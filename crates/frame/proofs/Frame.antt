@@ -38,7 +38,7 @@ use Rattle.frame.specs.Frame.{Asked, Header, Frame, Request, Framed, ref
 use Rattle.frame.specs.Readers.{headerRead, itemsRead, bodyEnd, itemsAt, frameRead, framingIn, framingOf}
 use Rattle.frame.proofs.Items.{none-left}
 use Rattle.octets.proofs.Maybe.{not-some, some-is}
-use Rattle.frame.proofs.Runs.{tail, length-tail, run-behind, ended-yes, body-some, body-none}
+use Rattle.ttlv.proofs.Runs.{tail, length-tail, run-behind, ended-yes, body-some, body-none}
 
 -- ---- a message, its one structure and what is in it
 

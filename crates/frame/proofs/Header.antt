@@ -23,7 +23,7 @@ use Rattle.frame.specs.declared.HeaderRead.the-variants.{Read, NoHeader}
 use Rattle.frame.specs.Tags.{batchCount, batchErrorContinuationOption, protocolVersion, protocolVersionMajor, protocolVersionMinor}
 use Rattle.frame.specs.Frame.{Header, versionIn, headerIn, stop, optionOf}
 use Rattle.frame.specs.Readers.{versionRead, optionAt, headerRead}
-use Rattle.frame.proofs.Runs.{tail, tail-none, run-behind, ended-yes, ended-not, number-some, number-none, body-some, body-none, optional-there, optional-absent}
+use Rattle.ttlv.proofs.Runs.{tail, tail-none, run-behind, ended-yes, ended-not, number-some, number-none, body-some, body-none, optional-there, optional-absent}
 
 -- ---- the version
 

@@ -39,7 +39,8 @@ use Rattle.frame.specs.Tags.{operationTag, requestPayload, uniqueBatchIt
 use Rattle.frame.specs.Frame.{Asked, idMost, idOk, idBytes, itemIn}
 use Rattle.frame.specs.Readers.{numberEnd, bytesEnd, idSpan, idAt, operationEnd, payloadAt, itemRead, idOf, partsIn, partsOf}
 use Rattle.octets.proofs.Maybe.{not-some, some-is}
-use Rattle.frame.proofs.Runs.{tail, tail-none, length-tail, run-behind, ended-yes, ended-not, number-some, number-none, bytes-some, bytes-none, body-some, body-none, optional-there, optional-absent}
+use Rattle.octets.proofs.Zeros.{drop-zeros}
+use Rattle.ttlv.proofs.Runs.{tail, tail-none, length-tail, run-behind, ended-yes, ended-not, number-some, number-none, bytes-some, bytes-none, body-some, body-none, optional-there, optional-absent}
 
 -- ---- the ID
 
@@ -264,11 +265,6 @@ told-item s none h = let z : _≡_ {A = ℕ} 0 1 = cc in absurd (omega arith)
 told-item s (some a) h = record { item = a; there = refl; does = cc; start = cc; long = cc; paid = cc }
 
 -- ---- the struct that carries the ID, and the parts
-
-drop-zeros : (n k : ℕ) → drop {A = ℕ} n (replicate k 0) ≡ replicate (k - n) 0
-drop-zeros zero k = let e : k - 0 ≡ k = omega arith in rw e
-drop-zeros (suc n) zero = let e : 0 - suc n ≡ 0 = omega arith in rw e
-drop-zeros (suc n) (suc k) = let e : suc k - suc n ≡ k - n = omega arith in rw e (drop-zeros n k)
 
 pub id-filled : (v bytes : List ℕ) → length v ≤ 16 → bytes ≡ sets (replicate 16 0) 0 v → record { bytes = bytes; len = length v } ≡ idOf v
 unfolding idOf

@@ -32,7 +32,7 @@ use Rattle.frame.specs.Tags.{batchItem}
 use Rattle.frame.specs.Frame.{Asked, itemIn, itemsIn}
 use Rattle.frame.specs.Readers.{itemsRead}
 use Rattle.octets.proofs.Maybe.{not-some, some-is}
-use Rattle.frame.proofs.Runs.{tail, run-behind}
+use Rattle.ttlv.proofs.Runs.{tail, run-behind}
 
 -- ---- how many there are, n having been counted before
 

@@ -1,6 +1,5 @@
 -- Laws of the frame, for its readers and for those above; no second answer; worked cases.
 -- Assumes nothing. Those above use Frame (where an accepted request's batch items stand), Items (stepping), Item (the parts of one) and Bounds.
-pub mod Runs
 pub mod Header
 pub mod Item
 pub mod Items

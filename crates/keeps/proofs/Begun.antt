@@ -13,7 +13,7 @@ use Rattle.octets.specs.Octets.{Bytes}
 use Rattle.table.specs.declared.Record.{Record}
 use Rattle.table.specs.Layout.{materialSize}
 use Rattle.table.proofs.Lines.{InRange}
-use Rattle.soundness.specs.Sound.{bitsOk, maskOk, unitOk, totalOk}
+use Rattle.values.specs.Values.{bitsOk, maskOk, unitOk, totalOk}
 use Rattle.octets.proofs.Bools.{and-l, and-r, and-i, or-cases}
 use Rattle.soundness.proofs.SoundIs.{Unlimited, Limited, Fit}
 use Rattle.rules.specs.declared.Attributes.{Attributes}

@@ -13,7 +13,7 @@ use Rattle.octets.proofs.If.{on-if}
 use Rattle.table.specs.declared.Record.{Record}
 use Rattle.table.specs.Layout.{materialSize}
 use Rattle.table.specs.Search.{isDestroyed}
-use Rattle.table.proofs.Zeros.{zeros-pass, bytes-zeros, drop-zeros}
+use Rattle.octets.proofs.Zeros.{zeros-pass, bytes-zeros, drop-zeros}
 use Rattle.table.proofs.Lines.{InRange}
 use Rattle.soundness.proofs.SoundIs.{Fit}
 use Rattle.rules.specs.Numbers.{destroy}

@@ -5,6 +5,8 @@ pub mod Bools
 pub mod Maybe
 pub mod Numbers
 pub mod Stores
+pub mod Words
 pub mod Over
 pub mod All
+pub mod Zeros
 pub mod Unique

@@ -109,9 +109,9 @@ fromBe-more s i h = rw (add-one, take-suc s i 0) (fromBe-snoc (take i s) (getD s
 pub more-lt : (n i b : ℕ) → n < 256 ^ i → b < 256 → n * 256 + b < 256 ^ (i + 1)
 more-lt n i b h g = rw (add-one, pow-suc) (omega arith)
 
--- one byte more fits a word, if fewer than 8 are in
-pub more-fits : (n i : ℕ) → n < 256 ^ i → i < 8 → n < 2 ^ 56
-more-fits n i h g = omega (arith, pow-le-pow-right {n = 256} (omega arith) {i = i} {j = 7} (omega arith))
+-- one byte more fits a word, if fewer than 4 are in
+pub more-fits : (n i : ℕ) → n < 256 ^ i → i < 4 → n < 2 ^ 24
+more-fits n i h g = omega (arith, pow-le-pow-right {n = 256} (omega arith) {i = i} {j = 3} (omega arith))
 
 -- ---- zeros
 

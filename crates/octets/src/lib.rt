@@ -6,10 +6,10 @@ ghost use lib.ListN.{length, take};
 ghost use lib.Seq.{sets};
 ghost use Rattle.octets.specs.Octets.{be, fromBe, part, all, isZero};
 
-fn wide(x: u8) -> u64
+fn wide(x: u8) -> u32
     ensures { λ r. ⌜ (r ≡ x) × (r < 256) ⌝ }
 {
-    x as u64
+    x as u32
 }
 
 // The lower of two numbers.
@@ -22,18 +22,33 @@ pub fn fewer(a: usize, b: usize) -> usize
     b
 }
 
-// The number that the first eight bytes of s spell, or all of them where there are fewer: one function for every width.
-pub fn number(s: &[u8]) -> u64
-    ensures { λ r. ⌜ (r ≡ fromBe (take 8 (now (s .entry)))) × (r < 256 ^ length (take 8 (now (s .entry)))) ⌝ }
+// The number that at most four bytes spell. `number` shows that there are no more.
+fn word(s: &[u8]) -> u32
+    requires { ⌜ length (now s) ≤ 4 ⌝ }
+    ensures { λ r. ⌜ (r ≡ fromBe (now (s .entry))) × (r < 256 ^ length (now (s .entry))) ⌝ }
 {
-    let end = fewer(8, s.len());
-    let mut n: u64 = 0;
+    let mut n: u32 = 0;
     let mut i: usize = 0;
-    while i < end {
+    while i < s.len() {
         n = n * 256 + wide(s[i]);
         i += 1;
     }
     n
+}
+
+// The number that the first eight bytes of s spell, or all of them where there are fewer: one function for every width.
+// It is put together of two words, because a compiler makes one load of four bytes and not of eight.
+pub fn number(s: &[u8]) -> u64
+    ensures { λ r. ⌜ (r ≡ fromBe (take 8 (now (s .entry)))) × (r < 256 ^ length (take 8 (now (s .entry)))) ⌝ }
+{
+    let end = fewer(8, s.len());
+    if end <= 4 {
+        return word(&s[..end]) as u64;
+    }
+    let middle = end - 4;
+    let high = word(&s[..middle]) as u64;
+    let low = word(&s[middle..end]) as u64;
+    high * 0x1_0000_0000 + low
 }
 
 // The number that `width` bytes from `at` on spell: one reader for every field of a record.

@@ -20,8 +20,8 @@ use Rattle.ttlv.specs.declared.NumberField.{NumberField}
 use Rattle.ttlv.specs.declared.NumberField.the-variants.{Number, NoNumber}
 use Rattle.ttlv.specs.declared.BodyField.{BodyField}
 use Rattle.ttlv.specs.declared.BodyField.the-variants.{Body, NoBody}
-use Rattle.ttlv.proofs.Step.{rest}
-use Rattle.ttlv.proofs.Lift.{numberRead, bodyRead, isNumber, ended-lifts, number-lifts, number-rest, body-lifts, body-rest, body-is-run}
+use Rattle.ttlv.proofs.Lift.{isNumber, number-rest, body-rest, body-is-run}
+use Rattle.ttlv.proofs.Runs.{tail, run-behind, ended-yes, ended-not, number-some, number-none, body-some, body-none}
 use Rattle.payload.specs.Readers.{lastNumber, onlyNumberAt, lastBody, onlyBodyAt}
 
 -- ---- steps that give something or nothing
@@ -43,23 +43,6 @@ module _ {B : Type 0} {b : Bool} (x : Option B) where
   pub holds : b ≡ true → (b >> x) ≡ x
   unfolding _>>_
   holds e = ap (λ (c : Bool). c >> x) e
-
--- ---- the rest of a run
-
--- s from n on
-abbrev pub tail : List ℕ → ℕ → List ℕ
-tail s n = take (length s - n) (drop n s)
-
-length-tail : (s : List ℕ) (n : ℕ) → length (tail s n) ≡ length s - n
-length-tail s n = rw (rest s n, length-drop)
-
--- whether anything is behind a field that ends at next
-module _ (s : List ℕ) (next : ℕ) (run : isRun (tail s next) ≡ true) where
-  pub ended-yes : next ≡ length s → ended (treeOf (tail s next)) ≡ true
-  ended-yes e = let l = length-tail s next in ended-lifts (tail s next) run ∙ eq-eqb (length (tail s next)) 0 (omega arith)
-
-  pub ended-not : next ≤ length s → (next ≡ length s → ⊥) → ended (treeOf (tail s next)) ≡ false
-  ended-not w e = let l = length-tail s next in ended-lifts (tail s next) run ∙ ne-eqb (length (tail s next)) 0 (λ z. e (omega arith))
 
 -- ---- a field that ends where the run ends
 
@@ -87,23 +70,17 @@ last-body n NoBody h = let z : _≡_ {A = ℕ} 0 1 = cc in absurd (omega arith)
 
 module _ (s : List ℕ) (run : isRun s ≡ true) (tag kind : ℕ) (num : isNumber kind ≡ true) where
   module _ {v next : ℕ} (e : numberAt s tag kind ≡ Number v next) where
-    number-is : numberOf tag kind (treeOf s) ≡ some (v, treeOf (tail s next))
-    number-is = number-lifts s run tag kind num ∙ ap (numberRead s) e ∙ ap (λ (x : List ℕ). some (v, treeOf x)) (sym (rest s next))
-
     pub number-within : next ≤ length s
     number-within = number-rest s run tag kind e .within
 
     pub number-behind : isRun (tail s next) ≡ true
-    number-behind = ap isRun (rest s next) ∙ number-rest s run tag kind e .run
+    number-behind = run-behind s run (number-rest s run tag kind e)
 
     pub number-goes : {B : Type 0} (k : ℕ × Items → Option B) → (numberOf tag kind (treeOf s) >>= k) ≡ k (v, treeOf (tail s next))
-    number-goes k = goes k number-is
-
-  no-number : numberAt s tag kind ≡ NoNumber → numberOf tag kind (treeOf s) ≡ none
-  no-number e = number-lifts s run tag kind num ∙ ap (numberRead s) e
+    number-goes k = goes k (number-some s run tag kind num e)
 
   pub number-stops : {B : Type 0} (k : ℕ × Items → Option B) → numberAt s tag kind ≡ NoNumber → (numberOf tag kind (treeOf s) >>= k) ≡ none
-  number-stops k e = stops k (no-number e)
+  number-stops k e = stops k (number-none s run tag kind num e)
 
   -- a number that is tested, with nothing behind it
   module _ {B : Type 0} (p : ℕ → Bool) (k : ℕ → Option B) where
@@ -114,11 +91,11 @@ module _ (s : List ℕ) (run : isRun s ≡ true) (tag kind : ℕ) (num : isNumbe
     unfolding onlyNumberAt
     only-goes {v} {next} h =
         let i = last-number (length s) (numberAt s tag kind) h in
-        number-goes (i .0) then ∙ ap (λ (o : Option B). p v >> o) (holds (k v) (ended-yes s next (number-behind (i .0)) (i .1)))
+        number-goes (i .0) then ∙ ap (λ (o : Option B). p v >> o) (holds (k v) (ended-yes s run (number-rest s run tag kind (i .0)) (i .1)))
 
     more-stops : {v next : ℕ} → numberAt s tag kind ≡ Number v next → (next ≡ length s → ⊥) → (numberOf tag kind (treeOf s) >>= then) ≡ none
     more-stops {v} {next} e n =
-        let x : (ended (treeOf (tail s next)) >> k v) ≡ none = fails (k v) (ended-not s next (number-behind e) (number-within e) n) in
+        let x : (ended (treeOf (tail s next)) >> k v) ≡ none = fails (k v) (ended-not s run (number-rest s run tag kind e) n) in
         number-goes e then ∙ on-bool (p v) (λ y. holds _ y ∙ x) (λ y. fails _ y)
 
     only-none : (f : NumberField) → numberAt s tag kind ≡ f → lastNumber (length s) f ≡ NoNumber → (numberOf tag kind (treeOf s) >>= then) ≡ none
@@ -136,19 +113,6 @@ module _ (s : List ℕ) (run : isRun s ≡ true) (tag kind : ℕ) (num : isNumbe
 -- ---- a structure
 
 module _ (s : List ℕ) (run : isRun s ≡ true) (tag : ℕ) where
-  module _ {next : ℕ} (e : bodyAt s tag ≡ Body next) where
-    pub body-is : bodyOf tag (treeOf s) ≡ some (treeOf (part s 8 (next - 8)), treeOf (tail s next))
-    body-is = body-lifts s run tag ∙ ap (bodyRead s) e ∙ ap (λ (x : List ℕ). some (treeOf (part s 8 (next - 8)), treeOf x)) (sym (rest s next))
-
-    pub body-behind : isRun (tail s next) ≡ true
-    body-behind = ap isRun (rest s next) ∙ body-rest s run tag e .run
-
-    pub body-within : next ≤ length s
-    body-within = body-rest s run tag e .within
-
-  pub no-body : bodyAt s tag ≡ NoBody → bodyOf tag (treeOf s) ≡ none
-  no-body e = body-lifts s run tag ∙ ap (bodyRead s) e
-
   -- what an answer says, where nothing may be behind the structure
   pub record Whole (next : ℕ) : Type 0 where
     pub found : bodyAt s tag ≡ Body next
@@ -183,10 +147,10 @@ module _ (s : List ℕ) (run : isRun s ≡ true) (tag : ℕ) where
     pub body-goes : {next : ℕ} → onlyBodyAt s tag ≡ Body next → (bodyOf tag (treeOf s) >>= inside) ≡ k (treeOf (part s 8 (next - 8)))
     body-goes {next} h =
         let w = whole h in
-        goes inside (body-is (w .found)) ∙ holds (k (treeOf (part s 8 (next - 8)))) (ended-yes s next (body-behind (w .found)) (w .end))
+        goes inside (body-some s run tag (w .found)) ∙ holds (k (treeOf (part s 8 (next - 8)))) (ended-yes s run (body-rest s run tag (w .found)) (w .end))
 
     pub body-stops : onlyBodyAt s tag ≡ NoBody → (bodyOf tag (treeOf s) >>= inside) ≡ none
     body-stops h =
         other-body h
-        (λ e. stops inside (no-body e))
-        (λ next e n. goes inside (body-is e) ∙ fails (k (treeOf (part s 8 (next - 8)))) (ended-not s next (body-behind e) (body-within e) n))
+        (λ e. stops inside (body-none s run tag e))
+        (λ next e n. goes inside (body-some s run tag e) ∙ fails (k (treeOf (part s 8 (next - 8)))) (ended-not s run (body-rest s run tag e) n))

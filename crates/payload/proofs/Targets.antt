@@ -21,9 +21,9 @@ use Rattle.ttlv.specs.declared.BytesField.{BytesField}
 use Rattle.ttlv.specs.declared.BytesField.the-variants.{Span, NoSpan}
 use Rattle.ttlv.specs.declared.NumberField.the-variants.{Number, NoNumber}
 use Rattle.ttlv.specs.declared.BodyField.the-variants.{Body, NoBody}
-use Rattle.ttlv.proofs.Step.{rest}
 use Rattle.octets.proofs.Bools.{both}
-use Rattle.ttlv.proofs.Lift.{bytesRead, starts-lifts, bytes-lifts, bytes-rest}
+use Rattle.ttlv.proofs.Lift.{bytes-rest}
+use Rattle.ttlv.proofs.Runs.{tail, tail-none, run-behind, tail-ended, tail-more, bytes-some, bytes-none, optional-there, optional-absent}
 use Rattle.identifier.specs.Identifier.{serialOf}
 use Rattle.rules.specs.States.{codeOk}
 use Rattle.payload.specs.Tags.{uniqueIdentifier, usageLimitsCount, revocationReason, revocationReasonCode}
@@ -34,21 +34,7 @@ use Rattle.payload.specs.declared.Target.the-variants.{Placeholder, Seri
 use Rattle.payload.specs.declared.Command.{Command}
 use Rattle.payload.specs.declared.Command.the-variants.{GetUsageAllocation, Revoke}
 use Rattle.payload.specs.declared.TargetRead.the-variants.{Is, NoTarget}
-use Rattle.payload.proofs.Steps.{stops, goes, fails, holds, tail, ended-yes, ended-not, only-goes, only-stops, whole, body-goes, body-stops}
-
--- ---- an optional field at the front
-
-module _ (s : List ℕ) (run : isRun s ≡ true) (tag : ℕ) {A : Type 0} (read : Items → Option (A × Items)) where
-  pub optional-there : startsAt s tag ≡ true → optional tag read (treeOf s) ≡ (read (treeOf s) >>= λ (a, rest). some (some a, rest))
-  unfolding optional
-  optional-there e = ifb-true _ _ _ (starts-lifts s run tag ∙ e)
-
-  pub optional-absent : startsAt s tag ≡ false → optional tag read (treeOf s) ≡ some (none, treeOf s)
-  unfolding optional
-  optional-absent e = ifb-false _ _ _ (starts-lifts s run tag ∙ e)
-
-tail-none : (s : List ℕ) (n : ℕ) → n ≡ 0 → tail s n ≡ s
-tail-none s n e = rest s n ∙ ap (λ (k : ℕ). drop k s) e
+use Rattle.payload.proofs.Steps.{stops, goes, fails, holds, only-goes, only-stops, whole, body-goes, body-stops}
 
 -- ---- the target
 
@@ -73,10 +59,10 @@ module _ (s : List ℕ) (run : isRun s ≡ true) where
   unfolding targetIn targetOf
   given-is {n} {next} y e =
       let r = bytes-rest s run uniqueIdentifier textString e in
-      let b : bytesOf uniqueIdentifier textString (treeOf s) ≡ some (part s 8 n, treeOf (tail s next)) = bytes-lifts s run uniqueIdentifier textString ∙ ap (bytesRead s) e ∙ ap (λ (x : List ℕ). some (part s 8 n, treeOf x)) (sym (rest s next)) in
+      let b : bytesOf uniqueIdentifier textString (treeOf s) ≡ some (part s 8 n, treeOf (tail s next)) = bytes-some s run uniqueIdentifier textString e in
       record {
         read = goes _ (optional-there s run uniqueIdentifier (bytesOf uniqueIdentifier textString) y ∙ goes _ b);
-        behind = ap isRun (rest s next) ∙ r .run;
+        behind = run-behind s run r;
         within = r .within;
       }
 
@@ -102,7 +88,7 @@ module _ (s : List ℕ) (run : isRun s ≡ true) where
   target-none h =
       on-bool (startsAt s uniqueIdentifier)
       (λ y. let e : bytesAt s uniqueIdentifier textString ≡ NoSpan = span-none s (bytesAt s uniqueIdentifier textString) (sym (ifb-true _ _ _ y) ∙ h) in
-      let b : bytesOf uniqueIdentifier textString (treeOf s) ≡ none = bytes-lifts s run uniqueIdentifier textString ∙ ap (bytesRead s) e in
+      let b : bytesOf uniqueIdentifier textString (treeOf s) ≡ none = bytes-none s run uniqueIdentifier textString e in
       stops _ (optional-there s run uniqueIdentifier (bytesOf uniqueIdentifier textString) y ∙ stops _ b))
       (λ n. let q : Is Placeholder 0 ≡ NoTarget = sym (ifb-false _ _ _ n) ∙ h in let z : _≡_ {A = ℕ} 0 1 = cc in absurd (omega arith))
 
@@ -125,11 +111,11 @@ module _ (s : List ℕ) (run : isRun s ≡ true) where
     module _ (command : Target → Command) where
       pub alone-is : next ≡ length s → aloneIn command (treeOf s) ≡ some (command target)
       unfolding aloneIn
-      alone-is n = target-goes _ ∙ holds _ (ended-yes s next target-behind n)
+      alone-is n = target-goes _ ∙ holds _ (tail-ended s next target-behind n)
 
       pub alone-more : (next ≡ length s → ⊥) → aloneIn command (treeOf s) ≡ none
       unfolding aloneIn
-      alone-more n = target-goes _ ∙ fails _ (ended-not s next target-behind target-within n)
+      alone-more n = target-goes _ ∙ fails _ (tail-more s next target-behind target-within n)
 
     -- ---- an amount
 

@@ -20,9 +20,10 @@ use Rattle.ttlv.specs.Fields.{ended, optional}
 use Rattle.ttlv.specs.Found.{startsIn, startsAt, numberAt, bodyAt}
 use Rattle.ttlv.specs.declared.NumberField.the-variants.{Number, NoNumber}
 use Rattle.ttlv.specs.declared.BodyField.the-variants.{Body, NoBody}
-use Rattle.ttlv.proofs.Lift.{ended-lifts}
+use Rattle.ttlv.proofs.Lift.{ended-lifts, body-rest}
+use Rattle.ttlv.proofs.Runs.{tail, ended-yes, ended-not, body-some, body-none, optional-there, optional-absent}
 use Rattle.ttlv.proofs.Found.{body-first}
-use Rattle.soundness.specs.Sound.{bitsOk, maskOk, unitOk, totalOk}
+use Rattle.values.specs.Values.{bitsOk, maskOk, unitOk, totalOk}
 use Rattle.rules.specs.declared.Attributes.{Attributes}
 use Rattle.payload.specs.Tags.{attributes, cryptographicAlgorithm, cryptographicLength, cryptographicUsageMask, objectType, usageLimits, usageLimitsTotal, usageLimitsUnit}
 use Rattle.payload.specs.Payload.{Limit, limitIn, limitFirst, wantedOf, attributesIn, createIn}
@@ -31,8 +32,7 @@ use Rattle.payload.specs.declared.Command.{Command}
 use Rattle.payload.specs.declared.Command.the-variants.{Create}
 use Rattle.payload.specs.declared.LimitRead.the-variants.{Limited, NoLimit}
 use Rattle.payload.specs.declared.AttributesRead.the-variants.{Wanted, NoAttributes}
-use Rattle.payload.proofs.Steps.{stops, goes, fails, holds, tail, ended-yes, ended-not, number-within, number-behind, number-goes, number-stops, only-goes, only-stops, body-is, body-behind, body-within, no-body, Whole, whole, other-body, body-goes, body-stops}
-use Rattle.payload.proofs.Targets.{optional-there, optional-absent}
+use Rattle.payload.proofs.Steps.{stops, goes, fails, holds, number-within, number-behind, number-goes, number-stops, only-goes, only-stops, Whole, whole, other-body, body-goes, body-stops}
 
 -- ---- a limit
 
@@ -94,19 +94,19 @@ module _ (s : List ℕ) (run : isRun s ≡ true) where
       → limitsIn (treeOf s) ≡ (o >>= λ limit. ended (treeOf (tail s next)) >> some (some limit))
   unfolding limitsIn limitFirst _>>=_
   limits-of {next} e none i =
-      stops _ (optional-there s run usageLimits limitFirst (starts-body s usageLimits e) ∙ stops _ (goes _ (body-is s run usageLimits e) ∙ stops _ i))
+      stops _ (optional-there s run usageLimits limitFirst (starts-body s usageLimits e) ∙ stops _ (goes _ (body-some s run usageLimits e) ∙ stops _ i))
   limits-of {next} e (some limit) i =
-      goes _ (optional-there s run usageLimits limitFirst (starts-body s usageLimits e) ∙ goes _ (goes _ (body-is s run usageLimits e) ∙ goes _ i))
+      goes _ (optional-there s run usageLimits limitFirst (starts-body s usageLimits e) ∙ goes _ (goes _ (body-some s run usageLimits e) ∙ goes _ i))
 
   limits-none-first : bodyAt s usageLimits ≡ NoBody → limitFirst (treeOf s) ≡ none
   unfolding limitFirst
-  limits-none-first e = stops _ (no-body s run usageLimits e)
+  limits-none-first e = stops _ (body-none s run usageLimits e)
 
   limits-more : {next : ℕ} → bodyAt s usageLimits ≡ Body next → (next ≡ length s → ⊥) → (o : Option Limit) → limitIn (treeOf (part s 8 (next - 8))) ≡ o → limitsIn (treeOf s) ≡ none
   unfolding _>>=_
   limits-more e n none i = limits-of e none i
   limits-more {next} e n (some limit) i =
-      limits-of e (some limit) i ∙ fails (some (some limit)) (ended-not s next (body-behind s run usageLimits e) (body-within s run usageLimits e) n)
+      limits-of e (some limit) i ∙ fails (some (some limit)) (ended-not s run (body-rest s run usageLimits e) n)
 
   pub limits-other : (length s ≡ 0 → ⊥) → onlyBodyAt s usageLimits ≡ NoBody → limitsIn (treeOf s) ≡ none
   unfolding limitsIn
@@ -127,7 +127,7 @@ module _ (s : List ℕ) (run : isRun s ≡ true) where
       go : (o : Option Limit) → limitIn (treeOf (part s 8 (next - 8))) ≡ o → limitsRead (limitsIn (treeOf s)) ≡ limitRead o
       go none i = ap limitsRead (limits-of (w .found) none i)
       go (some limit) i =
-          ap limitsRead (limits-of (w .found) (some limit) i ∙ holds (some (some limit)) (ended-yes s next (body-behind s run usageLimits (w .found)) (w .end)))
+          ap limitsRead (limits-of (w .found) (some limit) i ∙ holds (some (some limit)) (ended-yes s run (body-rest s run usageLimits (w .found)) (w .end)))
 
 -- ---- from the mask on
 

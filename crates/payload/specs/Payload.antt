@@ -12,7 +12,7 @@ use Rattle.ttlv.specs.Items.{Items}
 use Rattle.ttlv.specs.Fields.{ended, bytesOf, bodyOf, numberOf, optional}
 use Rattle.payload.specs.Tags.{attributes, cryptographicAlgorithm, cryptographicLength, cryptographicUsageMask, objectType, revocationReason, revocationReasonCode, uniqueIdentifier, usageLimits, usageLimitsCount, usageLimitsTotal, usageLimitsUnit, symmetricKey, aes}
 use Rattle.identifier.specs.Identifier.{serialOf}
-use Rattle.soundness.specs.Sound.{bitsOk, maskOk, unitOk, totalOk}
+use Rattle.values.specs.Values.{bitsOk, maskOk, unitOk, totalOk}
 use Rattle.rules.specs.declared.Attributes.{Attributes}
 use Rattle.rules.specs.Numbers.{create, rekey, getAttributes, getUsageAllocation, activate, revoke, destroy}
 use Rattle.rules.specs.States.{codeOk}

@@ -19,7 +19,7 @@ use Rattle.ttlv.specs.declared.NumberField.the-variants.{Number, NoNumber}
 use Rattle.ttlv.specs.declared.BodyField.{BodyField}
 use Rattle.ttlv.specs.declared.BodyField.the-variants.{Body, NoBody}
 use Rattle.identifier.specs.Identifier.{serialOf}
-use Rattle.soundness.specs.Sound.{maskOk}
+use Rattle.values.specs.Values.{maskOk}
 use Rattle.rules.specs.declared.Attributes.{Attributes}
 use Rattle.rules.specs.Numbers.{rekey, activate, destroy}
 use Rattle.payload.specs.Tags.{cryptographicUsageMask, uniqueIdentifier, usageLimits}

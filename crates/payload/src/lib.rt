@@ -20,12 +20,6 @@ const GET_ATTRIBUTES: u32 = 0x0B;
 
 const GET_USAGE_ALLOCATION: u32 = 0x11;
 
-const ACTIVATE: u32 = 0x12;
-
-const REVOKE: u32 = 0x13;
-
-const DESTROY: u32 = 0x14;
-
 // The tags.
 const CRYPTOGRAPHIC_ALGORITHM: u32 = 0x420028;
 
@@ -156,7 +150,7 @@ fn read_limit(s: &[u8]) -> LimitRead
     ) else {
         return LimitRead::NoLimit;
     };
-    if !soundness::total_ok(total) {
+    if !values::total_ok(total) {
         return LimitRead::NoLimit;
     }
     let NumberField::Number {
@@ -166,7 +160,7 @@ fn read_limit(s: &[u8]) -> LimitRead
     else {
         return LimitRead::NoLimit;
     };
-    if !soundness::unit_ok(unit) {
+    if !values::unit_ok(unit) {
         return LimitRead::NoLimit;
     }
     LimitRead::Limited {
@@ -201,7 +195,7 @@ fn read_masked(s: &[u8], bits: u16) -> AttributesRead
     ) else {
         return AttributesRead::NoAttributes;
     };
-    if !soundness::mask_ok(mask) {
+    if !values::mask_ok(mask) {
         return AttributesRead::NoAttributes;
     }
     let LimitRead::Limited { unit, total } = read_limits(&s[next..]) else {
@@ -240,7 +234,7 @@ fn read_attributes(s: &[u8]) -> AttributesRead
     else {
         return AttributesRead::NoAttributes;
     };
-    if !soundness::bits_ok(bits) {
+    if !values::bits_ok(bits) {
         return AttributesRead::NoAttributes;
     }
     read_masked(&t[after..], bits as u16)
@@ -278,10 +272,10 @@ fn alone(operation: u32, target: Target) -> Command
     if operation == REKEY {
         return Command::Rekey { target };
     }
-    if operation == ACTIVATE {
+    if operation == rules::ACTIVATE {
         return Command::Activate { target };
     }
-    if operation == DESTROY {
+    if operation == rules::DESTROY {
         return Command::Destroy { target };
     }
     Command::GetAttributes { target }
@@ -382,13 +376,13 @@ pub fn read_command(operation: u32, s: &[u8]) -> Command
     if operation == GET_USAGE_ALLOCATION {
         return read_allocation(s);
     }
-    if operation == ACTIVATE {
+    if operation == rules::ACTIVATE {
         return read_alone(operation, s);
     }
-    if operation == REVOKE {
+    if operation == rules::REVOKE {
         return read_revoke(s);
     }
-    if operation == DESTROY {
+    if operation == rules::DESTROY {
         return read_alone(operation, s);
     }
     if operation == GET_ATTRIBUTES {

@@ -13,7 +13,7 @@ use Rattle.octets.proofs.If.{ifb-true, ifb-false}
 use Rattle.octets.specs.Octets.{Bytes, allZero, over}
 use Rattle.octets.proofs.Numbers.{bytes-append, bytes-take}
 use Rattle.octets.proofs.Stores.{take-there, sets-whole, sets-over}
-use Rattle.table.proofs.Zeros.{zeros-pass, bytes-zeros, drop-zeros, part-zeros}
+use Rattle.octets.proofs.Zeros.{zeros-pass, bytes-zeros, drop-zeros, part-zeros}
 use Rattle.table.specs.Layout.{materialSize}
 use Rattle.table.specs.declared.Record.{Record}
 use Rattle.rules.specs.Numbers.{destroy}

@@ -39,11 +39,11 @@ pub struct Attributes {
 }
 
 // The operations that move a state, as `Numbers` has them.
-const ACTIVATE: u32 = 0x12;
+pub const ACTIVATE: u32 = 0x12;
 
-const REVOKE: u32 = 0x13;
+pub const REVOKE: u32 = 0x13;
 
-const DESTROY: u32 = 0x14;
+pub const DESTROY: u32 = 0x14;
 
 // The states, as `Numbers` has them.
 const PRE_ACTIVE: u8 = 1;

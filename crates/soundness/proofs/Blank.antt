@@ -7,7 +7,7 @@ use mathlib.Core.Bool.{true}
 use Rattle.octets.specs.Octets.{allZero}
 use Rattle.table.specs.Layout.{lineSize, bodySize}
 use Rattle.table.specs.Records.{blank}
-use Rattle.table.proofs.Zeros.{zeros-pass}
+use Rattle.octets.proofs.Zeros.{zeros-pass}
 use Rattle.table.proofs.Blank.{length-blank, said-blank, lead-blank, line-blank, body-blank, serial-blank}
 use Rattle.soundness.specs.Sound.{sound}
 use Rattle.soundness.proofs.SoundIs.{Sound, Stands, sound-of}

@@ -23,7 +23,8 @@ use Rattle.table.specs.Search.{isNothing, find, isDestroyed}
 use Rattle.table.proofs.First.{isNothing-is, none-fails, fails-none}
 use Rattle.table.proofs.Places.{serial-is}
 use Rattle.table.proofs.Finds.{find-nonzero, find-below, find-serial, find-only}
-use Rattle.soundness.specs.Sound.{Fault, standingRules, bitsOk, unitOk, totalOk, sizeRight, countRight, leadRight, freeRight, zerosRight, isTwin, distinctRight, issuedRight, stateRight, bitsRight, maskRight, limitRight, tailRight, wipedRight, replacedRight, replacementRight, ifStands, namesReplaced, namesReplacement, linksRight, breaksFree, breaksStanding, firstFault, sound}
+use Rattle.values.specs.Values.{bitsOk, unitOk, totalOk}
+use Rattle.soundness.specs.Sound.{Fault, standingRules, sizeRight, countRight, leadRight, freeRight, zerosRight, isTwin, distinctRight, issuedRight, stateRight, bitsRight, maskRight, limitRight, tailRight, wipedRight, replacedRight, replacementRight, ifStands, namesReplaced, namesReplacement, linksRight, breaksFree, breaksStanding, firstFault, sound}
 use Rattle.octets.proofs.Bools.{and-l, and-r, and-i, or-cases, or-l, or-r, yes-unless, no-unless, not-both, facts, tests}
 use Rattle.soundness.proofs.Faults.{Faultless, fault-none, none-fault, Unbroken, Test}
 

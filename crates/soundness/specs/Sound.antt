@@ -9,30 +9,13 @@ use lib.Dec.{leb, ltb, eqb}
 use Rattle.octets.specs.If.{ifb}
 use Rattle.octets.specs.Maybe.{isSome}
 use Rattle.octets.specs.Octets.{part, allZero}
+use Rattle.values.specs.Values.{bitsOk, maskOk, unitOk, totalOk}
 use Rattle.table.specs.declared.Record.{Record}
 use Rattle.table.specs.declared.Found.{Found}
 use Rattle.table.specs.declared.Found.the-variants.{At, Nothing}
 use Rattle.table.specs.Layout.{lineSize, bodySize, lineOf, bodyOf, sizeOf}
 use Rattle.table.specs.Records.{placeAt, serialAt, isFree, zerosIn, lastSerial, placesSaid, leadZeros}
 use Rattle.table.specs.Search.{first, isNothing, find, isDestroyed}
-
--- ---- the values that a sound table allows; Create allows the same
-
--- "length 128, 192 or 256"
-abbrev pub bitsOk : ℕ → Bool
-bitsOk bits = eqb bits 128 || eqb bits 192 || eqb bits 256
-
--- "mask at most 00FFFFFF hex"
-abbrev pub maskOk : ℕ → Bool
-maskOk mask = leb mask 0x00FFFFFF
-
--- "unit 1 or 2"
-abbrev pub unitOk : ℕ → Bool
-unitOk unit = eqb unit 1 || eqb unit 2
-
--- "total 1 to 1,000,000,000,000"
-abbrev pub totalOk : ℕ → Bool
-totalOk total = leb 1 total && leb total 1_000_000_000_000
 
 -- ---- rules of the whole table
 

@@ -7,41 +7,11 @@ ghost use lib.Dec.{eqb};
 ghost use Rattle.table.specs.Layout.{materialSize, sizeOf};
 ghost use Rattle.table.specs.Records.{placeAt, serialAt, lastSerial};
 ghost use Rattle.table.specs.Search.{find};
-ghost use Rattle.soundness.specs.Sound.{bitsOk, maskOk, unitOk, totalOk, limitRight, freeRight, zerosRight, ifStands, namesReplacement, namesReplaced, sound};
+ghost use Rattle.soundness.specs.Sound.{limitRight, freeRight, zerosRight, ifStands, namesReplacement, namesReplaced, sound};
 ghost use Rattle.soundness.specs.Checked.{wholeRight, valuesRight, zerosFrom, materialRight, namesRight, isAt, TopBelow, standingRight, placeRight};
 use table::Found;
 use table::Layout;
 use table::Record;
-
-// ---- the values that a record may have: Create allows the same
-
-// A length in bits.
-pub fn bits_ok(bits: u64) -> bool
-    ensures { λ r. ⌜ r ≡ bitsOk bits ⌝ }
-{
-    (bits == 128) | (bits == 192) | (bits == 256)
-}
-
-// A usage mask.
-pub fn mask_ok(mask: u64) -> bool
-    ensures { λ r. ⌜ r ≡ maskOk mask ⌝ }
-{
-    mask <= 0x00FFFFFF
-}
-
-// The unit of a usage limit.
-pub fn unit_ok(unit: u64) -> bool
-    ensures { λ r. ⌜ r ≡ unitOk unit ⌝ }
-{
-    (unit == 1) | (unit == 2)
-}
-
-// The total of a usage limit.
-pub fn total_ok(total: u64) -> bool
-    ensures { λ r. ⌜ r ≡ totalOk total ⌝ }
-{
-    (1 <= total) & (total <= 1_000_000_000_000)
-}
 
 // ---- the rules of a record by itself
 
@@ -52,7 +22,7 @@ fn limit_right(p: Record) -> bool
     if p.unit == 0 {
         return (p.total == 0) & (p.count == 0);
     }
-    unit_ok(p.unit as u64) & total_ok(p.total) & (p.count <= p.total)
+    values::unit_ok(p.unit as u64) & values::total_ok(p.total) & (p.count <= p.total)
 }
 
 // Rules 8 to 11: state, length in bits, mask and limit.
@@ -61,8 +31,8 @@ fn values_right(p: Record) -> bool
 {
     (1 <= p.state)
         & (p.state <= 6)
-        & bits_ok(p.bits as u64)
-        & mask_ok(p.mask as u64)
+        & values::bits_ok(p.bits as u64)
+        & values::mask_ok(p.mask as u64)
         & limit_right(p)
 }
 

@@ -15,7 +15,7 @@ use Rattle.table.specs.declared.Found.the-variants.{Nothing}
 use Rattle.table.specs.Layout.{lineSize, bodySize, materialSize, lineOf, bodyOf, sizeOf}
 use Rattle.table.specs.Records.{line, body, lineBytes, bodyBytes, recordOf, placeAt, serialAt, zerosIn, lastSerial, placesSaid, leadZeros, blank}
 use Rattle.table.specs.Search.{find}
-use Rattle.table.proofs.Zeros.{zeros-pass, pass-zeros, part-zeros, bytes-zeros}
+use Rattle.octets.proofs.Zeros.{zeros-pass, pass-zeros, part-zeros, bytes-zeros}
 use Rattle.table.proofs.Lines.{InRange, recordOf-bytes}
 use Rattle.table.proofs.Places.{length-line-at, length-body-at, line-is, body-is, serial-is}
 use Rattle.table.proofs.Finds.{find-zero, none-find}

@@ -13,7 +13,7 @@ use Rattle.octets.proofs.Stores.{part-sets-same, part-sets-above}
 use Rattle.table.specs.declared.Record.{Record}
 use Rattle.table.specs.Layout.{lineSize, bodySize, materialSize, lineOf, bodyOf, sizeOf}
 use Rattle.table.specs.Records.{lineBytes, bodyBytes, recordOf, zerosIn, placeAt, withPlace, serialAt, stateAt, lastSerial, withLast, placesSaid, leadZeros}
-use Rattle.table.proofs.Zeros.{bytes-sets}
+use Rattle.octets.proofs.Zeros.{bytes-sets}
 use Rattle.table.proofs.Places.{part-with, sets-swap}
 
 -- ---- a store at a place keeps the lead

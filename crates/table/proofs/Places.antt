@@ -14,7 +14,7 @@ use Rattle.octets.proofs.Stores.{sets-comm, part-sets-same, part-sets-below, pa
 use Rattle.table.specs.declared.Record.{Record}
 use Rattle.table.specs.Layout.{lineSize, bodySize, materialSize, lineOf, bodyOf, sizeOf}
 use Rattle.table.specs.Records.{lineBytes, bodyBytes, recordOf, zerosIn, placeAt, withPlace, serialAt, stateAt}
-use Rattle.table.proofs.Zeros.{bytes-sets}
+use Rattle.octets.proofs.Zeros.{bytes-sets}
 use Rattle.table.proofs.Lines.{InRange, recordOf-bytes, recordOf-range, line-back, body-back, zeros-body, length-line, length-body, bytes-line, bytes-body, bytes-part}
 
 -- two places that are not one: one is lower

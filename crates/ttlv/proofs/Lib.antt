@@ -14,6 +14,7 @@ pub mod Step
 pub mod One
 pub mod Found
 pub mod Lift
+pub mod Runs
 pub mod Starts
 pub mod Small
 pub mod Padding

@@ -33,8 +33,6 @@ pub struct Case {
     pub fresh: Vec<u8>,
     pub clock: i64,
     pub room: usize,
-    /// What the output is full of before the call.
-    pub fill: u8,
 }
 
 /// All that a call gives or changes.
@@ -48,7 +46,7 @@ pub struct Effect {
 impl Case {
     /// A call as the bench program makes it: a strip of the bytes 0 to 255 twice, clock 0, 4,824 bytes of room.
     pub fn new(request: Vec<u8>, table: Vec<u8>) -> Case {
-        Case { request, table, fresh: (0..STRIP).map(|at| at as u8).collect(), clock: 0, room: ROOM, fill: 0xA5 }
+        Case { request, table, fresh: (0..STRIP).map(|at| at as u8).collect(), clock: 0, room: ROOM }
     }
 
     /// Any case at all.
@@ -67,14 +65,13 @@ impl Case {
             } else {
                 rng.pick(&[ROOM, ROOM, ROOM + 1, 8192])
             },
-            fill: rng.next() as u8,
         }
     }
 
-    /// Makes the call on copies.
+    /// Makes the call on copies; the output is filled with a pattern before.
     pub fn run(&self, engine: Engine) -> Effect {
         let mut table = self.table.clone();
-        let mut out = vec![self.fill; self.room];
+        let mut out = pattern(self.room);
         let served = engine(&self.request, &mut table, &self.fresh, self.clock, &mut out);
         Effect { served, table, out }
     }
@@ -85,7 +82,7 @@ impl Case {
         let expected = self.run(model);
         if expected.served.is_err() {
             assert!(
-                expected.table == self.table && expected.out == vec![self.fill; self.room],
+                expected.table == self.table && expected.out == pattern(self.room),
                 "{name}: a refusal left a trace"
             );
         }
@@ -99,7 +96,7 @@ impl Case {
     }
 
     fn report(&self, name: &str, effects: &[(&str, &Effect)]) -> ! {
-        println!("{name}: engines differ; clock {}, room {}, fill {}", self.clock, self.room, self.fill);
+        println!("{name}: engines differ; clock {}, room {}", self.clock, self.room);
         println!("request {}\ntable {}\nfresh {}", hex(&self.request), hex(&self.table), hex(&self.fresh));
         for (engine, effect) in effects {
             let length = effect.served.unwrap_or(0).min(effect.out.len());
@@ -107,7 +104,7 @@ impl Case {
             println!("{engine}: table changed at {:?}", changes(&self.table, &effect.table));
             println!(
                 "{engine}: output changed past the response at {:?}",
-                changes(&vec![self.fill; self.room][length..], &effect.out[length..])
+                changes(&pattern(self.room)[length..], &effect.out[length..])
             );
         }
         panic!("{name}: engines differ");
@@ -161,6 +158,11 @@ fn any_table(rng: &mut Rng, table: &Table) -> Vec<u8> {
         }
     }
     bytes
+}
+
+/// What the output holds before a call.
+pub fn pattern(length: usize) -> Vec<u8> {
+    (0..length).map(|at| (at as u8).wrapping_mul(13) ^ 0xA5).collect()
 }
 
 fn changes(before: &[u8], after: &[u8]) -> Vec<usize> {

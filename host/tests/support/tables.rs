@@ -44,7 +44,7 @@ fn placed_serials(rng: &mut Rng, last: u32) -> Vec<(usize, u32)> {
     let any = rng.index(PLACES + 1);
     let fill = rng.pick(&[0, 1, 3, 32, 63, 64, 64, 64, any, any]);
     let window = (fill + rng.pick(&[0, 1, 10, 50])).min(last as usize) as u32;
-    let low = if rng.one_in(4) { 1 } else { last - window + 1 };
+    let low = if rng.one_in(4) { 1 } else { (last - window).saturating_add(1) };
     let mut serials: Vec<u32> = (0..window).map(|step| low + step).collect();
     rng.shuffle(&mut serials);
     serials.truncate(fill);

@@ -14,7 +14,7 @@ use Rattle.frame.specs.declared.ItemsRead.the-variants.{Items as Counted
 use Rattle.frame.specs.Tags.{batchItem}
 use Rattle.frame.specs.Frame.{itemIn, itemsIn}
 use Rattle.frame.specs.Readers.{itemsRead}
-use Rattle.frame.proofs.Runs.{run-behind}
+use Rattle.ttlv.proofs.Runs.{run-behind}
 use Rattle.frame.proofs.Items.{counted, counted-none, items-end, items-other, items-bad, items-more}
 use Rattle.frame.proofs.count_items.Statement.{statement}
 use Rattle.frame.proofs.count_items.Tie as tie

@@ -11,7 +11,7 @@ use Rattle.ttlv.proofs.Lift.{body-is-run}
 use Rattle.frame.specs.Tags.{requestHeader, requestMessage}
 use Rattle.frame.specs.Frame.{Frame}
 use Rattle.frame.specs.Readers.{itemsAt, frameRead}
-use Rattle.frame.proofs.Runs.{tail, length-tail}
+use Rattle.ttlv.proofs.Runs.{tail, length-tail}
 use Rattle.frame.proofs.Frame.{message-room, inner-run, frame-no-message, frame-no-header, batch-run, frame-bad-header, frame-empty, frame-bad-items, frame-is}
 use borrow.Author.Needs.{needs}
 use Rattle.frame.proofs.find_frame.Statement.{statement}

@@ -9,7 +9,7 @@ use Rattle.frame.specs.Tags.{batchCount, batchErrorContinuationOption, b
 use Rattle.ttlv.proofs.Found.{body-ends}
 use Rattle.ttlv.proofs.Lift.{body-is-run}
 use Rattle.frame.specs.Readers.{headerRead}
-use Rattle.frame.proofs.Runs.{tail}
+use Rattle.ttlv.proofs.Runs.{tail}
 use Rattle.frame.proofs.Header.{option-within, header-no-version, header-bad-version, header-behind, header-bad-option, header-no-count, header-more, header-is}
 use borrow.Author.Needs.{needs}
 use Rattle.frame.proofs.read_header.Statement.{statement}

@@ -1,79 +1,104 @@
--- `octets::number`. The bytes read so far spell the number so far.
+-- `octets::number`. One word, or two put together.
 -- Assumes nothing.
-use Prim.Native.Nat.{ℕ, _≤_, _<_, _-_, _^_}
-use mathlib.Core.Path.{_≡_, refl, sym, ap, _∙_}
+use Prim.Native.Nat.{ℕ, _+_, _-_, _*_, _^_, _≤_, _<_, min}
+use mathlib.Core.Path.{_≡_, sym, ap, _∙_}
+use native.Mathlib.Nat.{le-refl}
 use native.Mathlib.Omega.{arith}
+use lib.ListN.{length, take}
+use Rattle.octets.specs.Octets.{fromBe}
+use Rattle.octets.proofs.Words.{length-looked, looked, two-words}
 use borrow.Author.Needs.{needs}
-use lib.ListN.{length, take, length-take}
-use Rattle.octets.proofs.Stores.{take-there}
-use Rattle.octets.specs.Octets.{fromBe, fromBeAfter}
-use Rattle.octets.proofs.Numbers.{fromBe-more, more-lt, more-fits}
 use Rattle.octets.proofs.number.Statement.{statement}
 use Rattle.octets.proofs.number.Tie as tie
 use Rattle.octets.proofs.number.Reads as reads
 use Rattle.octets.proofs.number.Lts as lts
 use Rattle.octets.proofs.fewer.Reads as fewer-reads
-use Rattle.octets.proofs.wide.Reads as wide-reads
+use Rattle.octets.proofs.word.Reads as word-reads
 
-abbrev Inv-loop : tie.InvT-loop
-Inv-loop s end n₀ i₀ n i = (i ≤ end) × ((n < 256 ^ i) × (n ≡ fromBe (take i s)))
-
-abbrev μ-loop : tie.MeasureT-loop
-μ-loop s end n₀ i₀ n i = end - i
-
-fewer-requires : tie.Need-fewer-requires Inv-loop μ-loop
+fewer-requires : tie.Need-fewer-requires
 fewer-requires c κs = search needs
 
-loop-holds : tie.Need-loop-holds Inv-loop μ-loop
-unfolding fromBe fromBeAfter
-loop-holds c = (omega arith, (omega arith, refl))
+slice-aggregate-word : tie.Need-slice-aggregate-word
+slice-aggregate-word c = sym (length-looked (c .before .before .before .before .args .s .now) (c .before .before .fewer .result) (c .before .before .fewer .ensures) _ (le-refl _))
 
-mul-n : tie.Need-mul-n Inv-loop μ-loop
-mul-n c = omega (arith, more-fits (c .before .loop .n) (c .before .loop .i) (c .before .loop .inv .1 .0) (omega arith))
+word-requires : tie.Need-word-requires
+word-requires c κs =
+    let h = length-looked (c .before .before .before .before .args .s .now) (c .before .before .fewer .result) (c .before .before .fewer .ensures) (c .before .before .fewer .result) (le-refl _) in
+    rw h (c .before .if1 .taken)
 
-shared-slice-read-wide : tie.Need-shared-slice-read-wide Inv-loop μ-loop
-shared-slice-read-wide c = search needs
+cast-result : tie.Need-cast-result
+cast-result c = search needs
 
-wide-requires : tie.Need-wide-requires Inv-loop μ-loop
-wide-requires c κs = search needs
-
-add-n : tie.Need-add-n Inv-loop μ-loop
-add-n c = omega (arith, more-fits (c .before .before .before .loop .n) (c .before .before .before .loop .i) (c .before .before .before .loop .inv .1 .0) (omega arith))
-
-add-i : tie.Need-add-i Inv-loop μ-loop
-add-i c = search needs
-
-loop-less : tie.Need-loop-less Inv-loop μ-loop
-loop-less c = search needs
-
-loop-again : tie.Need-loop-again Inv-loop μ-loop
-loop-again c =
-    let l = c .before .before .before .loop in
-    let s = c .before .before .before .before .before .before .args .s .now in
-    let b : c .wide .result < 256 = c .wide .ensures .1 in
-    let h : l .i < length s = omega arith in
-    (omega arith, (more-lt (l .n) (l .i) (c .wide .result) (l .inv .1 .0) b, cc (fromBe-more s (l .i) h)))
-
-returns : tie.Need-returns Inv-loop μ-loop
+returns : tie.Need-returns
 returns c =
-    let l = c .before .loop in
-    let s = c .before .before .before .before .args .s .now in
-    let e : l .i ≡ length (take 8 s) = rw length-take (omega arith) in
-    (l .inv .1 .1 ∙ ap fromBe (ap (λ (k : ℕ). take k s) e ∙ take-there 8 s), rw e at (l .inv .1 .0))
+    let s = c .before .before .before .before .before .args .s .now in
+    let e = looked s (c .before .before .before .fewer .result) (c .before .before .before .fewer .ensures) in
+    (c .word .ensures .0 ∙ ap fromBe e, rw e at (c .word .ensures .1))
+
+sub-middle : tie.Need-sub-middle
+sub-middle c = search needs
+
+slice-aggregate-word-2 : tie.Need-slice-aggregate-word-2
+slice-aggregate-word-2 c =
+    let f = c .before .before .fewer in
+    sym (length-looked (c .before .before .before .before .args .s .now) (f .result) (f .ensures) (f .result - 4) (omega arith))
+
+word-requires-2 : tie.Need-word-requires-2
+word-requires-2 c κs =
+    let f = c .before .before .fewer in
+    let h = length-looked (c .before .before .before .before .args .s .now) (f .result) (f .ensures) (f .result - 4) (omega arith) in
+    rw h (omega arith)
+
+cast-high : tie.Need-cast-high
+cast-high c = search needs
+
+sub-word : tie.Need-sub-word
+sub-word c = search needs
+
+part-word-start : tie.Need-part-word-start
+part-word-start c = search needs
+
+part-word-end : tie.Need-part-word-end
+part-word-end c = search needs
+
+word-requires-3 : tie.Need-word-requires-3
+word-requires-3 c κs = search needs
+
+cast-low : tie.Need-cast-low
+cast-low c = search needs
+
+mul-result : tie.Need-mul-result
+mul-result c = search needs
+
+add-result : tie.Need-add-result
+add-result c = search needs
+
+returns-2 : tie.Need-returns-2
+returns-2 c =
+    let s = c .before .before .before .before .before .before .before .args .s .now in
+    let f = c .before .before .before .before .before .fewer in
+    let high = c .before .before .word2 in
+    let low = c .word3 in
+    two-words s (f .result) (f .ensures) (omega arith) (high .result) (low .result) (high .ensures .0) (high .ensures .1) (low .ensures .0) (low .ensures .1)
 
 pub number-spec : {M : Type 1} → statement M
 number-spec =
     tie.close
     (tie.spec
-    Inv-loop
-    μ-loop
     fewer-requires
-    loop-holds
-    mul-n
-    shared-slice-read-wide
-    wide-requires
-    add-n
-    add-i
-    loop-less
-    loop-again
-    returns)
+    slice-aggregate-word
+    word-requires
+    cast-result
+    returns
+    sub-middle
+    slice-aggregate-word-2
+    word-requires-2
+    cast-high
+    sub-word
+    part-word-start
+    part-word-end
+    word-requires-3
+    cast-low
+    mul-result
+    add-result
+    returns-2)

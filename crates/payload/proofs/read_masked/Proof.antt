@@ -13,7 +13,7 @@ use Rattle.payload.proofs.read_masked.Tie as tie
 use Rattle.payload.proofs.read_masked.Reads as reads
 use Rattle.payload.proofs.read_masked.Lts as lts
 use Rattle.payload.proofs.read_limits.Reads as read-limits-reads
-use Rattle.soundness.proofs.mask_ok.Reads as mask-ok-reads
+use Rattle.values.proofs.mask_ok.Reads as mask-ok-reads
 use Rattle.ttlv.proofs.number_field.Reads as number-field-reads
 
 number-field-requires : tie.Need-number-field-requires

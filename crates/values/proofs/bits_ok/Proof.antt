@@ -1,8 +1,8 @@
--- `soundness::bits_ok`. The tests compute to the definition's.
+-- `values::bits_ok`. The tests compute to the definition's.
 -- Assumes nothing.
 use mathlib.Core.Path.{refl}
-use Rattle.soundness.proofs.bits_ok.Statement.{statement}
-use Rattle.soundness.proofs.bits_ok.Tie as tie
+use Rattle.values.proofs.bits_ok.Statement.{statement}
+use Rattle.values.proofs.bits_ok.Tie as tie
 
 returns : tie.Need-returns
 returns c = refl

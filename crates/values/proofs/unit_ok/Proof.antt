@@ -1,8 +1,8 @@
--- `soundness::unit_ok`. The tests compute to the definition's.
+-- `values::unit_ok`. The tests compute to the definition's.
 -- Assumes nothing.
 use mathlib.Core.Path.{refl}
-use Rattle.soundness.proofs.unit_ok.Statement.{statement}
-use Rattle.soundness.proofs.unit_ok.Tie as tie
+use Rattle.values.proofs.unit_ok.Statement.{statement}
+use Rattle.values.proofs.unit_ok.Tie as tie
 
 returns : tie.Need-returns
 returns c = refl

@@ -32,6 +32,14 @@ tail-none s n e = rest s n ∙ ap (λ (k : ℕ). drop k s) e
 pub length-tail : (s : List ℕ) (n : ℕ) → length (tail s n) ≡ length s - n
 length-tail s n = rw (rest s n, length-drop)
 
+-- whether anything is behind what ends at next
+module _ (s : List ℕ) (next : ℕ) (run : isRun (tail s next) ≡ true) where
+  pub tail-ended : next ≡ length s → ended (treeOf (tail s next)) ≡ true
+  tail-ended e = let l = length-tail s next in ended-lifts (tail s next) run ∙ eq-eqb (length (tail s next)) 0 (omega arith)
+
+  pub tail-more : next ≤ length s → (next ≡ length s → ⊥) → ended (treeOf (tail s next)) ≡ false
+  tail-more w e = let l = length-tail s next in ended-lifts (tail s next) run ∙ ne-eqb (length (tail s next)) 0 (λ z. e (omega arith))
+
 module _ (s : List ℕ) (run : isRun s ≡ true) where
   module _ {next : ℕ} (r : Rest s next) where
     pub run-behind : isRun (tail s next) ≡ true
@@ -39,13 +47,10 @@ module _ (s : List ℕ) (run : isRun s ≡ true) where
 
     -- whether anything is behind a field
     pub ended-yes : next ≡ length s → ended (treeOf (tail s next)) ≡ true
-    ended-yes e = let l = length-tail s next in ended-lifts (tail s next) run-behind ∙ eq-eqb (length (tail s next)) 0 (omega arith)
+    ended-yes e = tail-ended s next run-behind e
 
     pub ended-not : (next ≡ length s → ⊥) → ended (treeOf (tail s next)) ≡ false
-    ended-not e =
-        let l = length-tail s next in
-        let w = r .within in
-        ended-lifts (tail s next) run-behind ∙ ne-eqb (length (tail s next)) 0 (λ z. e (omega arith))
+    ended-not e = tail-more s next run-behind (r .within) e
 
   module _ (tag kind : ℕ) (k : isNumber kind ≡ true) where
     pub number-some : {v next : ℕ} → numberAt s tag kind ≡ Number v next → numberOf tag kind (treeOf s) ≡ some (v, treeOf (tail s next))

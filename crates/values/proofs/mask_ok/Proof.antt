@@ -1,8 +1,8 @@
--- `soundness::mask_ok`. The tests compute to the definition's.
+-- `values::mask_ok`. The tests compute to the definition's.
 -- Assumes nothing.
 use mathlib.Core.Path.{refl}
-use Rattle.soundness.proofs.mask_ok.Statement.{statement}
-use Rattle.soundness.proofs.mask_ok.Tie as tie
+use Rattle.values.proofs.mask_ok.Statement.{statement}
+use Rattle.values.proofs.mask_ok.Tie as tie
 
 returns : tie.Need-returns
 returns c = refl

@@ -1,0 +1,3 @@
+-- The uniqueness of the answers.
+-- Assumes nothing.
+pub mod Unique

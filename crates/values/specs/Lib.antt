@@ -1,0 +1,3 @@
+-- The values that a key may have.
+-- Assumes nothing.
+pub mod Values
