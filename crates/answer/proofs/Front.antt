@@ -14,7 +14,8 @@ use Rattle.answer.specs.Respond.{Answer, Response, batchItems, versionIt
 use Rattle.answer.specs.Read.{allowed}
 use Rattle.answer.specs.Front.{headerSize, frameSize, responseMost, front}
 use Rattle.answer.proofs.Answers.{allowed-facts}
-use Rattle.answer.proofs.Sizes.{size, sizes, size-nil, batch-size}
+use Rattle.ttlv.proofs.Sizes.{size, size-nil}
+use Rattle.answer.proofs.Sizes.{sizes, batch-size}
 
 -- ---- runs of structures
 

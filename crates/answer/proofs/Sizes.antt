@@ -5,13 +5,14 @@ use Prim.Native.Nat.{ℕ, _+_, _*_, _≤_}
 use native.Mathlib.Omega.{arith}
 use mathlib.Core.Bool.{true}
 use mathlib.Core.List.{List, [], _∷_}
-use lib.ListN.{length, length-append, length-replicate}
+use lib.ListN.{length, length-append}
 use lib.Dec.{eqb}
 use Rattle.octets.specs.Octets.{be, all}
 use Rattle.octets.proofs.If.{on-if}
 use Rattle.octets.proofs.Numbers.{length-be}
 use Rattle.ttlv.specs.Types.{padded}
 use Rattle.ttlv.specs.Items.{Items, nil, value, group, encode}
+use Rattle.ttlv.proofs.Sizes.{size, size-nil, size-value, size-group}
 use Rattle.octets.proofs.Bools.{both}
 use Rattle.identifier.specs.Identifier.{identifier}
 use Rattle.identifier.proofs.Texts.{length-identifier}
@@ -26,19 +27,7 @@ use Rattle.answer.specs.Read.{answerOk}
 use Rattle.answer.specs.Front.{longestItem}
 use Rattle.answer.proofs.Answers.{answer-facts}
 
--- the bytes of some items
-abbrev pub size : Items → ℕ
-size t = length (encode t)
-
 -- ---- one item
-
-pub size-value : (tag kind : ℕ) (v : List ℕ) (rest : Items) → size (value tag kind v rest) ≡ 8 + padded (length v) + size rest
-unfolding encode
-size-value tag kind v rest = simp (length-append, length-be, length-replicate) (omega arith)
-
-pub size-group : (tag : ℕ) (body rest : Items) → size (group tag body rest) ≡ 8 + size body + size rest
-unfolding encode
-size-group tag body rest = simp (length-append, length-be) (omega arith)
 
 module _ (tag kind n : ℕ) (rest : Items) where
   pub size-word : size (word tag kind n rest) ≡ 16 + size rest
@@ -49,10 +38,6 @@ module _ (tag kind n : ℕ) (rest : Items) where
 
 pub size-named : (tag serial : ℕ) (rest : Items) → size (named tag serial rest) ≡ 16 + size rest
 size-named tag serial rest = size-value tag _ (identifier serial) rest ∙ rw length-identifier
-
-pub size-nil : size nil ≡ 0
-unfolding encode
-size-nil = refl
 
 pub ruleset sizes = (size-word, size-long, size-named, size-group, size-nil)
 

@@ -33,7 +33,8 @@ use Rattle.answer.specs.Front.{responseMost}
 use Rattle.answer.proofs.Links.{linked}
 use Rattle.answer.proofs.Limits.{limited, limitsOf}
 use Rattle.answer.proofs.Answers.{answer-facts, allowed-facts}
-use Rattle.answer.proofs.Sizes.{size, sizes, size-group, attributes-size, answer-items-size, batch-size}
+use Rattle.ttlv.proofs.Sizes.{size, size-group}
+use Rattle.answer.proofs.Sizes.{sizes, attributes-size, answer-items-size, batch-size}
 use Rattle.answer.proofs.Front.{header-size}
 
 -- a run that is well-formed with structures at most d deep

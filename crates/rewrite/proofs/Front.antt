@@ -22,7 +22,8 @@ use Rattle.ttlv.proofs.Back.{parse-back}
 use Rattle.ttlv.proofs.Fine.{FineValue, FineGroup, well-value, value-well, well-group, group-well}
 use Rattle.ttlv.proofs.Tree.{Tree, t-end, t-value, tree, run-parse, parse-run, tree-value, tree-group, group-rest, body-run}
 use Rattle.ttlv_write.specs.Write.{tagOf, item, join, WroteValue, WroteHead, Holds}
-use Rattle.ttlv_write.proofs.Sizes.{length-head, length-value, encode-value, encode-join}
+use Rattle.ttlv.proofs.Sizes.{length-head}
+use Rattle.ttlv_write.proofs.Sizes.{length-value, encode-value, encode-join}
 use Rattle.ttlv_write.proofs.Holds.{holds-value, holds-head}
 use Rattle.rewrite.specs.Again.{Again}
 

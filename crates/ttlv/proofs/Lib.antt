@@ -2,6 +2,7 @@
 -- Assumes nothing.
 pub mod View
 pub mod Put
+pub mod Sizes
 pub mod Turns
 pub mod Spells
 pub mod Fine

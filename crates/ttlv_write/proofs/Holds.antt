@@ -16,7 +16,8 @@ use Rattle.ttlv.specs.Types.{structure, padded, lengthOk}
 use Rattle.ttlv.specs.Items.{Items, nil, value, group, head, encode}
 use Rattle.ttlv.proofs.Back.{eights}
 use Rattle.ttlv_write.specs.Write.{tagOf, item, numberItem, join, spelled, fits, valueFits, Wrote, WroteNumber, WroteValue, WroteHead, Holds}
-use Rattle.ttlv_write.proofs.Sizes.{length-head, length-value, length-number, length-group, length-join, encode-join, encode-group}
+use Rattle.ttlv.proofs.Sizes.{length-head}
+use Rattle.ttlv_write.proofs.Sizes.{length-value, length-number, length-group, length-join, encode-join, encode-group}
 
 -- ---- a write that fits
 

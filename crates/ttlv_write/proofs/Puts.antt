@@ -15,7 +15,8 @@ use Rattle.octets.proofs.Numbers.{length-be, be-zero}
 use Rattle.octets.proofs.Stores.{sets-append, sets-over}
 use Rattle.ttlv.specs.Types.{padded}
 use Rattle.ttlv.specs.Items.{Items, nil, value, group, head, padding, encode}
-use Rattle.ttlv_write.proofs.Sizes.{length-head, length-value}
+use Rattle.ttlv.proofs.Sizes.{length-head}
+use Rattle.ttlv_write.proofs.Sizes.{length-value}
 use Rattle.ttlv_write.specs.Write.{item, Wrote, WroteValue}
 
 -- b is stored from the front on, and then d right behind it

@@ -11,7 +11,8 @@ use Rattle.octets.proofs.Over.{lent-length}
 use Rattle.ttlv.specs.Types.{structure, integer}
 use Rattle.ttlv.specs.Items.{Items, nil, value, group, head, encode}
 use Rattle.ttlv_write.specs.Write.{tagOf, numberItem, join, WroteNumber, WroteHead, Holds}
-use Rattle.ttlv_write.proofs.Sizes.{length-join, length-number, length-head, encode-join}
+use Rattle.ttlv.proofs.Sizes.{length-head}
+use Rattle.ttlv_write.proofs.Sizes.{length-join, length-number, encode-join}
 use Rattle.ttlv_write.proofs.Holds.{holds-number, holds-head, holds-then, holds-front, holds-join, holds-group, holds-left, holds-length}
 
 -- the two fields

@@ -4,11 +4,12 @@ use mathlib.Core.Path.{_≡_, refl, sym, ap, _∙_}
 use Prim.Native.Nat.{ℕ, _+_, _≤_, _<_}
 use native.Mathlib.Omega.{arith}
 use mathlib.Core.List.{List, [], _∷_, _++_, append-assoc, append-nil}
-use lib.ListN.{length, replicate, length-append, length-replicate}
+use lib.ListN.{length, length-append}
 use Rattle.octets.specs.Octets.{be}
 use Rattle.octets.proofs.Numbers.{length-be}
 use Rattle.ttlv.specs.Types.{structure, padded}
-use Rattle.ttlv.specs.Items.{Items, nil, value, group, head, padding, encode}
+use Rattle.ttlv.specs.Items.{Items, nil, value, group, head, encode}
+use Rattle.ttlv.proofs.Sizes.{size, size-nil, size-value, size-group}
 use Rattle.ttlv_write.specs.Write.{tagOf, numberItem, join}
 
 -- ---- sizes
@@ -17,13 +18,8 @@ pub encode-nil : encode nil ≡ []
 unfolding encode
 encode-nil = refl
 
-pub length-head : (tag kind n : ℕ) → length (head tag kind n) ≡ 8
-length-head tag kind n = rw (length-append, length-be 3 tag) (rw (length-be 4 n))
-
-pub length-value : (tag kind : ℕ) (v : List ℕ) → length (encode (value tag kind v nil)) ≡ 8 + padded (length v)
-unfolding encode
-length-value tag kind v =
-    rw (append-nil, length-append (head tag kind (length v)) (v ++ padding (length v)), length-head, length-append v (padding (length v)), length-replicate) (omega arith)
+pub length-value : (tag kind : ℕ) (v : List ℕ) → size (value tag kind v nil) ≡ 8 + padded (length v)
+length-value tag kind v = size-value tag kind v nil ∙ rw size-nil (omega arith)
 
 pub length-number : (width tag kind bits : ℕ) → 0 < width → width ≤ 8 → length (encode (numberItem width tag kind bits)) ≡ 16
 length-number width tag kind bits h l = length-value (tagOf tag) kind (be width bits) ∙ rw (length-be width bits) (omega arith)
@@ -34,7 +30,7 @@ unfolding encode
 encode-group tag b = rw append-nil
 
 pub length-group : (tag : ℕ) (b : Items) → length (encode (group tag b nil)) ≡ 8 + length (encode b)
-length-group tag b = rw (encode-group, length-append, length-head)
+length-group tag b = size-group tag b nil ∙ rw size-nil (omega arith)
 
 -- ---- items behind items
 

@@ -9,7 +9,7 @@ use borrow.Author.Tests.{le-leb, lt-leb, lt-ltb, le-ltb, not-true, not-false}
 use Rattle.ttlv.specs.Types.{structure, lengthOk}
 use Rattle.ttlv.specs.Items.{head}
 use Rattle.ttlv_write.specs.Write.{tagOf, spelled, fits}
-use Rattle.ttlv_write.proofs.Sizes.{length-head}
+use Rattle.ttlv.proofs.Sizes.{length-head}
 use Rattle.ttlv_write.proofs.Puts.{wrote-all, wrote-none}
 use borrow.Author.Needs.{needs}
 use Rattle.ttlv_write.proofs.write_structure.Statement.{statement}
