@@ -1,18 +1,17 @@
 -- How an item went, classified once: the only place where the plans and their tests are opened.
 -- Assumes nothing.
 use Prim.Native.Nat.{ℕ, _-_}
-use mathlib.Core.Path.{_≡_, refl, sym, ap, _∙_}
-use mathlib.Core.Bool.{Bool, true, false, not}
+use mathlib.Core.Path.{_≡_, refl, ap}
+use mathlib.Core.Bool.{false}
 use mathlib.Core.Option.{Option, none, some}
-use mathlib.Core.List.{List, [], _∷_}
-use lib.Dec.{eqb}
+use mathlib.Core.List.{List}
 use borrow.Author.Tests.{eqb-true, not-false}
 use Rattle.octets.specs.If.{ifb}
 use Rattle.octets.proofs.If.{on-if}
 use Rattle.table.specs.declared.Record.{Record}
 use Rattle.table.specs.declared.Found.{Found}
 use Rattle.table.specs.declared.Found.the-variants.{At, Nothing}
-use Rattle.table.specs.Records.{placeAt, withPlace}
+use Rattle.table.specs.Records.{placeAt}
 use Rattle.table.specs.Search.{find, isDestroyed}
 use Rattle.rules.specs.declared.Reason.{Reason}
 use Rattle.rules.specs.declared.Reason.the-variants.{OperationNotSupported, InvalidField, ObjectNotFound, ObjectDestroyed, PermissionDenied, ServerLimitExceeded}
@@ -20,10 +19,10 @@ use Rattle.rules.specs.declared.Attributes.{Attributes}
 use Rattle.rules.specs.declared.Next.the-variants.{To}
 use Rattle.rules.specs.declared.Granted.the-variants.{Left}
 use Rattle.rules.specs.Numbers.{activate, revoke, destroy}
-use Rattle.rules.specs.Tests.{Test, due}
+use Rattle.rules.specs.Tests.{due}
 use Rattle.rules.specs.States.{activateTests, revokeTests, destroyTests, moveTests, movedState, nextUnless, nextState, grantTests, leftUnless, granting}
-use Rattle.rules.specs.Records.{newRecord, heirOf, movedTo, withCount}
-use Rattle.rules.specs.Changes.{isFull, nextSerial, withBorn, withHeir}
+use Rattle.rules.specs.Records.{movedTo, withCount}
+use Rattle.rules.specs.Changes.{isFull}
 use Rattle.frame.specs.Frame.{Asked}
 use Rattle.payload.specs.declared.Target.{Target}
 use Rattle.payload.specs.declared.Command.{Command}

@@ -1,13 +1,11 @@
 -- 01, "Operations": for each operation the ordered conditions with their reasons, and what success does and answers.
 -- Assumes nothing. There is no byte of output in it.
-use Prim.Native.Nat.{ℕ, _+_, _-_, _*_}
+use Prim.Native.Nat.{ℕ, _-_, _*_}
 use mathlib.Core.Bool.{Bool, true, false, not}
 use mathlib.Core.Option.{Option, none, some}
 use mathlib.Core.List.{List, [], _∷_}
 use lib.Dec.{eqb}
-use Rattle.octets.specs.If.{ifb}
 use Rattle.octets.specs.Octets.{part}
-use Rattle.ttlv.specs.Items.{Items}
 use Rattle.table.specs.declared.Record.{Record}
 use Rattle.table.specs.declared.Found.{Found}
 use Rattle.table.specs.declared.Found.the-variants.{At, Nothing}

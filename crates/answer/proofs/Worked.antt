@@ -1,10 +1,8 @@
 -- Worked responses, computed: written to the papers' bytes, and read back.
 -- Assumes nothing. The bytes were worked out from the papers.
 use mathlib.Core.Path.{_≡_, refl}
-use Prim.Native.Nat.{ℕ}
-use mathlib.Core.Option.{Option, none, some}
-use mathlib.Core.List.{List, [], _∷_}
-use lib.ListN.{length}
+use mathlib.Core.Option.{none, some}
+use mathlib.Core.List.{[], _∷_}
 use Rattle.octets.specs.Hex.{hex}
 use Rattle.rules.specs.declared.Reason.the-variants.{OperationNotSupported}
 use Rattle.act.specs.declared.Outcome.the-variants.{Failed, Done, Showed}

@@ -1,7 +1,7 @@
 -- Responses read back: `answersIn` reads what `respond` writes and nothing else, and `allowed` says which responses there are.
 -- Assumes nothing.
 use Prim.Native.Nat.{ℕ, _^_}
-use mathlib.Core.Bool.{Bool, true, false, not, _&&_, _||_}
+use mathlib.Core.Bool.{Bool, true, not, _&&_, _||_}
 use mathlib.Core.Option.{Option, none, some}
 use mathlib.Core.List.{List, [], _∷_}
 use lib.ListN.{length}
@@ -11,7 +11,7 @@ use Rattle.octets.specs.Maybe.{_>>=_, _>>_}
 use Rattle.octets.specs.Octets.{be, fromBe, same, all}
 use Rattle.ttlv.specs.Types.{integer, longInteger, enumeration, textString, byteString, dateTime}
 use Rattle.ttlv.specs.Items.{Items, nil, value, group}
-use Rattle.ttlv.specs.Fields.{startsWith, ended, bytesOf, bodyOf, optional}
+use Rattle.ttlv.specs.Fields.{ended, bytesOf, bodyOf, optional}
 use Rattle.frame.specs.Tags.{batchCount, batchItem, operationTag, protocolVersion, protocolVersionMajor, protocolVersionMinor, uniqueBatchItemId}
 use Rattle.payload.specs.Tags.{attributes, cryptographicAlgorithm, cryptographicLength, cryptographicUsageMask, objectType, uniqueIdentifier, usageLimits, usageLimitsCount, usageLimitsTotal, usageLimitsUnit, symmetricKey, aes}
 use Rattle.answer.specs.Tags.{link, linkType, linkedObjectIdentifier, responseHeader, responseMessage, responsePayload, resultReason, resultStatus, stateTag, timeStamp, replacedObjectLink, replacementObjectLink}

@@ -1,7 +1,6 @@
 -- 01, "Response Message": the answers to a request as items. With `encode` it is the one spelling of a response.
 -- Assumes nothing.
 use Prim.Native.Nat.{ℕ}
-use mathlib.Core.Bool.{Bool, true, false}
 use mathlib.Core.List.{List, [], _∷_}
 use lib.ListN.{length}
 use lib.Dec.{eqb}
@@ -13,7 +12,6 @@ use Rattle.frame.specs.Tags.{batchCount, batchItem, operationTag, protocolVersi
 use Rattle.payload.specs.Tags.{attributes, cryptographicAlgorithm, cryptographicLength, cryptographicUsageMask, objectType, uniqueIdentifier, usageLimits, usageLimitsCount, usageLimitsTotal, usageLimitsUnit, symmetricKey, aes}
 use Rattle.answer.specs.Tags.{link, linkType, linkedObjectIdentifier, responseHeader, responseMessage, responsePayload, resultReason, resultStatus, stateTag, timeStamp, replacedObjectLink, replacementObjectLink}
 use Rattle.identifier.specs.Identifier.{identifier}
-use Rattle.rules.specs.declared.Reason.{Reason}
 use Rattle.rules.specs.Numbers.{reasonNumber}
 use Rattle.act.specs.declared.Shown.{Shown}
 use Rattle.act.specs.declared.Outcome.{Outcome}

@@ -1,20 +1,16 @@
 -- A batch as a chain of links: what `batch` computes is what the chain says, item by item.
 -- Assumes nothing.
 use Prim.Native.Nat.{ℕ, _+_}
-use mathlib.Core.Path.{_≡_, refl, sym, ap, subst, _∙_}
+use mathlib.Core.Path.{_≡_, refl, sym, ap, _∙_}
 use mathlib.Core.Bool.{Bool, true, false, not, _&&_, true≢false, false≢true}
-use mathlib.Core.Option.{Option, none, some}
 use mathlib.Core.List.{List, [], _∷_, map}
 use lib.Dec.{eqb}
-use borrow.Author.Tests.{eqb-true, eqb-false, eq-eqb}
+use borrow.Author.Tests.{eqb-true, eq-eqb}
 use Rattle.octets.proofs.Bools.{and-l, and-r}
 use Rattle.octets.specs.If.{ifb}
 use Rattle.octets.proofs.If.{on-if}
-use Rattle.rules.specs.declared.Reason.{Reason}
-use Rattle.rules.specs.Tests.{due}
 use Rattle.frame.specs.Frame.{Asked, continue}
-use Rattle.payload.specs.Payload.{command}
-use Rattle.act.specs.Act.{Env, Did, Plan, envAt, plan, carried, step, isFailed}
+use Rattle.act.specs.Act.{Env, Did, envAt, carried, step, isFailed}
 use Rattle.answer.specs.Respond.{Answer}
 use Rattle.engine.specs.Batch.{Ran, answerTo, lastly, firstly, endsBatch, batch}
 use Rattle.demands.specs.Demand2.{Link, Due, planOf, answerOf, linkAt, Chain, none-left, stops, goes-on}

@@ -1,7 +1,7 @@
 -- The refusal ladder: the number of a call is the lowest whose condition holds, and a refusal touches nothing.
 -- Assumes nothing.
-use Prim.Native.Nat.{ℕ, zero, suc, _+_, _≤_, _<_}
-use mathlib.Core.Path.{_≡_, refl, sym, ap, subst, _∙_}
+use Prim.Native.Nat.{ℕ, suc, _+_, _≤_, _<_}
+use mathlib.Core.Path.{_≡_, refl, ap, _∙_}
 use mathlib.Core.Bool.{Bool, true, false, not, _||_}
 use mathlib.Core.Option.{Option, none, some}
 use mathlib.Core.List.{List, [], _∷_}
@@ -20,7 +20,6 @@ use Rattle.frame.specs.Frame.{Frame, Framed, Request, refused, asked, frameIn, 
 use Rattle.engine.specs.Batch.{Ran, running}
 use Rattle.engine.specs.Serving.{Effect, roomLeast, stripSize, requestMost, turnedAway, requested, answered, carryOut, serving}
 use Rattle.demands.specs.Box.{Call}
-use Rattle.demands.specs.Demand1.{Untouched, refusals}
 use Rattle.demands.specs.Demand2.{frameOf, ofFrame, refusalConditions, lowest}
 
 -- the outcome that the definitions give to a call

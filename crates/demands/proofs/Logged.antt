@@ -1,36 +1,27 @@
 -- Counts, serials and the log, kept in step: an invariant of the log and the table, over one item, a batch and a run.
 -- Assumes nothing.
-use Prim.Native.Nat.{ℕ, zero, suc, _+_, _*_, _≤_, _<_}
+use Prim.Native.Nat.{ℕ, suc, _+_, _≤_, _<_}
 use native.Mathlib.Omega.{arith}
 use native.Mathlib.Decide.{ℕ-discrete}
 use mathlib.Core.Path.{_≡_, refl, sym, ap, subst, _∙_}
-use mathlib.Core.Logic.{_⊎_, inl, inr, ⊎-elim}
-use mathlib.Core.Bool.{Bool, true, false}
-use mathlib.Core.Option.{Option, none, some}
-use mathlib.Core.List.{List, [], _∷_}
-use lib.ListN.{length}
-use lib.Dec.{eqb}
+use mathlib.Core.Logic.{_⊎_, ⊎-elim}
+use mathlib.Core.Option.{none}
+use mathlib.Core.List.{List, _∷_}
 use borrow.Author.Tests.{eq-eqb, ne-eqb}
-use Rattle.octets.specs.If.{ifb}
 use Rattle.octets.proofs.If.{ifb-true, ifb-false}
 use Rattle.table.specs.declared.Record.{Record}
 use Rattle.table.specs.declared.Found.the-variants.{At}
-use Rattle.table.specs.Records.{placeAt, serialAt, lastSerial}
+use Rattle.table.specs.Records.{placeAt, lastSerial}
 use Rattle.table.specs.Search.{find}
 use Rattle.table.proofs.Places.{serial-is}
 use Rattle.table.proofs.Finds.{find-below, find-serial, find-nonzero}
-use Rattle.soundness.proofs.SoundIs.{Sound}
 use Rattle.keeps.proofs.Keeps.{Held, facts}
-use Rattle.frame.specs.Frame.{Asked}
-use Rattle.payload.specs.declared.Target.{Target}
 use Rattle.payload.specs.declared.Command.{Command}
 use Rattle.payload.specs.declared.Command.the-variants.{Unsupported, Invalid, Create, Rekey, GetUsageAllocation, Activate, Revoke, Destroy, GetAttributes}
-use Rattle.payload.specs.Payload.{command}
 use Rattle.act.specs.declared.Outcome.{Outcome}
 use Rattle.act.specs.Act.{Did, sought}
-use Rattle.engine.specs.Batch.{answerTo}
 use Rattle.demands.specs.Log.{Event, commandOf, issuedBy, issues, issued, grantBy, granted, limitBy, limit}
-use Rattle.demands.proofs.Counted.{Old, New, Had, Counted, beginsWith, Counts}
+use Rattle.demands.proofs.Counted.{Old, New, Counted, beginsWith, Counts}
 
 -- ---- one event more
 

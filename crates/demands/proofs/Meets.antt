@@ -1,38 +1,36 @@
 -- A box whose outcome is that of the definitions meets demands 1 and 2.
 -- Assumes nothing.
-use Prim.Native.Nat.{ℕ, zero, suc, _+_, _*_, _^_, _≤_, _<_}
+use Prim.Native.Nat.{ℕ, _+_, _^_, _≤_, _<_}
 use native.Mathlib.Omega.{arith}
 use mathlib.Core.Path.{_≡_, refl, sym, ap, subst, _∙_}
-use mathlib.Core.Bool.{Bool, true, false, _&&_}
-use mathlib.Core.Option.{Option, none, some}
-use mathlib.Core.List.{List, [], _∷_, _++_, map}
-use lib.ListN.{length, take, drop, length-append, length-drop}
+use mathlib.Core.Bool.{true, _&&_}
+use mathlib.Core.Option.{some}
+use mathlib.Core.List.{List, map}
+use lib.ListN.{length, take, drop}
 use lib.Seq.{take-at, drop-at}
 use lib.Dec.{leb, ltb, eqb}
 use borrow.Author.Tests.{leb-true, eqb-true, le-leb, lt-ltb}
-use Rattle.octets.specs.Octets.{Bytes, over, all}
+use Rattle.octets.specs.Octets.{over, all}
 use Rattle.octets.proofs.Over.{length-over}
-use Rattle.ttlv.specs.Items.{Items, encode}
+use Rattle.ttlv.specs.Items.{encode}
 use Rattle.ttlv.specs.Parse.{message}
 use Rattle.ttlv.proofs.Message.{message-spells}
-use Rattle.table.specs.Layout.{placeCount, materialSize}
+use Rattle.table.specs.Layout.{placeCount}
 use Rattle.octets.proofs.Bools.{and-l, and-r, and-i}
-use Rattle.keeps.proofs.Keeps.{Held}
-use Rattle.frame.specs.Frame.{Asked, Frame, Request, framing, framed, optionOf, countOk, batchMost}
+use Rattle.frame.specs.Frame.{framing, framed, optionOf, batchMost}
 use Rattle.frame.proofs.Bounds.{AllBounded, request-bounded}
 use Rattle.answer.specs.Respond.{Answer, Response, respond}
-use Rattle.answer.specs.Read.{answersIn, answerOk, allowed}
-use Rattle.answer.specs.Front.{responseMost}
+use Rattle.answer.specs.Read.{answerOk, allowed}
 use Rattle.answer.proofs.Front.{response-size}
 use Rattle.answer.proofs.Answers.{answers-back}
 use Rattle.answer.proofs.One.{response-message, bytes-one}
-use Rattle.engine.specs.Batch.{Ran, batch, running}
-use Rattle.engine.specs.Serving.{Effect, roomLeast, stripSize, turnedAway, responseTo, answered, serving}
+use Rattle.engine.specs.Batch.{running}
+use Rattle.engine.specs.Serving.{Effect, roomLeast, responseTo, answered}
 use Rattle.engine.proofs.Batches.{Leaves, batch-leaves}
 use Rattle.demands.specs.Box.{Call, Box, Lent}
-use Rattle.demands.specs.Demand1.{Demand1, Untouched, Within, refusals}
-use Rattle.demands.specs.Demand2.{Demand2, Answered, Link, answerOf, Chain, refusalConditions, lowest}
-use Rattle.demands.proofs.Chains.{Chained, batch-chain}
+use Rattle.demands.specs.Demand1.{Demand1, Untouched, Within}
+use Rattle.demands.specs.Demand2.{Demand2, Answered, answerOf, refusalConditions, lowest}
+use Rattle.demands.proofs.Chains.{batch-chain}
 use Rattle.demands.proofs.Ladder.{served, served-number, lowest-most, Accepted, requestOf, ranBy, Told, away, accepted, told}
 
 module _ (c : Call) (lent : Lent c) (a : Accepted c) where

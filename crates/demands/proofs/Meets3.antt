@@ -1,12 +1,12 @@
 -- A box whose outcome is that of the definitions meets demand 3.
 -- Assumes nothing.
-use Prim.Native.Nat.{ℕ, zero, suc, _+_, _*_, _≤_, _<_}
+use Prim.Native.Nat.{ℕ, _+_, _*_, _≤_, _<_}
 use native.Mathlib.Omega.{arith}
 use native.Mathlib.Decide.{decLe}
 use mathlib.Core.Path.{_≡_, refl, sym, ap, subst, _∙_}
 use mathlib.Core.Bool.{Bool, true, false, true≢false}
-use mathlib.Core.Option.{Option, none, some}
-use mathlib.Core.List.{List, [], _∷_}
+use mathlib.Core.Option.{some}
+use mathlib.Core.List.{List}
 use lib.ListN.{length, replicate}
 use lib.Dec.{eqb}
 use borrow.Author.Tests.{eqb-true}
@@ -14,23 +14,21 @@ use Rattle.octets.specs.Maybe.{_>>=_}
 use Rattle.table.specs.Layout.{placeCount, materialSize}
 use Rattle.table.specs.Records.{placeAt, serialAt, lastSerial}
 use Rattle.table.specs.Search.{isDestroyed}
-use Rattle.table.proofs.Lines.{InRange}
 use Rattle.table.proofs.Places.{serial-is, place-range}
 use Rattle.table.proofs.Blank.{zero-place}
 use Rattle.octets.proofs.Zeros.{pass-zeros}
-use Rattle.soundness.proofs.SoundIs.{Sound, Fit, Empty}
+use Rattle.soundness.proofs.SoundIs.{Empty}
 use Rattle.keeps.proofs.Keeps.{Held, facts}
 use Rattle.octets.proofs.Maybe.{some-is}
-use Rattle.frame.specs.Frame.{Asked, Frame, frameIn, optionOf, batchMost}
-use Rattle.engine.specs.Serving.{Effect, stripSize, turnedAway, answered}
+use Rattle.frame.specs.Frame.{Frame, frameIn, optionOf}
+use Rattle.engine.specs.Serving.{Effect}
 use Rattle.demands.specs.Box.{Call, Box, Lent}
 use Rattle.demands.specs.Log.{Event, issued, granted, limit}
-use Rattle.demands.specs.Demand2.{Link, Chain, frameOf}
-use Rattle.demands.specs.Demand3.{Run, Later, Stands, Tame, Every, Demand3}
-use Rattle.demands.proofs.Ladder.{served, Accepted, Told, away, accepted, told}
+use Rattle.demands.specs.Demand2.{frameOf}
+use Rattle.demands.specs.Demand3.{Stands, Demand3}
+use Rattle.demands.proofs.Ladder.{served, Told, away, accepted, told}
 use Rattle.demands.proofs.Meets.{count-facts}
-use Rattle.demands.proofs.Logged.{Inv, Balanced}
-use Rattle.demands.proofs.Paired.{Gone}
+use Rattle.demands.proofs.Logged.{Inv}
 use Rattle.demands.proofs.Runs.{run-inv, later-gone}
 use Rattle.demands.proofs.Tame.{chain-tame}
 

@@ -1,10 +1,8 @@
 -- The log of a batch: the events read from the bytes are the items with their answers, and the invariant holds behind them.
 -- Assumes nothing.
-use Prim.Native.Nat.{ℕ, zero, suc, _+_, _*_, _≤_, _<_}
+use Prim.Native.Nat.{ℕ, _+_, _*_, _≤_, _<_}
 use native.Mathlib.Omega.{arith}
-use mathlib.Core.Path.{_≡_, refl, sym, ap, subst, _∙_}
-use mathlib.Core.Bool.{Bool, true, false}
-use mathlib.Core.Option.{Option, none, some}
+use mathlib.Core.Path.{_≡_, refl, sym, subst, _∙_}
 use mathlib.Core.List.{List, [], _∷_}
 use lib.ListN.{length}
 use lib.Dec.{eqb}
@@ -15,13 +13,11 @@ use Rattle.octets.proofs.If.{ifb-true, ifb-false, on-if}
 use Rattle.table.specs.Layout.{materialSize}
 use Rattle.table.specs.Records.{placeAt, lastSerial}
 use Rattle.rules.specs.Numbers.{rekey, getUsageAllocation, activate, revoke, destroy}
-use Rattle.rules.specs.Records.{inState, movedTo, withCount}
 use Rattle.keeps.proofs.Keeps.{Held}
 use Rattle.frame.specs.Frame.{Asked}
 use Rattle.payload.specs.declared.Target.{Target}
 use Rattle.payload.specs.declared.Command.{Command}
 use Rattle.payload.specs.declared.Command.the-variants.{Rekey, GetUsageAllocation}
-use Rattle.payload.specs.Payload.{command}
 use Rattle.act.specs.Act.{Env, Did, envAt, createPlan, rekeyPlan, step}
 use Rattle.act.proofs.Went.{Moving, activating, revoking, destroying, Kind, fails, creates, rekeys, grants, moves, shows, step-kind}
 use Rattle.answer.specs.Respond.{Answer}
@@ -30,7 +26,7 @@ use Rattle.engine.proofs.Commands.{Commanded, to-rekey, to-allocate, to-activat
 use Rattle.engine.proofs.Steps.{step-held}
 use Rattle.engine.proofs.Batches.{own-bytes, own-long}
 use Rattle.demands.specs.Log.{Event, heldAfter, paired, granted}
-use Rattle.demands.proofs.Counted.{Counts, kind-counts}
+use Rattle.demands.proofs.Counted.{kind-counts}
 use Rattle.demands.proofs.Logged.{Inv, inv-event, gone-event}
 
 -- ---- the placeholder

@@ -1,31 +1,30 @@
 -- Runs of calls: the invariant holds at every point, and what is gone stays gone.
 -- Assumes nothing.
-use Prim.Native.Nat.{ℕ, zero, suc, _+_, _*_, _^_, _≤_, _<_}
+use Prim.Native.Nat.{ℕ, suc, _+_, _*_, _≤_, _<_}
 use native.Mathlib.Omega.{arith}
 use mathlib.Core.Path.{_≡_, refl, sym, ap, subst, _∙_}
-use mathlib.Core.Bool.{Bool, true, false}
 use mathlib.Core.Option.{Option, none, some}
-use mathlib.Core.List.{List, [], _∷_}
-use lib.ListN.{length, take, replicate}
+use mathlib.Core.List.{List, []}
+use lib.ListN.{length, take}
 use lib.Dec.{lit<}
 use Rattle.octets.specs.If.{ifb}
 use Rattle.octets.specs.Maybe.{_>>=_, _>>_}
-use Rattle.octets.specs.Octets.{Bytes, over}
+use Rattle.octets.specs.Octets.{over}
 use Rattle.ttlv.specs.Items.{Items}
 use Rattle.ttlv.specs.Parse.{firstOf, more, walk, parse, isOne, message}
 use Rattle.table.specs.Layout.{placeCount, materialSize}
-use Rattle.table.specs.Records.{placeAt, serialAt, lastSerial, blank}
+use Rattle.table.specs.Records.{blank}
 use Rattle.table.proofs.Places.{serial-is}
-use Rattle.table.proofs.Blank.{serial-blank, last-blank}
-use Rattle.keeps.proofs.Keeps.{Held, held-blank}
-use Rattle.frame.specs.Frame.{Asked, Frame, frameIn, optionOf, batchMost}
-use Rattle.answer.specs.Respond.{Answer, Response, respond}
+use Rattle.table.proofs.Blank.{serial-blank}
+use Rattle.keeps.proofs.Keeps.{held-blank}
+use Rattle.frame.specs.Frame.{Asked, frameIn, optionOf}
+use Rattle.answer.specs.Respond.{Response}
 use Rattle.answer.specs.Read.{answersIn}
 use Rattle.answer.proofs.One.{response-back}
-use Rattle.engine.specs.Batch.{Ran, batch, running}
-use Rattle.engine.specs.Serving.{Effect, stripSize, turnedAway, responseTo, answered}
+use Rattle.engine.specs.Batch.{running}
+use Rattle.engine.specs.Serving.{Effect, turnedAway, responseTo, answered}
 use Rattle.demands.specs.Box.{Call, Box, Lent}
-use Rattle.demands.specs.Log.{Event, itemsOf, answersOf, itemsAsked, answersGiven, paired, logged, issued, granted, limit}
+use Rattle.demands.specs.Log.{Event, itemsOf, answersOf, itemsAsked, paired, logged, issued, granted, limit}
 use Rattle.demands.specs.Demand3.{Run, begins, calls, Later, here, further}
 use Rattle.demands.proofs.Ladder.{served, Accepted, ranBy, Told, away, accepted, told}
 use Rattle.demands.proofs.Meets.{count-facts, ran-allowed, spelling, front-is}

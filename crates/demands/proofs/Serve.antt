@@ -1,7 +1,7 @@
 -- What ships, as a box: the postcondition of `junctionmoth_serve`, as the checker reads it. No other file writes a parameter's position.
 -- Assumes nothing.
 use Prim.Native.Nat.{ℕ}
-use mathlib.Core.Path.{_≡_, refl, sym, ap, _∙_}
+use mathlib.Core.Path.{_≡_, refl, ap, _∙_}
 use mathlib.Core.List.{List}
 use contract.Lifetimes.{Lfts}
 use borrow.Fn.Kinds.{Dens, resT, endedOf}
@@ -9,7 +9,7 @@ use denote.Triple.Clauses.{AtExit}
 use denote.Ref.{now}
 use mir.Syntax.{w64}
 use mir.Val.{ofZ}
-use Rattle.engine.specs.Serving.{Effect, serving}
+use Rattle.engine.specs.Serving.{Effect}
 use Rattle.junctionmoth.specs.Boundary.{CallIs}
 use Rattle.junctionmoth.proofs.junctionmoth_serve.Reads as reads
 use Rattle.junctionmoth.proofs.junctionmoth_serve.Kinds as kinds

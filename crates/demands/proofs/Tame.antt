@@ -1,37 +1,33 @@
 -- What one item may do to the records: states change only by the listed transitions, and untouched records stay.
 -- Assumes nothing.
-use Prim.Native.Nat.{ℕ, zero, suc, _+_, _*_, _≤_, _<_}
+use Prim.Native.Nat.{ℕ, _+_, _*_, _≤_, _<_}
 use native.Mathlib.Omega.{arith}
 use native.Mathlib.Decide.{ℕ-discrete}
 use mathlib.Core.Path.{_≡_, refl, sym, ap, subst, _∙_}
-use mathlib.Core.Logic.{_⊎_, inl, inr, ⊎-elim}
-use mathlib.Core.Bool.{Bool, true, false, not, _&&_, _||_, true≢false}
+use mathlib.Core.Logic.{_⊎_, ⊎-elim}
+use mathlib.Core.Bool.{true, false, _&&_, true≢false}
 use mathlib.Core.Option.{Option, none, some}
-use mathlib.Core.List.{List, [], _∷_}
+use mathlib.Core.List.{List}
 use lib.ListN.{length}
-use lib.Dec.{eqb}
-use borrow.Author.Tests.{eq-eqb, eqb-true}
+use borrow.Author.Tests.{eq-eqb}
 use Rattle.octets.specs.Octets.{Bytes}
 use Rattle.table.specs.declared.Record.{Record}
 use Rattle.table.specs.declared.Found.{Found}
-use Rattle.table.specs.declared.Found.the-variants.{At, Nothing}
+use Rattle.table.specs.declared.Found.the-variants.{At}
 use Rattle.table.specs.Layout.{placeCount, materialSize}
 use Rattle.table.specs.Records.{placeAt, serialAt, lastSerial}
 use Rattle.table.specs.Search.{find, newPlace}
 use Rattle.table.proofs.Places.{serial-is}
 use Rattle.table.proofs.Finds.{find-below}
 use Rattle.rules.specs.declared.Reason.{Reason}
-use Rattle.rules.specs.Numbers.{activate, revoke, destroy}
-use Rattle.rules.specs.States.{isCompromise}
 use Rattle.rules.specs.Tests.{due}
 use Rattle.rules.specs.Records.{newRecord, heirOf, linkedTo, inState, movedTo, withCount}
-use Rattle.rules.specs.Changes.{nextSerial}
 use Rattle.rules.proofs.States.{three}
 use Rattle.rules.proofs.Moves.{Move, activates, compromises, compromises-destroyed, deactivates, destroys, destroys-compromised, move}
-use Rattle.keeps.proofs.Stores.{Stored, other}
+use Rattle.keeps.proofs.Stores.{other}
 use Rattle.keeps.proofs.Keeps.{Held, facts, found-stands}
 use Rattle.keeps.proofs.Begun.{Allowed}
-use Rattle.keeps.proofs.Leaves.{Born, Replaced, moved-leaves, count-leaves, born-leaves, heir-leaves}
+use Rattle.keeps.proofs.Leaves.{moved-leaves, count-leaves, born-leaves, heir-leaves}
 use Rattle.frame.specs.Frame.{Asked}
 use Rattle.payload.specs.declared.Target.{Target}
 use Rattle.payload.specs.declared.Command.{Command}
@@ -44,7 +40,7 @@ use Rattle.engine.proofs.Steps.{step-held}
 use Rattle.engine.proofs.Batches.{own-bytes, own-long}
 use Rattle.demands.specs.Box.{Call}
 use Rattle.demands.specs.Demand2.{Link, planOf, Due, linkAt, Chain, none-left, stops, goes-on}
-use Rattle.demands.specs.Demand3.{namedBy, takesPlace, codeOf, isAt, names, takes, listed, Moved, Tame, Every, no-link, link}
+use Rattle.demands.specs.Demand3.{namedBy, takesPlace, codeOf, isAt, listed, Tame, Every, no-link, link}
 
 -- ---- the listed transitions
 

@@ -1,16 +1,14 @@
 -- The boxes that 01 warns of do not meet the demands.
 -- Assumes nothing. Each is refuted by calls that are worked out.
-use Prim.Native.Nat.{ℕ, zero, suc, _+_, _^_, _<_, _≤_}
+use Prim.Native.Nat.{ℕ, suc, _+_, _^_, _<_}
 use native.Mathlib.Omega.{arith}
 use mathlib.Core.Path.{_≡_, refl, sym, ap, subst, _∙_}
-use mathlib.Core.Bool.{Bool, true, false, _&&_}
+use mathlib.Core.Bool.{Bool, true}
 use mathlib.Core.Option.{Option, none, some}
 use mathlib.Core.List.{List, [], _∷_, map}
-use lib.ListN.{length, take, drop, replicate, length-map}
-use lib.Seq.{take-at}
+use lib.ListN.{length, replicate, length-map}
 use lib.Dec.{ltb, eqb, lit<}
 use borrow.Author.Tests.{ltb-true}
-use Rattle.octets.specs.If.{ifb}
 use Rattle.octets.specs.Octets.{Bytes, all, over}
 use Rattle.octets.specs.Maybe.{_>>=_}
 use Rattle.octets.proofs.If.{ifb-true}
@@ -20,15 +18,14 @@ use Rattle.ttlv.specs.Parse.{message}
 use Rattle.table.specs.Layout.{placeCount}
 use Rattle.table.specs.Records.{placeAt, serialAt, blank}
 use Rattle.frame.specs.Frame.{Asked, Frame, frameIn, optionOf, continue}
-use Rattle.answer.specs.Respond.{Answer, Response, respond}
+use Rattle.answer.specs.Respond.{Response, respond}
 use Rattle.answer.specs.Read.{answersIn}
 use Rattle.octets.proofs.Maybe.{some-is}
 use Rattle.engine.specs.Serving.{Effect, turnedAway, serving}
-use Rattle.demands.specs.Box.{Call, Box, Lent}
-use Rattle.demands.specs.Demand1.{Demand1}
+use Rattle.demands.specs.Box.{Call, Lent}
 use Rattle.demands.specs.Demand2.{Demand2, Answered, Link, answerOf, Chain, none-left, stops, goes-on, frameOf, ofFrame, refusalConditions, lowest}
-use Rattle.demands.specs.Log.{Event, heldAfter, paired, itemsOf, answersOf, itemsAsked, answersGiven, logged, issuedBy, grantBy, granted, limitBy, limit}
-use Rattle.demands.specs.Demand3.{Demand3, Run, begins, calls, Stands}
+use Rattle.demands.specs.Log.{heldAfter, paired, itemsOf, answersOf, itemsAsked, answersGiven, logged, issuedBy, grantBy, granted, limitBy, limit}
+use Rattle.demands.specs.Demand3.{Demand3, begins, calls}
 use Rattle.cases.specs.Cards.{countedFrom, lifeRequest, grantRequest}
 use Rattle.demands.specs.Wrong.{orRefused, RefusesAll, DoesNothing, OneAnswer, wholeRun, firstOnly, AnswersFirst, refilled, withRefill, InventsCount}
 use Rattle.cases.proofs.Cases.{opened}

@@ -2,7 +2,6 @@
 -- Assumes nothing.
 use Prim.Native.Nat.{ℕ, _≤_}
 use mathlib.Core.Path.{_≡_}
-use mathlib.Core.List.{List}
 use lib.ListN.{length, drop}
 use Rattle.engine.specs.Serving.{Effect, roomLeast}
 use Rattle.demands.specs.Box.{Call, Box, Lent}

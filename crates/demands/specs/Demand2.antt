@@ -1,8 +1,8 @@
 -- Demand 2: "it answers as KMIP 2.1 TTLV says, in the cut of document 01, and with one spelling".
 -- Assumes nothing. It speaks of the parse, the frame, the conditions in order, the record changes and the response reader.
-use Prim.Native.Nat.{ℕ, zero, suc, _+_, _≤_}
+use Prim.Native.Nat.{ℕ, suc, _+_}
 use mathlib.Core.Path.{_≡_}
-use mathlib.Core.Bool.{Bool, true, false, not, _&&_, _||_}
+use mathlib.Core.Bool.{Bool, true, false, not, _||_}
 use mathlib.Core.Option.{Option, none, some}
 use mathlib.Core.List.{List, [], _∷_, map}
 use lib.ListN.{length, take}
@@ -17,7 +17,6 @@ use Rattle.rules.specs.declared.Reason.{Reason}
 use Rattle.rules.specs.Tests.{due}
 use Rattle.frame.specs.Frame.{Asked, Frame, frameIn, versionOk, countOk, optionOf, optionOk, continue}
 use Rattle.payload.specs.Payload.{command}
-use Rattle.act.specs.declared.Outcome.{Outcome}
 use Rattle.act.specs.declared.Outcome.the-variants.{Failed}
 use Rattle.act.specs.Act.{Env, Did, Plan, envAt, plan, isFailed}
 use Rattle.answer.specs.Respond.{Answer, Response, respond}

@@ -1,9 +1,9 @@
 -- Demand 3: "keys are counted and stay dead".
 -- Assumes nothing. Take a blank table and any run of calls, accepted or refused, with nobody else writing to the table between them.
-use Prim.Native.Nat.{ℕ, zero, suc, _+_, _≤_, _<_}
+use Prim.Native.Nat.{ℕ, _+_, _≤_, _<_}
 use mathlib.Core.Path.{_≡_}
 use mathlib.Core.Bool.{Bool, true, false, not, _&&_, _||_}
-use mathlib.Core.Option.{Option, none, some}
+use mathlib.Core.Option.{some}
 use mathlib.Core.List.{List, [], _∷_}
 use lib.ListN.{replicate}
 use lib.Dec.{eqb}
@@ -15,8 +15,7 @@ use Rattle.table.specs.Search.{find, newPlace, isDestroyed}
 use Rattle.soundness.specs.Sound.{sound}
 use Rattle.rules.specs.Numbers.{activate, revoke, destroy}
 use Rattle.rules.specs.States.{isCompromise}
-use Rattle.frame.specs.Frame.{Asked, Frame, optionOf}
-use Rattle.payload.specs.declared.Target.{Target}
+use Rattle.frame.specs.Frame.{Frame, optionOf}
 use Rattle.payload.specs.declared.Command.{Command}
 use Rattle.payload.specs.declared.Command.the-variants.{Unsupported, Invalid, Create, Rekey, GetUsageAllocation, Activate, Revoke, Destroy, GetAttributes}
 use Rattle.payload.specs.Payload.{command}

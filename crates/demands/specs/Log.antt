@@ -1,9 +1,9 @@
 -- What was asked and answered, read from the bytes of requests and responses alone. No definition here reads a table.
 -- Assumes nothing.
-use Prim.Native.Nat.{ℕ, zero, suc, _+_}
-use mathlib.Core.Bool.{Bool, true, false, _&&_}
+use Prim.Native.Nat.{ℕ, suc, _+_}
+use mathlib.Core.Bool.{Bool}
 use mathlib.Core.Option.{Option, none, some}
-use mathlib.Core.List.{List, [], _∷_, _++_}
+use mathlib.Core.List.{List, [], _∷_}
 use lib.ListN.{take}
 use lib.Dec.{eqb}
 use Rattle.octets.specs.If.{ifb}
@@ -11,7 +11,6 @@ use Rattle.octets.specs.Maybe.{_>>=_}
 use Rattle.ttlv.specs.Parse.{message}
 use Rattle.rules.specs.Numbers.{rekey}
 use Rattle.frame.specs.Frame.{Asked, Frame, frameIn}
-use Rattle.payload.specs.declared.Target.{Target}
 use Rattle.payload.specs.declared.Command.{Command}
 use Rattle.payload.specs.declared.Command.the-variants.{Unsupported, Invalid, Create, Rekey, GetUsageAllocation, Activate, Revoke, Destroy, GetAttributes}
 use Rattle.payload.specs.Payload.{command}

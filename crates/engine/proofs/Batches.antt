@@ -1,23 +1,22 @@
 -- A batch on a sound table leaves a sound table, and its answers are those of a response.
 -- Assumes nothing.
-use Prim.Native.Nat.{ℕ, zero, suc, _+_, _*_, _^_, _≤_, _<_}
+use Prim.Native.Nat.{ℕ, _+_, _*_, _≤_}
 use native.Mathlib.Omega.{arith}
-use mathlib.Core.Path.{_≡_, refl, sym, ap, subst, _∙_}
-use mathlib.Core.Bool.{Bool, true, false, _&&_}
+use mathlib.Core.Path.{_≡_, refl}
+use mathlib.Core.Bool.{true}
 use mathlib.Core.List.{List, [], _∷_}
-use lib.ListN.{length, take, drop}
+use lib.ListN.{length, drop}
 use Rattle.octets.specs.If.{ifb}
-use Rattle.octets.specs.Octets.{Bytes, part, all}
+use Rattle.octets.specs.Octets.{Bytes, all}
 use Rattle.octets.proofs.If.{on-if}
 use Rattle.octets.proofs.Numbers.{bytes-take, bytes-drop}
 use Rattle.octets.proofs.Stores.{length-part}
 use Rattle.table.specs.Layout.{materialSize}
 use Rattle.octets.proofs.Bools.{and-i}
 use Rattle.keeps.proofs.Keeps.{Held}
-use Rattle.frame.specs.Frame.{Asked, Request}
+use Rattle.frame.specs.Frame.{Asked}
 use Rattle.frame.proofs.Bounds.{AllBounded}
 use Rattle.act.specs.Act.{Did, envAt, step}
-use Rattle.answer.specs.Respond.{Answer}
 use Rattle.answer.specs.Read.{answerOk}
 use Rattle.engine.specs.Batch.{Ran, answerTo, lastly, firstly, endsBatch, batch}
 use Rattle.engine.proofs.Steps.{step-held, step-ok}

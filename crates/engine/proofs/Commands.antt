@@ -1,18 +1,14 @@
 -- What a command says of the operation that asked for it, and of the values that its payload may have.
 -- Assumes nothing.
 use Prim.Native.Nat.{ℕ}
-use mathlib.Core.Path.{_≡_, refl, sym, ap, subst, _∙_}
-use mathlib.Core.Logic.{_⊎_, inl, inr}
-use mathlib.Core.Bool.{Bool, true, false}
+use mathlib.Core.Path.{_≡_, refl, subst}
+use mathlib.Core.Logic.{inl, inr}
+use mathlib.Core.Bool.{true}
 use mathlib.Core.Option.{Option, none, some}
-use mathlib.Core.List.{List}
-use lib.Dec.{eqb}
 use native.Mathlib.Omega.{arith}
 use borrow.Author.Tests.{eqb-true}
-use Rattle.octets.specs.Maybe.{_>>=_, _>>_}
 use Rattle.octets.proofs.If.{on-if}
 use Rattle.ttlv.specs.Items.{Items}
-use Rattle.ttlv.specs.Fields.{optional}
 use Rattle.values.specs.Values.{bitsOk, maskOk, unitOk, totalOk}
 use Rattle.rules.specs.declared.Attributes.{Attributes}
 use Rattle.rules.specs.Numbers.{create, rekey, getAttributes, getUsageAllocation, activate, revoke, destroy}

@@ -1,19 +1,16 @@
 -- Refusals 1 to 5, rung by rung: what the ladder answers from what the branches know.
 -- Assumes nothing.
 use Prim.Native.Nat.{ℕ, _<_, _≤_}
-use mathlib.Core.Path.{_≡_, refl, sym, _∙_}
-use mathlib.Core.Bool.{Bool, true, false, not, _||_}
+use mathlib.Core.Path.{_≡_, sym, _∙_}
+use mathlib.Core.Bool.{Bool, true, false, not}
 use mathlib.Core.List.{List}
 use lib.ListN.{length}
-use lib.Dec.{ltb, eqb}
-use borrow.Author.Tests.{lt-ltb, le-ltb, eq-eqb, ne-eqb, not-true, not-false}
-use Rattle.octets.specs.If.{ifb}
+use borrow.Author.Tests.{not-true, not-false}
 use Rattle.octets.specs.Maybe.{isSome}
 use Rattle.octets.proofs.If.{chain}
 use Rattle.ttlv.specs.Parse.{message}
 use Rattle.table.specs.Layout.{placeCount}
 use Rattle.soundness.specs.Sound.{sound}
-use Rattle.engine.specs.Serving.{roomLeast, stripSize, requestMost}
 use Rattle.engine.specs.Calls.{earlyRefusal}
 
 -- a test that a function answered, under `!`

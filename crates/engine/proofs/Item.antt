@@ -1,15 +1,15 @@
 -- One item, from the answers of the functions that read it, carry it out and write its answer.
 -- Assumes nothing.
-use Prim.Native.Nat.{ℕ, _+_, _-_, _≤_}
+use Prim.Native.Nat.{ℕ, _-_, _≤_}
 use native.Mathlib.Omega.{arith}
 use mathlib.Core.Path.{_≡_, refl, sym, ap, subst, _∙_}
 use mathlib.Core.Bool.{Bool, true, false, false≢true}
 use mathlib.Core.Option.{Option, none, some}
-use mathlib.Core.List.{List, [], _∷_, _++_}
+use mathlib.Core.List.{List}
 use lib.ListN.{length, take, drop, replicate, length-drop}
 use lib.Seq.{take-at, take-all}
 use Rattle.octets.specs.Maybe.{isSome}
-use Rattle.ttlv.specs.Items.{nil, group, encode}
+use Rattle.ttlv.specs.Items.{nil, group}
 use Rattle.ttlv.specs.Tree.{isRun, treeOf}
 use Rattle.ttlv.proofs.Lift.{cut-tree}
 use Rattle.ttlv_write.specs.Write.{Holds}
@@ -29,7 +29,6 @@ use Rattle.act.specs.Perform.{leaves, performing}
 use Rattle.answer.specs.Respond.{Answer, answerItems}
 use Rattle.answer.specs.Front.{longestItem}
 use Rattle.answer_write.specs.Puts.{Puts, answerOf}
-use Rattle.engine.specs.declared.ItemDone.{ItemDone}
 use Rattle.engine.specs.Batch.{answerTo}
 use Rattle.engine.specs.Calls.{askedOr, askedIn, answerBytes, doing, ItemIs}
 

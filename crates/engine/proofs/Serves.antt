@@ -1,6 +1,6 @@
 -- A whole call, from the answers of the functions that make it up.
 -- Assumes nothing.
-use Prim.Native.Nat.{ℕ, zero, suc, _+_, _-_, _*_, _%_, _≤_, _<_}
+use Prim.Native.Nat.{ℕ, suc, _+_, _-_, _*_, _%_, _≤_}
 use native.Mathlib.Omega.{arith}
 use mathlib.Core.Path.{_≡_, refl, sym, ap, subst, _∙_}
 use mathlib.Core.Bool.{Bool, true, false, not, _||_, true≢false, false≢true}
@@ -15,23 +15,22 @@ use Rattle.octets.specs.If.{ifb}
 use Rattle.octets.specs.Maybe.{isSome}
 use Rattle.octets.specs.Octets.{over}
 use Rattle.octets.proofs.If.{ifb-true, ifb-false, on-if, on-bool}
-use Rattle.octets.proofs.Over.{lent, over-front, lent-length}
+use Rattle.octets.proofs.Over.{lent, over-front}
 use Rattle.ttlv.specs.Items.{Items, encode}
 use Rattle.ttlv.specs.Parse.{message}
 use Rattle.ttlv.specs.Tree.{isRun, treeOf}
 use Rattle.ttlv.proofs.Back.{eights}
 use Rattle.ttlv.proofs.Message.{message-tree}
-use Rattle.ttlv_write.specs.Write.{Holds}
-use Rattle.table.specs.Layout.{placeCount, sizeOf}
+use Rattle.table.specs.Layout.{placeCount}
 use Rattle.soundness.specs.Sound.{sound}
-use Rattle.soundness.proofs.SoundIs.{Sound, sound-is}
+use Rattle.soundness.proofs.SoundIs.{sound-is}
 use Rattle.frame.specs.declared.Framing.{Framing}
 use Rattle.frame.specs.Frame.{Asked, Frame, Framed, Request, refused, asked, frameIn, framing, framed, itemsIn, batchMost}
 use Rattle.frame.specs.Readers.{itemsAt, framingIn, framingOf}
 use Rattle.frame.proofs.Frame.{BatchShape, batch-shape}
 use Rattle.act.specs.Act.{Did, envAt, step}
 use Rattle.act.proofs.Plans.{step-performs}
-use Rattle.answer.specs.Respond.{Answer, Response, respond, batchItems}
+use Rattle.answer.specs.Respond.{respond, batchItems}
 use Rattle.answer.specs.Front.{longestItem, frameSize, front}
 use Rattle.answer.proofs.Front.{frame-size, respond-splits}
 use Rattle.engine.specs.declared.BatchDone.{BatchDone}

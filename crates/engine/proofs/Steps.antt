@@ -1,31 +1,30 @@
 -- An item on a sound table leaves a sound table, and its answer is one that a response may have.
 -- Assumes nothing.
-use Prim.Native.Nat.{ℕ, _+_, _-_, _^_, _≤_, _<_}
+use Prim.Native.Nat.{ℕ, _-_, _^_, _≤_, _<_}
 use native.Mathlib.Omega.{arith}
-use mathlib.Core.Path.{_≡_, refl, sym, ap, subst, _∙_}
-use mathlib.Core.Logic.{_⊎_, inl, inr, ⊎-elim}
-use mathlib.Core.Bool.{Bool, true, false, _&&_, _||_}
-use mathlib.Core.List.{List, [], _∷_}
+use mathlib.Core.Path.{_≡_, refl, sym, ap, _∙_}
+use mathlib.Core.Logic.{_⊎_, inl, inr}
+use mathlib.Core.Bool.{true, false, _&&_}
+use mathlib.Core.List.{List}
 use lib.ListN.{length}
 use lib.Dec.{leb, ltb, eqb}
 use borrow.Author.Tests.{le-leb, lt-ltb, eq-eqb, ne-eqb}
 use Rattle.octets.specs.If.{ifb}
 use Rattle.octets.specs.Octets.{Bytes}
-use Rattle.octets.proofs.If.{ifb-true, ifb-false}
 use Rattle.table.specs.declared.Record.{Record}
 use Rattle.table.specs.declared.Found.the-variants.{At}
 use Rattle.table.specs.Layout.{materialSize}
-use Rattle.table.specs.Records.{placeAt, serialAt, lastSerial}
+use Rattle.table.specs.Records.{placeAt, lastSerial}
 use Rattle.table.specs.Search.{find}
 use Rattle.table.proofs.Lines.{InRange}
 use Rattle.table.proofs.Places.{serial-is}
 use Rattle.table.proofs.Finds.{find-below}
 use Rattle.values.specs.Values.{bitsOk, maskOk, unitOk, totalOk}
-use Rattle.octets.proofs.Bools.{and-i, tests}
-use Rattle.soundness.proofs.SoundIs.{Stands, Unlimited, Limited, Fit}
-use Rattle.rules.specs.Numbers.{create, rekey, getAttributes, getUsageAllocation, activate, revoke, destroy}
+use Rattle.octets.proofs.Bools.{and-i}
+use Rattle.soundness.proofs.SoundIs.{Unlimited, Limited, Fit}
+use Rattle.rules.specs.Numbers.{create, getAttributes}
 use Rattle.rules.specs.Records.{inState, movedTo, withCount}
-use Rattle.rules.specs.Changes.{serialMost, isFull, nextSerial}
+use Rattle.rules.specs.Changes.{serialMost, nextSerial}
 use Rattle.rules.specs.declared.Attributes.{Attributes}
 use Rattle.keeps.proofs.Begun.{Allowed}
 use Rattle.keeps.proofs.Keeps.{Held, found-stands, range, fit, next-fits, keeps-moved, keeps-count, keeps-born, keeps-heir}
@@ -33,10 +32,8 @@ use Rattle.frame.specs.Frame.{Asked, idMost}
 use Rattle.payload.specs.declared.Target.{Target}
 use Rattle.payload.specs.declared.Command.{Command}
 use Rattle.payload.specs.declared.Command.the-variants.{Create, Rekey, GetUsageAllocation, GetAttributes}
-use Rattle.payload.specs.Payload.{command}
-use Rattle.act.specs.Act.{Env, Did, sought, failing, createPlan, rekeyPlan, changed, shownOf, step}
+use Rattle.act.specs.Act.{Env, Did, sought, createPlan, rekeyPlan, shownOf, step}
 use Rattle.act.proofs.Went.{Moving, activating, revoking, destroying, Kind, fails, creates, rekeys, grants, moves, shows, step-kind}
-use Rattle.answer.specs.Respond.{Answer}
 use Rattle.answer.specs.Read.{answersDone, serialOk, linkOk, shownOk, outcomeOk, answerOk}
 use Rattle.engine.specs.Batch.{answerTo}
 use Rattle.engine.proofs.Commands.{Commanded, to-create, to-rekey, to-allocate, to-activate, to-revoke, to-destroy, to-show, commanded}

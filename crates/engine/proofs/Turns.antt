@@ -1,6 +1,6 @@
 -- The batch loop: what holds between two items, how it begins, goes on and ends.
 -- Assumes nothing.
-use Prim.Native.Nat.{ℕ, zero, suc, _+_, _-_, _*_, _≤_, _<_}
+use Prim.Native.Nat.{ℕ, _+_, _-_, _*_, _≤_, _<_}
 use native.Mathlib.Omega.{arith}
 use mathlib.Core.Path.{_≡_, refl, sym, ap, subst, _∙_}
 use mathlib.Core.Bool.{Bool, true, false, not, _&&_}
@@ -15,7 +15,7 @@ use Rattle.octets.specs.Maybe.{isSome}
 use Rattle.octets.specs.Octets.{part}
 use Rattle.octets.proofs.If.{ifb-true, ifb-false}
 use Rattle.octets.proofs.Over.{lent-length}
-use Rattle.ttlv.specs.Items.{nil, group, encode}
+use Rattle.ttlv.specs.Items.{encode}
 use Rattle.ttlv.specs.Tree.{isRun, treeOf}
 use Rattle.ttlv.specs.Parse.{firstOf}
 use Rattle.ttlv.specs.Found.{bodyIn, bodyAt}
@@ -25,19 +25,17 @@ use Rattle.ttlv_write.specs.Write.{Holds}
 use Rattle.ttlv_write.proofs.Holds.{holds-none, holds-then}
 use Rattle.table.specs.Layout.{placeCount, sizeOf, materialSize}
 use Rattle.frame.specs.Tags.{batchItem}
-use Rattle.frame.specs.Frame.{Asked, itemIn, itemsIn, batchMost, continue}
-use Rattle.frame.proofs.Items.{Step, step, none-left}
+use Rattle.frame.specs.Frame.{Asked, itemIn, itemsIn, batchMost}
+use Rattle.frame.proofs.Items.{step, none-left}
 use Rattle.act.specs.Act.{Did, envAt, isFailed}
-use Rattle.act.specs.Perform.{performing}
 use Rattle.act.proofs.Plans.{step-performs}
-use Rattle.answer.specs.Respond.{Answer, answerItems, batchItems}
+use Rattle.answer.specs.Respond.{Answer, batchItems}
 use Rattle.answer.specs.Front.{longestItem}
 use Rattle.answer.proofs.Front.{batch-append}
 use Rattle.engine.specs.declared.ItemDone.{ItemDone}
-use Rattle.engine.specs.declared.BatchDone.{BatchDone}
 use Rattle.engine.specs.Batch.{Ran, answerTo, lastly, firstly, endsBatch, batch}
 use Rattle.engine.specs.Serving.{stripSize}
-use Rattle.engine.specs.Calls.{askedAll, askedIn, askedOr, answerBytes, doing, ItemIs, RanIs, ranOver, Runs}
+use Rattle.engine.specs.Calls.{askedAll, askedIn, askedOr, doing, ItemIs, RanIs, ranOver, Runs}
 
 -- no structure stands at the front of nothing
 no-body : (tag : ℕ) → bodyAt [] tag ≡ NoBody

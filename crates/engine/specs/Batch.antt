@@ -1,7 +1,7 @@
 -- 01, "Message frame": a batch carried out item by item, under Continue or Stop.
 -- Assumes nothing. There is no byte of output in it.
 use Prim.Native.Nat.{ℕ, _+_}
-use mathlib.Core.Bool.{Bool, true, false, not, _&&_}
+use mathlib.Core.Bool.{Bool, not, _&&_}
 use mathlib.Core.List.{List, [], _∷_}
 use lib.Dec.{eqb}
 use Rattle.octets.specs.If.{ifb}

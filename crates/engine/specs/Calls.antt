@@ -1,16 +1,15 @@
 -- What the engine's functions answer, part by part; `serving` is the whole.
 -- Assumes nothing.
-use Prim.Native.Nat.{ℕ, _+_, _*_, _≤_}
+use Prim.Native.Nat.{ℕ, _*_, _≤_}
 use mathlib.Core.Path.{_≡_}
-use mathlib.Core.Bool.{Bool, true, false, not, _||_}
+use mathlib.Core.Bool.{true, not, _||_}
 use mathlib.Core.Option.{Option, none, some}
 use mathlib.Core.List.{List, []}
-use lib.ListN.{length, replicate}
+use lib.ListN.{length}
 use lib.Dec.{ltb, eqb}
 use Rattle.octets.specs.If.{ifb}
 use Rattle.octets.specs.Maybe.{isSome}
-use Rattle.octets.specs.Octets.{over}
-use Rattle.ttlv.specs.Items.{Items, nil, group, encode}
+use Rattle.ttlv.specs.Items.{nil, group, encode}
 use Rattle.ttlv.specs.Parse.{message}
 use Rattle.ttlv.specs.Tree.{isRun, treeOf}
 use Rattle.ttlv_write.specs.Write.{Holds}
@@ -27,7 +26,7 @@ use Rattle.engine.specs.declared.Served.{Served}
 use Rattle.engine.specs.declared.ItemDone.{ItemDone}
 use Rattle.engine.specs.declared.BatchDone.{BatchDone}
 use Rattle.engine.specs.Batch.{Ran, answerTo, batch}
-use Rattle.engine.specs.Serving.{Effect, roomLeast, stripSize, requestMost, serving}
+use Rattle.engine.specs.Serving.{roomLeast, stripSize, requestMost, serving}
 
 -- refusals 1 to 5, before the frame is read; 0 where none applies
 unfoldable pub earlyRefusal : List ℕ → List ℕ → List ℕ → ℕ → ℕ

@@ -1,9 +1,9 @@
 -- 01, "Turning a request away", and the whole outcome of a call: number, length, table and output.
 -- Assumes nothing: any request, table, strip, clock and room has an outcome.
-use Prim.Native.Nat.{ℕ, _+_, _*_}
-use mathlib.Core.Bool.{Bool, true, false, not, _||_}
+use Prim.Native.Nat.{ℕ, _*_}
+use mathlib.Core.Bool.{not, _||_}
 use mathlib.Core.Option.{Option, none, some}
-use mathlib.Core.List.{List, [], _∷_}
+use mathlib.Core.List.{List}
 use lib.ListN.{length}
 use lib.Dec.{ltb, eqb}
 use Rattle.octets.specs.If.{ifb}
@@ -12,7 +12,7 @@ use Rattle.ttlv.specs.Items.{Items, encode}
 use Rattle.ttlv.specs.Parse.{message}
 use Rattle.table.specs.Layout.{placeCount, materialSize}
 use Rattle.soundness.specs.Sound.{sound}
-use Rattle.frame.specs.Frame.{Request, Framed, refused, asked, framed, batchMost}
+use Rattle.frame.specs.Frame.{Framed, refused, asked, framed, batchMost}
 use Rattle.answer.specs.Respond.{Response, respond}
 use Rattle.answer.specs.Front.{responseMost}
 use Rattle.engine.specs.Batch.{Ran, running}

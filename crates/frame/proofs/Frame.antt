@@ -3,14 +3,13 @@
 use mathlib.Core.Path.{_≡_, refl, sym, ap, ap₂, _∙_}
 use Prim.Native.Nat.{ℕ, _+_, _-_, _≤_}
 use native.Mathlib.Omega.{arith}
-use mathlib.Core.Bool.{Bool, true, false, not, _&&_, _||_, false≢true}
+use mathlib.Core.Bool.{true, false, not, _&&_, false≢true}
 use mathlib.Core.Option.{Option, none, some}
-use mathlib.Core.List.{List, [], _∷_}
-use lib.ListN.{length, take, drop}
+use mathlib.Core.List.{List, []}
+use lib.ListN.{length, drop}
 use lib.Seq.{drop-drop}
 use lib.Dec.{leb, eqb}
 use borrow.Author.Tests.{eqb-true, eqb-false, eq-eqb, ne-eqb, leb-true}
-use Rattle.octets.specs.If.{ifb}
 use Rattle.octets.specs.Maybe.{_>>=_, _>>_, isSome}
 use Rattle.octets.specs.Octets.{part}
 use Rattle.octets.proofs.If.{ifb-true, ifb-false, on-bool}
@@ -24,7 +23,6 @@ use Rattle.ttlv.specs.declared.BodyField.the-variants.{Body, NoBody}
 use Rattle.octets.proofs.Bools.{both}
 use Rattle.ttlv.proofs.Step.{rest}
 use Rattle.ttlv.proofs.Found.{body-first}
-use Rattle.ttlv.proofs.Tree.{Rest}
 use Rattle.ttlv.proofs.One.{one-group}
 use Rattle.ttlv.proofs.Message.{message-tree}
 use Rattle.ttlv.proofs.Lift.{ended-lifts, body-rest, body-is-run}

@@ -1,12 +1,12 @@
 -- The version, the option and the header that bytes stand for, by what the field readers answer: one law for each way through.
 -- Assumes nothing.
 use mathlib.Core.Path.{_≡_, refl, sym, ap, _∙_}
-use Prim.Native.Nat.{ℕ, _+_, _-_, _≤_}
+use Prim.Native.Nat.{ℕ, _-_, _≤_}
 use native.Mathlib.Omega.{arith}
-use mathlib.Core.Bool.{Bool, true, false}
+use mathlib.Core.Bool.{true}
 use mathlib.Core.Option.{Option, none, some}
 use mathlib.Core.List.{List}
-use lib.ListN.{length, take, drop}
+use lib.ListN.{length}
 use Rattle.octets.specs.Maybe.{_>>=_, _>>_}
 use Rattle.octets.specs.Octets.{part}
 use Rattle.octets.proofs.If.{ifb-true, ifb-false, on-bool}
@@ -19,9 +19,9 @@ use Rattle.ttlv.specs.declared.NumberField.the-variants.{Number, NoNumber}
 use Rattle.ttlv.specs.declared.BodyField.the-variants.{Body, NoBody}
 use Rattle.ttlv.proofs.Lift.{number-rest, body-rest}
 use Rattle.frame.specs.declared.VersionRead.the-variants.{Version, NoVersion}
-use Rattle.frame.specs.declared.HeaderRead.the-variants.{Read, NoHeader}
+use Rattle.frame.specs.declared.HeaderRead.the-variants.{Read}
 use Rattle.frame.specs.Tags.{batchCount, batchErrorContinuationOption, protocolVersion, protocolVersionMajor, protocolVersionMinor}
-use Rattle.frame.specs.Frame.{Header, versionIn, headerIn, stop, optionOf}
+use Rattle.frame.specs.Frame.{versionIn, headerIn, stop, optionOf}
 use Rattle.frame.specs.Readers.{versionRead, optionAt, headerRead}
 use Rattle.ttlv.proofs.Runs.{tail, tail-none, run-behind, ended-yes, ended-not, number-some, number-none, body-some, body-none, optional-there, optional-absent}
 

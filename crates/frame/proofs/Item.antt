@@ -1,17 +1,16 @@
 -- The batch item that bytes stand for, by what the field readers answer, and the other way: where the parts of an item stand.
 -- Assumes nothing.
 use mathlib.Core.Path.{_≡_, refl, sym, ap, ap₂, subst, _∙_}
-use Prim.Native.Nat.{ℕ, zero, suc, _+_, _-_, _^_, _≤_, _<_}
+use Prim.Native.Nat.{ℕ, _+_, _-_, _^_, _≤_, _<_}
 use native.Mathlib.Omega.{arith}
-use mathlib.Core.Bool.{Bool, true, false, _&&_, false≢true}
+use mathlib.Core.Bool.{true, false, _&&_, false≢true}
 use mathlib.Core.Option.{Option, none, some}
-use mathlib.Core.List.{List, [], _∷_, _++_}
+use mathlib.Core.List.{List, _++_}
 use mathlib.Core.Logic.{_⊎_, inl, inr, ⊎-elim}
 use lib.ListN.{length, take, drop, replicate, length-replicate}
 use lib.Seq.{drop-drop, sets}
 use lib.Dec.{leb, eqb}
 use borrow.Author.Tests.{leb-true, eqb-true, eqb-false}
-use Rattle.octets.specs.If.{ifb}
 use Rattle.octets.specs.Maybe.{_>>=_, _>>_, isSome}
 use Rattle.octets.specs.Octets.{part, Bytes}
 use Rattle.octets.proofs.If.{ifb-true, ifb-false, on-bool}
@@ -19,7 +18,7 @@ use Rattle.octets.proofs.Stores.{length-part, sets-over}
 use Rattle.ttlv.specs.Types.{enumeration, byteString}
 use Rattle.ttlv.specs.Items.{Items}
 use Rattle.ttlv.specs.Tree.{isRun, treeOf}
-use Rattle.ttlv.specs.Fields.{bytesOf, numberOf, optional}
+use Rattle.ttlv.specs.Fields.{bytesOf, optional}
 use Rattle.ttlv.specs.Found.{startsAt, bytesAt, numberAt, bodyAt}
 use Rattle.ttlv.specs.declared.BytesField.{BytesField}
 use Rattle.ttlv.specs.declared.BytesField.the-variants.{Span, NoSpan}

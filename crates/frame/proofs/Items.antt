@@ -1,15 +1,14 @@
 -- A run of batch items by what stands at its front, one item at a time.
 -- Assumes nothing.
-use mathlib.Core.Path.{_≡_, refl, sym, ap, ap₂, _∙_}
+use mathlib.Core.Path.{_≡_, refl, sym, ap, _∙_}
 use Prim.Native.Nat.{ℕ, _+_, _-_, _≤_}
 use native.Mathlib.Omega.{arith}
-use mathlib.Core.Bool.{Bool, true, false}
+use mathlib.Core.Bool.{true, false}
 use mathlib.Core.Option.{Option, none, some}
 use mathlib.Core.List.{List, [], _∷_}
-use lib.ListN.{length, take, drop}
+use lib.ListN.{length, drop}
 use lib.Dec.{eqb}
 use borrow.Author.Tests.{eqb-true, eqb-false}
-use Rattle.octets.specs.If.{ifb}
 use Rattle.octets.specs.Maybe.{_>>=_, _>>_, isSome}
 use Rattle.octets.specs.Octets.{part}
 use Rattle.octets.proofs.If.{ifb-true, on-bool}
@@ -18,21 +17,21 @@ use Rattle.ttlv.specs.Parse.{firstOf}
 use Rattle.ttlv.specs.Tree.{isRun, treeOf}
 use Rattle.ttlv.specs.Found.{bodyIn, bodyAt}
 use Rattle.ttlv.specs.declared.First.{First}
-use Rattle.ttlv.specs.declared.First.the-variants.{End, Bad, Value, Group}
+use Rattle.ttlv.specs.declared.First.the-variants.{End, Value, Group}
 use Rattle.ttlv.specs.declared.BodyField.{BodyField}
 use Rattle.ttlv.specs.declared.BodyField.the-variants.{Body, NoBody}
 use Rattle.ttlv.proofs.Step.{rest}
 use Rattle.ttlv.proofs.View.{empty, first-end}
 use Rattle.ttlv.proofs.Found.{body-first}
-use Rattle.ttlv.proofs.Tree.{Rest, Tree, t-end, t-value, t-group, tree, tree-end, tree-group, group-rest, body-run}
+use Rattle.ttlv.proofs.Tree.{Tree, t-end, t-value, t-group, tree, tree-end, tree-group}
 use Rattle.ttlv.proofs.Lift.{body-rest, body-is-run}
 use Rattle.frame.specs.declared.ItemsRead.{ItemsRead}
 use Rattle.frame.specs.declared.ItemsRead.the-variants.{Items as Counted, NoItems}
 use Rattle.frame.specs.Tags.{batchItem}
 use Rattle.frame.specs.Frame.{Asked, itemIn, itemsIn}
 use Rattle.frame.specs.Readers.{itemsRead}
-use Rattle.octets.proofs.Maybe.{not-some, some-is}
-use Rattle.ttlv.proofs.Runs.{tail, run-behind}
+use Rattle.octets.proofs.Maybe.{not-some}
+use Rattle.ttlv.proofs.Runs.{tail}
 
 -- ---- how many there are, n having been counted before
 

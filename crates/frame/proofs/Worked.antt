@@ -1,9 +1,8 @@
 -- Worked frames, computed: a request with every field reads to what it says, and each of refusals 6 to 9 is given.
 -- Assumes nothing. The bytes were worked out from the papers.
 use mathlib.Core.Path.{_≡_, refl}
-use Prim.Native.Nat.{ℕ}
 use mathlib.Core.Option.{Option, none, some}
-use mathlib.Core.List.{List, [], _∷_}
+use mathlib.Core.List.{[], _∷_}
 use Rattle.octets.specs.Hex.{hex}
 use Rattle.ttlv.specs.Items.{Items, nil}
 use Rattle.frame.specs.Frame.{Framed, refused, asked}

@@ -1,7 +1,7 @@
 -- 01, "Message frame" of a request, and refusals 6 to 9 of "Turning a request away".
 -- Assumes nothing. "Fields stand in the order given, brackets mean optional, nothing else may appear."
 use Prim.Native.Nat.{ℕ}
-use mathlib.Core.Bool.{Bool, true, false, not, _&&_, _||_}
+use mathlib.Core.Bool.{Bool, true, not, _&&_, _||_}
 use mathlib.Core.Option.{Option, none, some}
 use mathlib.Core.List.{List, [], _∷_}
 use lib.ListN.{length}

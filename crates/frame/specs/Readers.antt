@@ -1,9 +1,9 @@
 -- What the frame's readers answer of lent bytes: the frame's numbers, and where its parts start.
 -- Assumes nothing. The bytes are a run of items, whose items are `treeOf`.
 use Prim.Native.Nat.{ℕ, _+_, _-_}
-use mathlib.Core.Bool.{Bool, true, false, _&&_}
+use mathlib.Core.Bool.{_&&_}
 use mathlib.Core.Option.{Option, none, some}
-use mathlib.Core.List.{List, [], _∷_, _++_}
+use mathlib.Core.List.{List, [], _++_}
 use lib.ListN.{length, drop, replicate}
 use lib.Dec.{leb}
 use Rattle.octets.specs.If.{ifb}
@@ -30,7 +30,7 @@ use Rattle.frame.specs.declared.Framing.{Framing}
 use Rattle.frame.specs.declared.ItemId.{ItemId}
 use Rattle.frame.specs.declared.ItemParts.{ItemParts}
 use Rattle.frame.specs.Tags.{batchErrorContinuationOption, operationTag, requestHeader, uniqueBatchItemId}
-use Rattle.frame.specs.Frame.{Asked, Header, Frame, Request, Framed, refused, asked, stop, optionOf, idMost, framed, frameIn, itemIn}
+use Rattle.frame.specs.Frame.{Asked, Header, Frame, Framed, refused, asked, stop, optionOf, idMost, framed, itemIn}
 
 -- ---- the header
 

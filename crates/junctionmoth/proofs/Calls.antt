@@ -4,7 +4,7 @@ use Prim.Native.Nat.{ℕ}
 use mathlib.Core.Path.{_≡_, ap, _∙_}
 use mathlib.Core.List.{List}
 use Rattle.engine.specs.declared.Served.{Served}
-use Rattle.engine.specs.Serving.{Effect, serving}
+use Rattle.engine.specs.Serving.{serving}
 use Rattle.engine.specs.Calls.{ServedIs}
 use Rattle.junctionmoth.specs.Boundary.{CallIs}
 

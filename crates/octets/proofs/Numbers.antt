@@ -2,10 +2,9 @@
 -- Assumes nothing.
 use mathlib.Core.Path.{_≡_, refl, sym, ap, _∙_}
 use Prim.Native.Nat.{ℕ, zero, suc, _+_, _-_, _*_, _/_, _%_, _^_, _≤_, _<_}
-use native.Mathlib.Nat.{suc-add, add-suc, add-zero, add-assoc, add-mul, pow-suc, pow-zero, div-add-mod', mul-one, one-mul, mul-assoc, mul-pos, zero-mul, mul-mod-left, pow-le-pow-right, pow-succ', zero-add}
+use native.Mathlib.Nat.{add-zero, add-assoc, add-mul, pow-suc, pow-zero, div-add-mod', mul-one, one-mul, mul-assoc, mul-pos, zero-mul, mul-mod-left, pow-le-pow-right, pow-succ', zero-add}
 use native.Mathlib.Omega.{arith}
 use native.Mathlib.Numerals.{add-one}
-use mathlib.Core.Bool.{true, false, _&&_}
 use mathlib.Core.List.{List, [], _∷_, _++_, append-assoc, append-nil}
 use lib.ListN.{length, getD, take, drop, replicate, length-append, length-take, length-drop, replicate-append-replicate}
 use lib.Seq.{take-suc}

@@ -1,13 +1,13 @@
 -- Laws of runs of stores and of parts: what a run leaves below, at and above it.
 -- Assumes nothing.
-use mathlib.Core.Path.{_≡_, refl, sym, ap, _∙_, subst}
-use Prim.Native.Nat.{ℕ, zero, suc, _+_, _-_, _*_, _/_, _%_, _^_, _≤_, _<_}
-use native.Mathlib.Nat.{le-refl, le-of-suc-le-suc, not-suc-le-zero, pow-suc, pow-le-pow-right, div-add-mod', add-zero, zero-add, add-suc, suc-add}
+use mathlib.Core.Path.{_≡_, refl, sym, ap, _∙_}
+use Prim.Native.Nat.{ℕ, zero, suc, _+_, _-_, _/_, _%_, _≤_, _<_}
+use native.Mathlib.Nat.{not-suc-le-zero, add-zero, zero-add, add-suc, suc-add}
 use native.Mathlib.Numerals.{add-one}
 use native.Mathlib.Omega.{arith}
 use mathlib.Core.List.{List, [], _∷_, _++_, append-assoc}
-use lib.ListN.{length, take, drop, getD, set, length-append, length-set, length-drop}
-use lib.Seq.{sets, take-suc-set, take-all, set-comm, getD-set-same, getD-set-other, length-sets, sets-eq, take-suc, getD-drop, take-at, drop-at, take-take, drop-drop, drop-set-lt, drop-set-add, take-set-le, length-take-le, ext-getD, getD-take}
+use lib.ListN.{length, take, drop, getD, set, length-drop}
+use lib.Seq.{sets, take-suc-set, take-all, set-comm, length-sets, sets-eq, take-suc, getD-drop, take-at, drop-at, take-take, drop-drop, drop-set-lt, drop-set-add, take-set-le, length-take-le, getD-take}
 use Rattle.octets.specs.Octets.{be, part, over}
 use Rattle.octets.proofs.Numbers.{length-be}
 

@@ -1,9 +1,9 @@
 -- Bytes written as hex, with spaces allowed: the bench cards stand as the papers print them.
 -- Assumes nothing. Letters are upper-case; an odd last digit is dropped.
-use Prim.Native.Nat.{ℕ, suc, _+_, _*_, _-_}
+use Prim.Native.Nat.{ℕ, _+_, _*_, _-_}
 use Prim.Native.String.{String, [] as []ˢ, _∷_ as _∷ˢ_}
-use Prim.Native.Char.{Char, code}
-use mathlib.Core.Bool.{Bool, true, false, cond}
+use Prim.Native.Char.{code}
+use mathlib.Core.Bool.{cond}
 use mathlib.Core.List.{List, [], _∷_}
 use lib.Dec.{eqb, leb}
 

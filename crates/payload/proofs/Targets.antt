@@ -6,7 +6,7 @@ use native.Mathlib.Omega.{arith}
 use mathlib.Core.Bool.{true, false}
 use mathlib.Core.Option.{Option, none, some}
 use mathlib.Core.List.{List}
-use lib.ListN.{length, drop}
+use lib.ListN.{length}
 use lib.Dec.{leb}
 use borrow.Author.Tests.{leb-true}
 use Rattle.octets.specs.Maybe.{_>>=_, _>>_}
@@ -15,7 +15,7 @@ use Rattle.octets.proofs.If.{ifb-true, ifb-false, on-bool}
 use Rattle.ttlv.specs.Types.{longInteger, enumeration, textString}
 use Rattle.ttlv.specs.Items.{Items}
 use Rattle.ttlv.specs.Tree.{isRun, treeOf}
-use Rattle.ttlv.specs.Fields.{ended, bytesOf, numberOf, optional}
+use Rattle.ttlv.specs.Fields.{ended, bytesOf, numberOf}
 use Rattle.ttlv.specs.Found.{startsAt, bytesAt}
 use Rattle.ttlv.specs.declared.BytesField.{BytesField}
 use Rattle.ttlv.specs.declared.BytesField.the-variants.{Span, NoSpan}

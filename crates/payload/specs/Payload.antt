@@ -1,9 +1,9 @@
 -- 01, "Operations": each payload's shape and allowed values. "A payload holds what its line names, in that order, and nothing else."
 -- Assumes nothing. "One of wrong shape or with a value not allowed here fails with Invalid Field."
 use Prim.Native.Nat.{ℕ, _^_}
-use mathlib.Core.Bool.{Bool, true, false, _&&_}
+use mathlib.Core.Bool.{Bool, _&&_}
 use mathlib.Core.Option.{Option, none, some}
-use mathlib.Core.List.{List, [], _∷_}
+use mathlib.Core.List.{List}
 use lib.Dec.{leb, ltb, eqb}
 use Rattle.octets.specs.If.{ifb}
 use Rattle.octets.specs.Maybe.{_>>=_, _>>_}

@@ -2,26 +2,25 @@
 -- Assumes nothing.
 use mathlib.Core.Path.{_≡_, refl, sym, ap, _∙_}
 use mathlib.Core.Bool.{true}
-use Prim.Native.Nat.{ℕ, zero, suc, _+_, _-_, _%_, _/_, _^_, _≤_, _<_}
+use Prim.Native.Nat.{ℕ, suc, _+_, _-_, _%_, _/_, _≤_, _<_}
 use native.Mathlib.Omega.{arith}
-use mathlib.Core.List.{List, [], _∷_, _++_, append-assoc}
+use mathlib.Core.List.{List, _++_}
 use lib.ListN.{length, take, drop, length-append}
 use lib.Seq.{take-at, drop-at}
-use Rattle.octets.specs.Octets.{be, part, over, Bytes}
+use Rattle.octets.specs.Octets.{part, Bytes}
 use Rattle.octets.proofs.Numbers.{bytes-take, bytes-drop}
 use Rattle.octets.proofs.Stores.{length-part}
-use Rattle.ttlv.specs.Types.{structure, tagLead, padded, lengthOk, valueOk}
+use Rattle.ttlv.specs.Types.{structure, tagLead}
 use Rattle.ttlv.specs.Items.{Items, nil, value, group, head, encode, wellFormed}
 use Rattle.ttlv.specs.Parse.{firstOf, depthMost}
 use Rattle.ttlv.specs.Tree.{isRun, treeOf}
-use Rattle.ttlv.specs.declared.First.{First}
-use Rattle.ttlv.specs.declared.First.the-variants.{End, Bad, Value, Group}
+use Rattle.ttlv.specs.declared.First.the-variants.{End, Value, Group}
 use Rattle.ttlv.proofs.Spells.{parse-spells}
 use Rattle.ttlv.proofs.Well.{parse-well}
 use Rattle.ttlv.proofs.Back.{parse-back}
 use Rattle.ttlv.proofs.Fine.{FineValue, FineGroup, well-value, value-well, well-group, group-well}
 use Rattle.ttlv.proofs.Tree.{Tree, t-end, t-value, tree, run-parse, parse-run, tree-value, tree-group, group-rest, body-run}
-use Rattle.ttlv_write.specs.Write.{tagOf, item, join, WroteValue, WroteHead, Holds}
+use Rattle.ttlv_write.specs.Write.{tagOf, join, WroteValue, WroteHead, Holds}
 use Rattle.ttlv.proofs.Sizes.{length-head}
 use Rattle.ttlv_write.proofs.Sizes.{length-value, encode-value, encode-join}
 use Rattle.ttlv_write.proofs.Holds.{holds-value, holds-head}

@@ -1,7 +1,7 @@
 -- Which writer a type has, and that a number written from the value that was read is that value.
 -- Assumes nothing.
-use mathlib.Core.Path.{_≡_, refl, sym, ap, _∙_}
-use mathlib.Core.Bool.{Bool, true, false, _&&_, true≢false}
+use mathlib.Core.Path.{_≡_, sym, _∙_}
+use mathlib.Core.Bool.{true, false, true≢false}
 use mathlib.Core.Logic.{_⊎_, inl, inr, ⊎-elim}
 use Prim.Native.Nat.{ℕ, _+_, _^_, _≤_, _<_}
 use native.Mathlib.Omega.{arith}
@@ -16,7 +16,7 @@ use Rattle.octets.proofs.If.{ifb-true, ifb-false, on-bool}
 use Rattle.octets.proofs.Numbers.{be-fromBe}
 use Rattle.ttlv.specs.Types.{structure, integer, longInteger, bigInteger, enumeration, boolean, textString, byteString, dateTime, interval, dateTimeExtended, padded, isWord, isLong, lengthOk, valueOk, text}
 use Rattle.ttlv.specs.Items.{encode}
-use Rattle.ttlv_write.specs.Write.{item, bit, spelled, fits, valueFits, Wrote, WroteNumber, WroteValue}
+use Rattle.ttlv_write.specs.Write.{item, bit, spelled, fits, Wrote, WroteNumber, WroteValue}
 
 -- ---- what is left when the others are ruled out
 

@@ -1,6 +1,6 @@
 -- Ordered tests: something fails with the reason of the first condition that holds, and succeeds if none does.
 -- Assumes nothing.
-use mathlib.Core.Bool.{Bool, true, false}
+use mathlib.Core.Bool.{Bool}
 use mathlib.Core.Option.{Option, none, some}
 use mathlib.Core.List.{List, [], _∷_}
 use Rattle.octets.specs.If.{ifb}

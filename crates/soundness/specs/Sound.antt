@@ -1,7 +1,7 @@
 -- 01, "Sound": an ordered, numbered list of rules, each of the whole table or at a place. A table is sound if none breaks.
 -- Assumes nothing. Place rules are looked at where the whole-table rules hold; a free place answers to the free-place rule alone.
-use Prim.Native.Nat.{ℕ, zero, suc, _+_, _/_}
-use mathlib.Core.Bool.{Bool, true, false, not, _&&_, _||_}
+use Prim.Native.Nat.{ℕ, suc, _+_, _/_}
+use mathlib.Core.Bool.{Bool, true, not, _&&_, _||_}
 use mathlib.Core.Option.{Option, none, some}
 use mathlib.Core.List.{List, [], _∷_}
 use lib.ListN.{length, drop}

@@ -1,8 +1,8 @@
 -- 01, "The stored table": what a place holds, a record stored, the lead, the blank table. Numbers are big-endian.
 -- Assumes nothing.
-use Prim.Native.Nat.{ℕ, _+_, _-_, _*_}
+use Prim.Native.Nat.{ℕ, _+_, _-_}
 use mathlib.Core.Bool.{Bool}
-use mathlib.Core.List.{List, [], _∷_, _++_}
+use mathlib.Core.List.{List, _++_}
 use lib.ListN.{replicate}
 use lib.Seq.{sets}
 use lib.Dec.{eqb}

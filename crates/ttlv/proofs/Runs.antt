@@ -1,19 +1,19 @@
 -- The fields at the front of a run of bytes: what its items say, where a reader found a field and where it found none.
 -- Assumes nothing. The rest of a run is cut off as a slice is: `tail`.
-use mathlib.Core.Path.{_≡_, refl, sym, ap, _∙_}
-use Prim.Native.Nat.{ℕ, _+_, _-_, _≤_}
+use mathlib.Core.Path.{_≡_, sym, ap, _∙_}
+use Prim.Native.Nat.{ℕ, _-_, _≤_}
 use native.Mathlib.Omega.{arith}
-use mathlib.Core.Bool.{Bool, true, false}
+use mathlib.Core.Bool.{true, false}
 use mathlib.Core.Option.{Option, none, some}
 use mathlib.Core.List.{List}
-use lib.ListN.{length, take, drop, length-take, length-drop}
+use lib.ListN.{length, take, drop, length-drop}
 use borrow.Author.Tests.{eq-eqb, ne-eqb}
 use Rattle.octets.specs.Maybe.{_>>=_}
 use Rattle.octets.specs.Octets.{part}
 use Rattle.octets.proofs.If.{ifb-true, ifb-false}
 use Rattle.ttlv.specs.Items.{Items}
 use Rattle.ttlv.specs.Tree.{isRun, treeOf}
-use Rattle.ttlv.specs.Fields.{startsWith, ended, bytesOf, bodyOf, numberOf, optional}
+use Rattle.ttlv.specs.Fields.{ended, bytesOf, bodyOf, numberOf, optional}
 use Rattle.ttlv.specs.Found.{startsAt, bytesAt, numberAt, bodyAt}
 use Rattle.ttlv.specs.declared.BytesField.the-variants.{Span, NoSpan}
 use Rattle.ttlv.specs.declared.NumberField.the-variants.{Number, NoNumber}

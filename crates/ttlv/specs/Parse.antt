@@ -1,14 +1,14 @@
 -- 01, "TTLV": how bytes are read as items. Whatever differs from the rules is malformed: it reads as none.
 -- Assumes nothing.
-use Prim.Native.Nat.{ℕ, zero, suc, _+_, _-_, _*_}
+use Prim.Native.Nat.{ℕ, zero, suc, _+_, _-_}
 use mathlib.Core.Bool.{Bool, true, false, _&&_}
 use mathlib.Core.Option.{Option, none, some}
 use mathlib.Core.List.{List, [], _∷_}
-use lib.ListN.{length, take, drop, getD}
+use lib.ListN.{length, drop, getD}
 use lib.Dec.{leb, eqb}
 use Rattle.octets.specs.If.{ifb}
 use Rattle.octets.specs.Maybe.{_>>=_, _>>_}
-use Rattle.octets.specs.Octets.{fromBe, part, all, allZero}
+use Rattle.octets.specs.Octets.{fromBe, part, allZero}
 use Rattle.ttlv.specs.Types.{structure, tagLead, padded, lengthOk, valueOk}
 use Rattle.ttlv.specs.Items.{Items, nil, value, group}
 use Rattle.ttlv.specs.declared.First.{First}

@@ -1,23 +1,23 @@
 -- How writes compose: an item that fits is in the room, one behind another, and a structure's head in front of its body.
 -- Assumes nothing. The room from n on, lent, is `midOf n (length xs - n) xs`; back in its place it gives `putMid n (length xs - n) xs ys`.
-use mathlib.Core.Path.{_≡_, refl, sym, ap, _∙_}
-use mathlib.Core.Bool.{Bool, true, false, _&&_}
+use mathlib.Core.Path.{_≡_, refl, sym, _∙_}
+use mathlib.Core.Bool.{Bool, true, _&&_}
 use Prim.Native.Nat.{ℕ, _+_, _-_, _%_, _^_, _≤_, _<_}
 use native.Mathlib.Omega.{arith}
 use mathlib.Core.List.{List, [], _++_}
-use lib.ListN.{length, take, drop, length-append, length-take, length-drop}
+use lib.ListN.{length, length-append, length-take, length-drop}
 use borrow.Author.Tests.{le-leb, lt-ltb, eq-eqb}
 use borrow.Rule.Slice.PartMut.{putMid, midOf}
-use Rattle.octets.specs.Octets.{be, over}
+use Rattle.octets.specs.Octets.{over}
 use Rattle.octets.specs.If.{ifb}
 use Rattle.octets.proofs.If.{ifb-true}
-use Rattle.octets.proofs.Over.{length-over, over-front, lent, lent-then, lent-length}
+use Rattle.octets.proofs.Over.{length-over, over-front, lent, lent-then}
 use Rattle.ttlv.specs.Types.{structure, padded, lengthOk}
-use Rattle.ttlv.specs.Items.{Items, nil, value, group, head, encode}
+use Rattle.ttlv.specs.Items.{Items, nil, group, head, encode}
 use Rattle.ttlv.proofs.Back.{eights}
 use Rattle.ttlv_write.specs.Write.{tagOf, item, numberItem, join, spelled, fits, valueFits, Wrote, WroteNumber, WroteValue, WroteHead, Holds}
 use Rattle.ttlv.proofs.Sizes.{length-head}
-use Rattle.ttlv_write.proofs.Sizes.{length-value, length-number, length-group, length-join, encode-join, encode-group}
+use Rattle.ttlv_write.proofs.Sizes.{length-value, length-number, encode-join, encode-group}
 
 -- ---- a write that fits
 

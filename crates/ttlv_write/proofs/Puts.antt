@@ -1,20 +1,19 @@
 -- Puts one behind the other from the front on: what they leave is one run of stores, and an item is such a run.
 -- Assumes nothing.
-use mathlib.Core.Path.{_≡_, refl, sym, ap, _∙_}
+use mathlib.Core.Path.{_≡_, sym, _∙_}
 use Prim.Native.Nat.{ℕ, _+_, _-_, _%_, _≤_, _<_}
 use native.Mathlib.Nat.{zero-add}
 use native.Mathlib.Omega.{arith}
 use mathlib.Core.List.{List, [], _∷_, _++_, append-assoc, append-nil}
-use lib.ListN.{length, replicate, length-append, length-replicate}
+use lib.ListN.{length, length-append}
 use lib.Seq.{sets}
 use mathlib.Core.Bool.{Bool, true, false}
 use Rattle.octets.specs.Octets.{be, over}
-use Rattle.octets.specs.If.{ifb}
 use Rattle.octets.proofs.If.{ifb-true, ifb-false}
 use Rattle.octets.proofs.Numbers.{length-be, be-zero}
 use Rattle.octets.proofs.Stores.{sets-append, sets-over}
 use Rattle.ttlv.specs.Types.{padded}
-use Rattle.ttlv.specs.Items.{Items, nil, value, group, head, padding, encode}
+use Rattle.ttlv.specs.Items.{nil, value, head, encode}
 use Rattle.ttlv.proofs.Sizes.{length-head}
 use Rattle.ttlv_write.proofs.Sizes.{length-value}
 use Rattle.ttlv_write.specs.Write.{item, Wrote, WroteValue}

@@ -1,15 +1,14 @@
 -- A sample of how writes compose: a structure with two Integers, by three calls, with the head first and with the head last.
 -- Assumes nothing. A caller hands in what the three calls ensure.
-use mathlib.Core.Path.{_≡_, refl, sym, ap, _∙_}
+use mathlib.Core.Path.{_≡_, sym, _∙_}
 use Prim.Native.Nat.{ℕ, _+_, _-_, _≤_}
 use native.Mathlib.Omega.{arith}
-use mathlib.Core.List.{List, _++_, append-assoc}
+use mathlib.Core.List.{List, append-assoc}
 use lib.ListN.{length}
 use borrow.Rule.Slice.PartMut.{putMid, midOf}
-use Rattle.octets.specs.Octets.{be}
 use Rattle.octets.proofs.Over.{lent-length}
 use Rattle.ttlv.specs.Types.{structure, integer}
-use Rattle.ttlv.specs.Items.{Items, nil, value, group, head, encode}
+use Rattle.ttlv.specs.Items.{Items, nil, group, encode}
 use Rattle.ttlv_write.specs.Write.{tagOf, numberItem, join, WroteNumber, WroteHead, Holds}
 use Rattle.ttlv.proofs.Sizes.{length-head}
 use Rattle.ttlv_write.proofs.Sizes.{length-join, length-number, encode-join}

@@ -1,21 +1,21 @@
 -- The writers' tests are the right ones: an item is written exactly when it reads back and the room has place for it.
 -- Assumes nothing. A tag's last two bytes are below 65536, which every u16 is.
-use mathlib.Core.Path.{_≡_, refl, sym, ap, _∙_}
+use mathlib.Core.Path.{_≡_, refl, sym, _∙_}
 use mathlib.Core.Bool.{Bool, true, false, not, _&&_, and-assoc, and-true}
 use mathlib.Core.Option.{some}
-use Prim.Native.Nat.{ℕ, suc, _+_, _/_, _%_, _^_, _≤_, _<_}
+use Prim.Native.Nat.{ℕ, suc, _+_, _/_, _^_, _≤_, _<_}
 use native.Mathlib.Omega.{arith}
 use mathlib.Core.List.{List}
 use lib.ListN.{length, take, drop}
 use lib.Seq.{take-at}
-use lib.Dec.{eqb, leb}
+use lib.Dec.{eqb}
 use borrow.Author.Tests.{eq-eqb, lt-ltb}
 use Rattle.octets.specs.If.{ifb}
 use Rattle.octets.specs.Octets.{be, fromBe, fromBeAfter}
 use Rattle.octets.proofs.If.{ifb-false, on-bool}
 use Rattle.octets.proofs.Numbers.{length-be}
 use Rattle.ttlv.specs.Types.{structure, integer, longInteger, bigInteger, enumeration, boolean, textString, byteString, dateTime, interval, dateTimeExtended, padded, lengthOk, valueOk, text}
-use Rattle.ttlv.specs.Items.{Items, nil, value, group, encode, tagOk, itemOk, wellFormed}
+use Rattle.ttlv.specs.Items.{Items, nil, group, encode, tagOk, itemOk, wellFormed}
 use Rattle.ttlv.specs.Parse.{parse}
 use Rattle.ttlv.proofs.Back.{parse-back}
 use Rattle.octets.proofs.Bools.{both}

@@ -10,12 +10,6 @@ use Rattle.act.proofs.Plans.{is-done}
 use borrow.Author.Needs.{needs}
 use Rattle.act.proofs.act_at.Statement.{statement}
 use Rattle.act.proofs.act_at.Tie as tie
-use Rattle.act.proofs.act_at.Reads as reads
-use Rattle.act.proofs.act_at.Lts as lts
-use Rattle.act.proofs.allocate_at.Reads as allocate-at-reads
-use Rattle.act.proofs.move_at.Reads as move-at-reads
-use Rattle.act.proofs.rekey_at.Reads as rekey-at-reads
-use Rattle.act.proofs.show_at.Reads as show-at-reads
 
 enum-told : tie.Need-enum-told
 enum-told c = search needs

@@ -11,12 +11,6 @@ use Rattle.act.proofs.Plans.{about-found, about-none}
 use borrow.Author.Needs.{needs}
 use Rattle.act.proofs.act_on.Statement.{statement}
 use Rattle.act.proofs.act_on.Tie as tie
-use Rattle.act.proofs.act_on.Reads as reads
-use Rattle.act.proofs.act_on.Lts as lts
-use Rattle.act.proofs.act_at.Reads as act-at-reads
-use Rattle.act.proofs.fail.Reads as fail-reads
-use Rattle.act.proofs.sought.Reads as sought-reads
-use Rattle.table.proofs.find.Reads as find-reads
 
 sought-requires : tie.Need-sought-requires
 sought-requires c κs = search needs

@@ -11,13 +11,6 @@ use Rattle.act.proofs.Plans.{onGranted, granted}
 use borrow.Author.Needs.{needs}
 use Rattle.act.proofs.allocate_at.Statement.{statement}
 use Rattle.act.proofs.allocate_at.Tie as tie
-use Rattle.act.proofs.allocate_at.Reads as reads
-use Rattle.act.proofs.allocate_at.Lts as lts
-use Rattle.act.proofs.fail.Reads as fail-reads
-use Rattle.act.proofs.store_at.Reads as store-at-reads
-use Rattle.rules.proofs.grant.Reads as grant-reads
-use Rattle.rules.proofs.with_count.Reads as with-count-reads
-use Rattle.records.proofs.load.Reads as load-reads
 
 load-requires : tie.Need-load-requires
 load-requires c κs = search needs

@@ -17,13 +17,6 @@ use Rattle.act.proofs.Plans.{room-serial, room-place, create-full, crea
 use borrow.Author.Needs.{needs}
 use Rattle.act.proofs.create.Statement.{statement}
 use Rattle.act.proofs.create.Tie as tie
-use Rattle.act.proofs.create.Reads as reads
-use Rattle.act.proofs.create.Lts as lts
-use Rattle.act.proofs.fail.Reads as fail-reads
-use Rattle.act.proofs.put_born.Reads as put-born-reads
-use Rattle.act.proofs.room.Reads as room-reads
-use Rattle.rules.proofs.new_record.Reads as new-record-reads
-use Rattle.table.proofs.last_serial.Reads as last-serial-reads
 
 room-requires : tie.Need-room-requires
 room-requires c κs = search needs

@@ -5,8 +5,6 @@ use Rattle.act.specs.Act.{isFailed}
 use borrow.Author.Needs.{needs}
 use Rattle.act.proofs.is_failed.Statement.{statement}
 use Rattle.act.proofs.is_failed.Tie as tie
-use Rattle.act.proofs.is_failed.Reads as reads
-use Rattle.act.proofs.is_failed.Lts as lts
 
 enum-told : tie.Need-enum-told
 enum-told c = search needs

@@ -9,13 +9,6 @@ use Rattle.act.proofs.Plans.{onNext, moved}
 use borrow.Author.Needs.{needs}
 use Rattle.act.proofs.move_at.Statement.{statement}
 use Rattle.act.proofs.move_at.Tie as tie
-use Rattle.act.proofs.move_at.Reads as reads
-use Rattle.act.proofs.move_at.Lts as lts
-use Rattle.act.proofs.fail.Reads as fail-reads
-use Rattle.act.proofs.store_at.Reads as store-at-reads
-use Rattle.rules.proofs.moved_to.Reads as moved-to-reads
-use Rattle.rules.proofs.next_state.Reads as next-state-reads
-use Rattle.records.proofs.load.Reads as load-reads
 
 load-requires : tie.Need-load-requires
 load-requires c κs = search needs

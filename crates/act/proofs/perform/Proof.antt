@@ -11,11 +11,6 @@ use Rattle.act.proofs.Plans.{refused}
 use borrow.Author.Needs.{needs}
 use Rattle.act.proofs.perform.Statement.{statement}
 use Rattle.act.proofs.perform.Tie as tie
-use Rattle.act.proofs.perform.Reads as reads
-use Rattle.act.proofs.perform.Lts as lts
-use Rattle.act.proofs.act_on.Reads as act-on-reads
-use Rattle.act.proofs.create.Reads as create-reads
-use Rattle.act.proofs.fail.Reads as fail-reads
 
 enum-told : tie.Need-enum-told
 enum-told c = search needs

@@ -8,10 +8,6 @@ use Rattle.rules.specs.Changes.{bornAt}
 use borrow.Author.Needs.{needs}
 use Rattle.act.proofs.put_born.Statement.{statement}
 use Rattle.act.proofs.put_born.Tie as tie
-use Rattle.act.proofs.put_born.Reads as reads
-use Rattle.act.proofs.put_born.Lts as lts
-use Rattle.table.proofs.set_last_serial.Reads as set-last-serial-reads
-use Rattle.records.proofs.store.Reads as store-reads
 
 store-requires : tie.Need-store-requires
 store-requires c κs = search needs

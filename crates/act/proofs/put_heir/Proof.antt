@@ -11,12 +11,6 @@ use Rattle.act.specs.Perform.{linkedAt}
 use borrow.Author.Needs.{needs}
 use Rattle.act.proofs.put_heir.Statement.{statement}
 use Rattle.act.proofs.put_heir.Tie as tie
-use Rattle.act.proofs.put_heir.Reads as reads
-use Rattle.act.proofs.put_heir.Lts as lts
-use Rattle.act.proofs.put_born.Reads as put-born-reads
-use Rattle.rules.proofs.linked_to.Reads as linked-to-reads
-use Rattle.records.proofs.load.Reads as load-reads
-use Rattle.records.proofs.store.Reads as store-reads
 
 load-requires : tie.Need-load-requires
 load-requires c κs = search needs

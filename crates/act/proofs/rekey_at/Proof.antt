@@ -11,12 +11,6 @@ use Rattle.act.proofs.Plans.{rekey-destroyed, rekey-twice, rekey-first}
 use borrow.Author.Needs.{needs}
 use Rattle.act.proofs.rekey_at.Statement.{statement}
 use Rattle.act.proofs.rekey_at.Tie as tie
-use Rattle.act.proofs.rekey_at.Reads as reads
-use Rattle.act.proofs.rekey_at.Lts as lts
-use Rattle.act.proofs.fail.Reads as fail-reads
-use Rattle.act.proofs.replace_at.Reads as replace-at-reads
-use Rattle.table.proofs.is_destroyed.Reads as is-destroyed-reads
-use Rattle.records.proofs.load.Reads as load-reads
 
 load-requires : tie.Need-load-requires
 load-requires c κs = search needs

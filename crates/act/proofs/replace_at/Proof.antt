@@ -17,13 +17,6 @@ use Rattle.act.proofs.Plans.{room-serial, room-place}
 use borrow.Author.Needs.{needs}
 use Rattle.act.proofs.replace_at.Statement.{statement}
 use Rattle.act.proofs.replace_at.Tie as tie
-use Rattle.act.proofs.replace_at.Reads as reads
-use Rattle.act.proofs.replace_at.Lts as lts
-use Rattle.act.proofs.fail.Reads as fail-reads
-use Rattle.act.proofs.put_heir.Reads as put-heir-reads
-use Rattle.act.proofs.room.Reads as room-reads
-use Rattle.rules.proofs.heir_of.Reads as heir-of-reads
-use Rattle.table.proofs.last_serial.Reads as last-serial-reads
 
 room-requires : tie.Need-room-requires
 room-requires c κs = search needs

@@ -5,10 +5,6 @@ use Rattle.act.proofs.Plans.{room-issued, room-left}
 use borrow.Author.Needs.{needs}
 use Rattle.act.proofs.room.Statement.{statement}
 use Rattle.act.proofs.room.Tie as tie
-use Rattle.act.proofs.room.Reads as reads
-use Rattle.act.proofs.room.Lts as lts
-use Rattle.table.proofs.last_serial.Reads as last-serial-reads
-use Rattle.table.proofs.new_place.Reads as new-place-reads
 
 last-serial-requires : tie.Need-last-serial-requires
 last-serial-requires c κs = search needs

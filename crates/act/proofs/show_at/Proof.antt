@@ -6,9 +6,6 @@ use Rattle.act.specs.Perform.{showing}
 use borrow.Author.Needs.{needs}
 use Rattle.act.proofs.show_at.Statement.{statement}
 use Rattle.act.proofs.show_at.Tie as tie
-use Rattle.act.proofs.show_at.Reads as reads
-use Rattle.act.proofs.show_at.Lts as lts
-use Rattle.records.proofs.load.Reads as load-reads
 
 load-requires : tie.Need-load-requires
 load-requires c κs = search needs

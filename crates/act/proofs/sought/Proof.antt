@@ -5,8 +5,6 @@ use Rattle.act.specs.Act.{sought}
 use borrow.Author.Needs.{needs}
 use Rattle.act.proofs.sought.Statement.{statement}
 use Rattle.act.proofs.sought.Tie as tie
-use Rattle.act.proofs.sought.Reads as reads
-use Rattle.act.proofs.sought.Lts as lts
 
 enum-told : tie.Need-enum-told
 enum-told c = search needs

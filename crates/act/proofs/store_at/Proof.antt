@@ -7,9 +7,6 @@ use Rattle.act.specs.declared.Outcome.the-variants.{Done}
 use borrow.Author.Needs.{needs}
 use Rattle.act.proofs.store_at.Statement.{statement}
 use Rattle.act.proofs.store_at.Tie as tie
-use Rattle.act.proofs.store_at.Reads as reads
-use Rattle.act.proofs.store_at.Lts as lts
-use Rattle.records.proofs.store.Reads as store-reads
 
 store-requires : tie.Need-store-requires
 store-requires c κs = search needs

@@ -9,10 +9,6 @@ use Rattle.answer_write.proofs.Compose.{puts-word, then-word}
 use borrow.Author.Needs.{needs}
 use Rattle.answer_write.proofs.write_always.Statement.{statement}
 use Rattle.answer_write.proofs.write_always.Tie as tie
-use Rattle.answer_write.proofs.write_always.Reads as reads
-use Rattle.answer_write.proofs.write_always.Lts as lts
-use Rattle.ttlv_write.proofs.write_enumeration.Reads as write-enumeration-reads
-use Rattle.ttlv_write.proofs.write_integer.Reads as write-integer-reads
 
 write-enumeration-requires : tie.Need-write-enumeration-requires
 write-enumeration-requires c κs = search needs

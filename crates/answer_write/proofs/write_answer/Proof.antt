@@ -5,10 +5,6 @@ use Rattle.answer_write.proofs.Compose.{puts-group}
 use borrow.Author.Needs.{needs}
 use Rattle.answer_write.proofs.write_answer.Statement.{statement}
 use Rattle.answer_write.proofs.write_answer.Tie as tie
-use Rattle.answer_write.proofs.write_answer.Reads as reads
-use Rattle.answer_write.proofs.write_answer.Lts as lts
-use Rattle.answer_write.proofs.write_answer_items.Reads as write-answer-items-reads
-use Rattle.ttlv_write.proofs.write_structure.Reads as write-structure-reads
 
 sub-write-answer-items : tie.Need-sub-write-answer-items
 sub-write-answer-items c = search needs

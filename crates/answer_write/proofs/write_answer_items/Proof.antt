@@ -11,11 +11,6 @@ use Rattle.answer_write.proofs.Parts.{id-join}
 use borrow.Author.Needs.{needs}
 use Rattle.answer_write.proofs.write_answer_items.Statement.{statement}
 use Rattle.answer_write.proofs.write_answer_items.Tie as tie
-use Rattle.answer_write.proofs.write_answer_items.Reads as reads
-use Rattle.answer_write.proofs.write_answer_items.Lts as lts
-use Rattle.answer_write.proofs.write_id.Reads as write-id-reads
-use Rattle.answer_write.proofs.write_outcome.Reads as write-outcome-reads
-use Rattle.ttlv_write.proofs.write_enumeration.Reads as write-enumeration-reads
 
 write-enumeration-requires : tie.Need-write-enumeration-requires
 write-enumeration-requires c κs = search needs

@@ -9,11 +9,6 @@ use Rattle.answer_write.proofs.Parts.{limit-join}
 use borrow.Author.Needs.{needs}
 use Rattle.answer_write.proofs.write_attribute_items.Statement.{statement}
 use Rattle.answer_write.proofs.write_attribute_items.Tie as tie
-use Rattle.answer_write.proofs.write_attribute_items.Reads as reads
-use Rattle.answer_write.proofs.write_attribute_items.Lts as lts
-use Rattle.answer_write.proofs.write_always.Reads as write-always-reads
-use Rattle.answer_write.proofs.write_limits.Reads as write-limits-reads
-use Rattle.answer_write.proofs.write_links.Reads as write-links-reads
 
 cast-write-always : tie.Need-cast-write-always
 cast-write-always c = search needs

@@ -5,10 +5,6 @@ use Rattle.answer_write.proofs.Compose.{puts-group}
 use borrow.Author.Needs.{needs}
 use Rattle.answer_write.proofs.write_attributes.Statement.{statement}
 use Rattle.answer_write.proofs.write_attributes.Tie as tie
-use Rattle.answer_write.proofs.write_attributes.Reads as reads
-use Rattle.answer_write.proofs.write_attributes.Lts as lts
-use Rattle.answer_write.proofs.write_attribute_items.Reads as write-attribute-items-reads
-use Rattle.ttlv_write.proofs.write_structure.Reads as write-structure-reads
 
 sub-write-attribute-items : tie.Need-sub-write-attribute-items
 sub-write-attribute-items c = search needs

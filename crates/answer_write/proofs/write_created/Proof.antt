@@ -8,10 +8,6 @@ use Rattle.answer_write.proofs.Compose.{puts-word, puts-then}
 use borrow.Author.Needs.{needs}
 use Rattle.answer_write.proofs.write_created.Statement.{statement}
 use Rattle.answer_write.proofs.write_created.Tie as tie
-use Rattle.answer_write.proofs.write_created.Reads as reads
-use Rattle.answer_write.proofs.write_created.Lts as lts
-use Rattle.answer_write.proofs.write_named.Reads as write-named-reads
-use Rattle.ttlv_write.proofs.write_enumeration.Reads as write-enumeration-reads
 
 write-enumeration-requires : tie.Need-write-enumeration-requires
 write-enumeration-requires c κs = search needs

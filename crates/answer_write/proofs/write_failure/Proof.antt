@@ -11,10 +11,6 @@ use Rattle.answer_write.proofs.Compose.{puts-word, then-word}
 use borrow.Author.Needs.{needs}
 use Rattle.answer_write.proofs.write_failure.Statement.{statement}
 use Rattle.answer_write.proofs.write_failure.Tie as tie
-use Rattle.answer_write.proofs.write_failure.Reads as reads
-use Rattle.answer_write.proofs.write_failure.Lts as lts
-use Rattle.rules.proofs.reason_number.Reads as reason-number-reads
-use Rattle.ttlv_write.proofs.write_enumeration.Reads as write-enumeration-reads
 
 write-enumeration-requires : tie.Need-write-enumeration-requires
 write-enumeration-requires c κs = search needs

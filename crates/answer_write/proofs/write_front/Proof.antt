@@ -8,10 +8,6 @@ use Rattle.answer_write.proofs.Compose.{holds-structure}
 use borrow.Author.Needs.{needs}
 use Rattle.answer_write.proofs.write_front.Statement.{statement}
 use Rattle.answer_write.proofs.write_front.Tie as tie
-use Rattle.answer_write.proofs.write_front.Reads as reads
-use Rattle.answer_write.proofs.write_front.Lts as lts
-use Rattle.answer_write.proofs.write_header.Reads as write-header-reads
-use Rattle.ttlv_write.proofs.write_structure.Reads as write-structure-reads
 
 add-write-structure : tie.Need-add-write-structure
 add-write-structure c = search needs

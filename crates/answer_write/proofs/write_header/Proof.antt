@@ -5,10 +5,6 @@ use Rattle.answer_write.proofs.Compose.{puts-group}
 use borrow.Author.Needs.{needs}
 use Rattle.answer_write.proofs.write_header.Statement.{statement}
 use Rattle.answer_write.proofs.write_header.Tie as tie
-use Rattle.answer_write.proofs.write_header.Reads as reads
-use Rattle.answer_write.proofs.write_header.Lts as lts
-use Rattle.answer_write.proofs.write_header_items.Reads as write-header-items-reads
-use Rattle.ttlv_write.proofs.write_structure.Reads as write-structure-reads
 
 sub-write-header-items : tie.Need-sub-write-header-items
 sub-write-header-items c = search needs

@@ -10,11 +10,6 @@ use Rattle.answer_write.proofs.Compose.{then-long, then-word}
 use borrow.Author.Needs.{needs}
 use Rattle.answer_write.proofs.write_header_items.Statement.{statement}
 use Rattle.answer_write.proofs.write_header_items.Tie as tie
-use Rattle.answer_write.proofs.write_header_items.Reads as reads
-use Rattle.answer_write.proofs.write_header_items.Lts as lts
-use Rattle.answer_write.proofs.write_version.Reads as write-version-reads
-use Rattle.ttlv_write.proofs.write_date_time.Reads as write-date-time-reads
-use Rattle.ttlv_write.proofs.write_integer.Reads as write-integer-reads
 
 write-version-requires : tie.Need-write-version-requires
 write-version-requires c κs = search needs

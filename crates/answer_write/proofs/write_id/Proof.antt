@@ -7,9 +7,6 @@ use Rattle.answer_write.proofs.Parts.{puts-no-id, puts-id}
 use borrow.Author.Needs.{needs}
 use Rattle.answer_write.proofs.write_id.Statement.{statement}
 use Rattle.answer_write.proofs.write_id.Tie as tie
-use Rattle.answer_write.proofs.write_id.Reads as reads
-use Rattle.answer_write.proofs.write_id.Lts as lts
-use Rattle.ttlv_write.proofs.write_bytes.Reads as write-bytes-reads
 
 returns : tie.Need-returns
 returns c =

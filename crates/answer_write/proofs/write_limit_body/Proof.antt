@@ -8,10 +8,6 @@ use Rattle.answer_write.proofs.Compose.{puts-long, then-long, then-word
 use borrow.Author.Needs.{needs}
 use Rattle.answer_write.proofs.write_limit_body.Statement.{statement}
 use Rattle.answer_write.proofs.write_limit_body.Tie as tie
-use Rattle.answer_write.proofs.write_limit_body.Reads as reads
-use Rattle.answer_write.proofs.write_limit_body.Lts as lts
-use Rattle.ttlv_write.proofs.write_enumeration.Reads as write-enumeration-reads
-use Rattle.ttlv_write.proofs.write_long.Reads as write-long-reads
 
 write-long-requires : tie.Need-write-long-requires
 write-long-requires c κs = search needs

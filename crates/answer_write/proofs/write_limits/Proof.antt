@@ -7,10 +7,6 @@ use Rattle.answer_write.proofs.Compose.{puts-absent, puts-present, puts
 use borrow.Author.Needs.{needs}
 use Rattle.answer_write.proofs.write_limits.Statement.{statement}
 use Rattle.answer_write.proofs.write_limits.Tie as tie
-use Rattle.answer_write.proofs.write_limits.Reads as reads
-use Rattle.answer_write.proofs.write_limits.Lts as lts
-use Rattle.answer_write.proofs.write_limit_body.Reads as write-limit-body-reads
-use Rattle.ttlv_write.proofs.write_structure.Reads as write-structure-reads
 
 returns : tie.Need-returns
 unfolding limitItems

@@ -7,10 +7,6 @@ use Rattle.answer_write.proofs.Compose.{puts-absent, puts-present, puts
 use borrow.Author.Needs.{needs}
 use Rattle.answer_write.proofs.write_link.Statement.{statement}
 use Rattle.answer_write.proofs.write_link.Tie as tie
-use Rattle.answer_write.proofs.write_link.Reads as reads
-use Rattle.answer_write.proofs.write_link.Lts as lts
-use Rattle.answer_write.proofs.write_link_body.Reads as write-link-body-reads
-use Rattle.ttlv_write.proofs.write_structure.Reads as write-structure-reads
 
 returns : tie.Need-returns
 unfolding linkItems

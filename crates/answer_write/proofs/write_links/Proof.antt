@@ -8,9 +8,6 @@ use Rattle.answer_write.proofs.Parts.{link-join}
 use borrow.Author.Needs.{needs}
 use Rattle.answer_write.proofs.write_links.Statement.{statement}
 use Rattle.answer_write.proofs.write_links.Tie as tie
-use Rattle.answer_write.proofs.write_links.Reads as reads
-use Rattle.answer_write.proofs.write_links.Lts as lts
-use Rattle.answer_write.proofs.write_link.Reads as write-link-reads
 
 write-link-requires : tie.Need-write-link-requires
 write-link-requires c κs = search needs

@@ -5,10 +5,6 @@ use Rattle.answer_write.proofs.Parts.{puts-named}
 use borrow.Author.Needs.{needs}
 use Rattle.answer_write.proofs.write_named.Statement.{statement}
 use Rattle.answer_write.proofs.write_named.Tie as tie
-use Rattle.answer_write.proofs.write_named.Reads as reads
-use Rattle.answer_write.proofs.write_named.Lts as lts
-use Rattle.identifier.proofs.text_of.Reads as text-of-reads
-use Rattle.ttlv_write.proofs.write_text.Reads as write-text-reads
 
 text-of-requires : tie.Need-text-of-requires
 text-of-requires c κs = search needs

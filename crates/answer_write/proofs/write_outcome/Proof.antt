@@ -7,13 +7,6 @@ use Rattle.answer_write.proofs.Parts.{puts-outcome}
 use borrow.Author.Needs.{needs}
 use Rattle.answer_write.proofs.write_outcome.Statement.{statement}
 use Rattle.answer_write.proofs.write_outcome.Tie as tie
-use Rattle.answer_write.proofs.write_outcome.Reads as reads
-use Rattle.answer_write.proofs.write_outcome.Lts as lts
-use Rattle.answer_write.proofs.write_created.Reads as write-created-reads
-use Rattle.answer_write.proofs.write_failure.Reads as write-failure-reads
-use Rattle.answer_write.proofs.write_named.Reads as write-named-reads
-use Rattle.answer_write.proofs.write_showed.Reads as write-showed-reads
-use Rattle.answer_write.proofs.write_success.Reads as write-success-reads
 
 enum-known-outcome : tie.Need-enum-known-outcome
 enum-known-outcome c = search needs

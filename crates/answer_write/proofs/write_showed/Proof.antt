@@ -5,10 +5,6 @@ use Rattle.answer_write.proofs.Compose.{puts-then}
 use borrow.Author.Needs.{needs}
 use Rattle.answer_write.proofs.write_showed.Statement.{statement}
 use Rattle.answer_write.proofs.write_showed.Tie as tie
-use Rattle.answer_write.proofs.write_showed.Reads as reads
-use Rattle.answer_write.proofs.write_showed.Lts as lts
-use Rattle.answer_write.proofs.write_attributes.Reads as write-attributes-reads
-use Rattle.answer_write.proofs.write_named.Reads as write-named-reads
 
 write-named-requires : tie.Need-write-named-requires
 write-named-requires c κs = search needs

@@ -10,10 +10,6 @@ use Rattle.answer_write.proofs.Compose.{puts-word, holds-structure}
 use borrow.Author.Needs.{needs}
 use Rattle.answer_write.proofs.write_success.Statement.{statement}
 use Rattle.answer_write.proofs.write_success.Tie as tie
-use Rattle.answer_write.proofs.write_success.Reads as reads
-use Rattle.answer_write.proofs.write_success.Lts as lts
-use Rattle.ttlv_write.proofs.write_enumeration.Reads as write-enumeration-reads
-use Rattle.ttlv_write.proofs.write_structure.Reads as write-structure-reads
 
 write-enumeration-requires : tie.Need-write-enumeration-requires
 write-enumeration-requires c κs = search needs

@@ -6,10 +6,6 @@ use Rattle.answer_write.proofs.Compose.{puts-group}
 use borrow.Author.Needs.{needs}
 use Rattle.answer_write.proofs.write_version.Statement.{statement}
 use Rattle.answer_write.proofs.write_version.Tie as tie
-use Rattle.answer_write.proofs.write_version.Reads as reads
-use Rattle.answer_write.proofs.write_version.Lts as lts
-use Rattle.answer_write.proofs.write_version_body.Reads as write-version-body-reads
-use Rattle.ttlv_write.proofs.write_structure.Reads as write-structure-reads
 
 sub-write-version-body : tie.Need-sub-write-version-body
 sub-write-version-body c = search needs

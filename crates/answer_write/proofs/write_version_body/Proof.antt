@@ -8,9 +8,6 @@ use Rattle.answer_write.proofs.Compose.{puts-word, then-word}
 use borrow.Author.Needs.{needs}
 use Rattle.answer_write.proofs.write_version_body.Statement.{statement}
 use Rattle.answer_write.proofs.write_version_body.Tie as tie
-use Rattle.answer_write.proofs.write_version_body.Reads as reads
-use Rattle.answer_write.proofs.write_version_body.Lts as lts
-use Rattle.ttlv_write.proofs.write_integer.Reads as write-integer-reads
 
 write-integer-requires : tie.Need-write-integer-requires
 write-integer-requires c κs = search needs

@@ -1,14 +1,12 @@
 -- `benchlib::fill_strip`. Safe and ending.
 -- Assumes nothing.
-use Prim.Native.Nat.{ℕ, _-_, _≤_}
+use Prim.Native.Nat.{_-_, _≤_}
 use mathlib.Core.Path.{_≡_}
 use lib.ListN.{length, length-set}
 use native.Mathlib.Omega.{arith}
 use borrow.Author.Needs.{needs}
 use Rattle.benchlib.proofs.fill_strip.Statement.{statement}
 use Rattle.benchlib.proofs.fill_strip.Tie as tie
-use Rattle.benchlib.proofs.fill_strip.Reads as reads
-use Rattle.benchlib.proofs.fill_strip.Lts as lts
 
 abbrev Inv-loop : tie.InvT-loop
 Inv-loop s₀ i₀ s i = (length s ≡ length s₀) × (i ≤ length s)

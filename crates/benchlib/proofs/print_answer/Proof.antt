@@ -6,11 +6,6 @@ use lib.Seq.{length-take-le}
 use borrow.Author.Needs.{needs}
 use Rattle.benchlib.proofs.print_answer.Statement.{statement}
 use Rattle.benchlib.proofs.print_answer.Tie as tie
-use Rattle.benchlib.proofs.print_answer.Reads as reads
-use Rattle.benchlib.proofs.print_answer.Lts as lts
-use Rattle.benchlib.proofs.print_bytes.Reads as print-bytes-reads
-use Rattle.io.proofs.print_decimal.Reads as print-decimal-reads
-use Rattle.io.proofs.write_all.Reads as write-all-reads
 
 slice-aggregate-print-bytes : tie.Need-slice-aggregate-print-bytes
 slice-aggregate-print-bytes c = sym (length-take-le _ _ (omega arith))

@@ -6,10 +6,6 @@ use lib.ListN.{length}
 use borrow.Author.Needs.{needs}
 use Rattle.benchlib.proofs.print_bytes.Statement.{statement}
 use Rattle.benchlib.proofs.print_bytes.Tie as tie
-use Rattle.benchlib.proofs.print_bytes.Reads as reads
-use Rattle.benchlib.proofs.print_bytes.Lts as lts
-use Rattle.benchlib.proofs.print_byte.Reads as print-byte-reads
-use Rattle.io.proofs.write_all.Reads as write-all-reads
 
 abbrev Inv-loop : tie.InvT-loop
 Inv-loop s i₀ t3 i-end i = (i-end ≡ length s) × (i ≤ i-end)

@@ -1,18 +1,11 @@
 -- `cards_ttlv::card`. The parts are within.
 -- Assumes nothing.
-use mathlib.Core.Path.{_≡_, sym}
+use mathlib.Core.Path.{sym}
 use native.Mathlib.Omega.{arith}
-use lib.ListN.{length, length-take, length-drop}
 use lib.Seq.{length-take-le}
 use borrow.Author.Needs.{needs}
 use Rattle.cards_ttlv.proofs.card.Statement.{statement}
 use Rattle.cards_ttlv.proofs.card.Tie as tie
-use Rattle.cards_ttlv.proofs.card.Reads as reads
-use Rattle.cards_ttlv.proofs.card.Lts as lts
-use Rattle.cards_ttlv.proofs.find.Reads as find-reads
-use Rattle.cards_ttlv.proofs.unhex.Reads as unhex-reads
-use Rattle.cards_ttlv.proofs.verdict.Reads as verdict-reads
-use Rattle.io.proofs.write_all.Reads as write-all-reads
 
 find-requires : tie.Need-find-requires
 find-requires c κs = search needs

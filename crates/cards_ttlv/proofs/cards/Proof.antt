@@ -8,10 +8,6 @@ use lib.Seq.{length-take-le}
 use borrow.Author.Needs.{needs}
 use Rattle.cards_ttlv.proofs.cards.Statement.{statement}
 use Rattle.cards_ttlv.proofs.cards.Tie as tie
-use Rattle.cards_ttlv.proofs.cards.Reads as reads
-use Rattle.cards_ttlv.proofs.cards.Lts as lts
-use Rattle.cards_ttlv.proofs.card.Reads as card-reads
-use Rattle.cards_ttlv.proofs.find.Reads as find-reads
 
 abbrev Inv-loop : tie.InvT-loop
 Inv-loop text t₀ t = length t ≤ length text

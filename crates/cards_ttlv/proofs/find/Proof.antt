@@ -1,13 +1,10 @@
 -- `cards_ttlv::find`. Every place passed is within.
 -- Assumes nothing.
 use Prim.Native.Nat.{_≤_, _-_}
-use mathlib.Core.Path.{_≡_}
 use lib.ListN.{length}
 use borrow.Author.Needs.{needs}
 use Rattle.cards_ttlv.proofs.find.Statement.{statement}
 use Rattle.cards_ttlv.proofs.find.Tie as tie
-use Rattle.cards_ttlv.proofs.find.Reads as reads
-use Rattle.cards_ttlv.proofs.find.Lts as lts
 
 abbrev Inv-loop : tie.InvT-loop
 Inv-loop s b i₀ i = i ≤ length s

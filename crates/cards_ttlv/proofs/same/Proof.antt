@@ -6,8 +6,6 @@ use lib.ListN.{length}
 use borrow.Author.Needs.{needs}
 use Rattle.cards_ttlv.proofs.same.Statement.{statement}
 use Rattle.cards_ttlv.proofs.same.Tie as tie
-use Rattle.cards_ttlv.proofs.same.Reads as reads
-use Rattle.cards_ttlv.proofs.same.Lts as lts
 
 abbrev Inv-loop : tie.InvT-loop
 Inv-loop a b i₀ i = (length a ≡ length b) × (i ≤ length a)

@@ -7,9 +7,6 @@ use lib.ListN.{length, length-set}
 use borrow.Author.Needs.{needs}
 use Rattle.cards_ttlv.proofs.unhex.Statement.{statement}
 use Rattle.cards_ttlv.proofs.unhex.Tie as tie
-use Rattle.cards_ttlv.proofs.unhex.Reads as reads
-use Rattle.cards_ttlv.proofs.unhex.Lts as lts
-use Rattle.cards_ttlv.proofs.pair.Reads as pair-reads
 
 abbrev Inv-loop : tie.InvT-loop
 Inv-loop s out₀ n₀ out n = (length out ≡ length out₀) × (n ≤ length out)

@@ -1,18 +1,11 @@
 -- `cards_ttlv::verdict`. What is answered is within the room.
 -- Assumes nothing.
-use mathlib.Core.Path.{_≡_, sym}
+use mathlib.Core.Path.{sym}
 use native.Mathlib.Omega.{arith}
-use lib.ListN.{length, length-take, length-drop}
 use lib.Seq.{length-take-le}
 use borrow.Author.Needs.{needs}
 use Rattle.cards_ttlv.proofs.verdict.Statement.{statement}
 use Rattle.cards_ttlv.proofs.verdict.Tie as tie
-use Rattle.cards_ttlv.proofs.verdict.Reads as reads
-use Rattle.cards_ttlv.proofs.verdict.Lts as lts
-use Rattle.cards_ttlv.proofs.same.Reads as same-reads
-use Rattle.io.proofs.write_all.Reads as write-all-reads
-use Rattle.rewrite.proofs.rewrite.Reads as rewrite-reads
-use Rattle.ttlv.proofs.is_message.Reads as is-message-reads
 
 is-message-requires : tie.Need-is-message-requires
 is-message-requires c κs = search needs

@@ -6,18 +6,6 @@ use lib.Seq.{length-take-le}
 use borrow.Author.Needs.{needs}
 use Rattle.cardslib.proofs.carry_out.Statement.{statement}
 use Rattle.cardslib.proofs.carry_out.Tie as tie
-use Rattle.cardslib.proofs.carry_out.Reads as reads
-use Rattle.cardslib.proofs.carry_out.Lts as lts
-use Rattle.cardslib.proofs.blank.Reads as blank-reads
-use Rattle.cardslib.proofs.ended.Reads as ended-reads
-use Rattle.cardslib.proofs.lend.Reads as lend-reads
-use Rattle.cardslib.proofs.put.Reads as put-reads
-use Rattle.cardslib.proofs.read.find.Reads as find-reads
-use Rattle.cardslib.proofs.read.past.Reads as past-reads
-use Rattle.cardslib.proofs.request.Reads as request-reads
-use Rattle.cardslib.proofs.set_clock.Reads as set-clock-reads
-use Rattle.cardslib.proofs.show.Reads as show-reads
-use Rattle.cardslib.proofs.verb_of.Reads as verb-of-reads
 
 find-requires : tie.Need-find-requires
 find-requires c κs = search needs

@@ -7,9 +7,6 @@ use lib.ListN.{length, length-set}
 use borrow.Author.Needs.{needs}
 use Rattle.cardslib.proofs.fill.Statement.{statement}
 use Rattle.cardslib.proofs.fill.Tie as tie
-use Rattle.cardslib.proofs.fill.Reads as reads
-use Rattle.cardslib.proofs.fill.Lts as lts
-use Rattle.cardslib.proofs.first_byte.Reads as first-byte-reads
 
 abbrev Inv-loop : tie.InvT-loop
 Inv-loop s₀ buffer i₀ s i = (length s ≡ length s₀) × (i ≤ length s)

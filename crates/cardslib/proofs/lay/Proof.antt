@@ -7,8 +7,6 @@ use lib.ListN.{length, length-set}
 use borrow.Author.Needs.{needs}
 use Rattle.cardslib.proofs.lay.Statement.{statement}
 use Rattle.cardslib.proofs.lay.Tie as tie
-use Rattle.cardslib.proofs.lay.Reads as reads
-use Rattle.cardslib.proofs.lay.Lts as lts
 
 abbrev Inv-loop : tie.InvT-loop
 Inv-loop s t₀ i₀ t i = (length t ≡ length t₀) × (i ≤ length t)

@@ -6,12 +6,6 @@ use lib.Seq.{length-take-le}
 use borrow.Author.Needs.{needs}
 use Rattle.cardslib.proofs.put.Statement.{statement}
 use Rattle.cardslib.proofs.put.Tie as tie
-use Rattle.cardslib.proofs.put.Reads as reads
-use Rattle.cardslib.proofs.put.Lts as lts
-use Rattle.cardslib.proofs.lay.Reads as lay-reads
-use Rattle.cardslib.proofs.read.bytes_in.Reads as bytes-in-reads
-use Rattle.cardslib.proofs.read.find.Reads as find-reads
-use Rattle.cardslib.proofs.read.number_in.Reads as number-in-reads
 
 find-requires : tie.Need-find-requires
 find-requires c κs = search needs

@@ -6,13 +6,6 @@ use lib.Seq.{length-take-le}
 use borrow.Author.Needs.{needs}
 use Rattle.cardslib.proofs.request.Statement.{statement}
 use Rattle.cardslib.proofs.request.Tie as tie
-use Rattle.cardslib.proofs.request.Reads as reads
-use Rattle.cardslib.proofs.request.Lts as lts
-use Rattle.cardslib.proofs.answer.Reads as answer-reads
-use Rattle.cardslib.proofs.print.name.Reads as name-reads
-use Rattle.cardslib.proofs.read.bytes_in.Reads as bytes-in-reads
-use Rattle.cardslib.proofs.read.name_end.Reads as name-end-reads
-use Rattle.cardslib.proofs.read.past.Reads as past-reads
 
 name-end-requires : tie.Need-name-end-requires
 name-end-requires c κs = search needs

@@ -7,12 +7,6 @@ use lib.Seq.{length-take-le}
 use borrow.Author.Needs.{needs}
 use Rattle.cardslib.proofs.script.Statement.{statement}
 use Rattle.cardslib.proofs.script.Tie as tie
-use Rattle.cardslib.proofs.script.Reads as reads
-use Rattle.cardslib.proofs.script.Lts as lts
-use Rattle.cardslib.proofs.one_line.Reads as one-line-reads
-use Rattle.cardslib.proofs.read.find.Reads as find-reads
-use Rattle.cardslib.proofs.read.past.Reads as past-reads
-use Rattle.cardslib.proofs.usual.Reads as usual-reads
 
 abbrev Inv-loop : tie.InvT-loop
 Inv-loop text table₀ strip out₀ s₀ left₀ table out s left = (length table ≡ length table₀) × (length out ≡ length out₀)

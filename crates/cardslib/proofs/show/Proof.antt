@@ -6,13 +6,6 @@ use lib.Seq.{length-take-le}
 use borrow.Author.Needs.{needs}
 use Rattle.cardslib.proofs.show.Statement.{statement}
 use Rattle.cardslib.proofs.show.Tie as tie
-use Rattle.cardslib.proofs.show.Reads as reads
-use Rattle.cardslib.proofs.show.Lts as lts
-use Rattle.cardslib.proofs.print.bytes.Reads as bytes-reads
-use Rattle.cardslib.proofs.print.name.Reads as name-reads
-use Rattle.cardslib.proofs.read.name_end.Reads as name-end-reads
-use Rattle.cardslib.proofs.read.past.Reads as past-reads
-use Rattle.cardslib.proofs.read.span_in.Reads as span-in-reads
 
 name-end-requires : tie.Need-name-end-requires
 name-end-requires c κs = search needs

@@ -5,8 +5,6 @@ use mir.Facts.{toZ-ofZ}
 use Rattle.clock.proofs.Signs.{negative, positive, sub-fits, back, bits-neg}
 use Rattle.clock.proofs.bits_of.Statement.{statement}
 use Rattle.clock.proofs.bits_of.Tie as tie
-use Rattle.clock.proofs.bits_of.Reads as reads
-use Rattle.clock.proofs.bits_of.Lts as lts
 
 sub-k : tie.Need-sub-k
 sub-k c = sub-fits (c .before .args .clock) (c .before .fits .clock) (negative _ (c .before .fits .clock) (c .if1 .taken))

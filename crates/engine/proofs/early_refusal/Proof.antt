@@ -4,10 +4,6 @@ use Rattle.engine.proofs.Early.{yes-if, no-if, early-1, early-2, early-
 use borrow.Author.Needs.{needs}
 use Rattle.engine.proofs.early_refusal.Statement.{statement}
 use Rattle.engine.proofs.early_refusal.Tie as tie
-use Rattle.engine.proofs.early_refusal.Reads as reads
-use Rattle.engine.proofs.early_refusal.Lts as lts
-use Rattle.soundness.proofs.is_sound.Reads as is-sound-reads
-use Rattle.ttlv.proofs.is_message.Reads as is-message-reads
 
 returns : tie.Need-returns
 returns c = search early-1

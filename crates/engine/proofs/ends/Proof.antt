@@ -1,13 +1,10 @@
 -- `engine::ends`. By whether the item failed.
 -- Assumes nothing.
-use mathlib.Core.Path.{_≡_, refl, sym, ap, _∙_}
-use mathlib.Core.Bool.{Bool, true, false, not, _&&_}
-use lib.Dec.{eqb}
+use mathlib.Core.Path.{_≡_}
+use mathlib.Core.Bool.{true, false}
 use borrow.Author.Tests.{not-true, not-false}
 use Rattle.engine.proofs.ends.Statement.{statement}
 use Rattle.engine.proofs.ends.Tie as tie
-use Rattle.engine.proofs.ends.Reads as reads
-use Rattle.engine.proofs.ends.Lts as lts
 
 returns : tie.Need-returns
 returns c = let e : c .before .args .failed ≡ false = not-true _ (c .if1 .taken) in rw e

@@ -5,13 +5,6 @@ use Rattle.engine.proofs.Item.{item-is, start-within, start-run, start-
 use borrow.Author.Needs.{needs}
 use Rattle.engine.proofs.one_item.Statement.{statement}
 use Rattle.engine.proofs.one_item.Tie as tie
-use Rattle.engine.proofs.one_item.Reads as reads
-use Rattle.engine.proofs.one_item.Lts as lts
-use Rattle.act.proofs.is_failed.Reads as is-failed-reads
-use Rattle.act.proofs.perform.Reads as perform-reads
-use Rattle.answer_write.proofs.write_answer.Reads as write-answer-reads
-use Rattle.frame.proofs.read_item.Reads as read-item-reads
-use Rattle.payload.proofs.read_command.Reads as read-command-reads
 
 read-item-requires : tie.Need-read-item-requires
 read-item-requires c κs = search needs

@@ -1,23 +1,15 @@
 -- `engine::run_items`. Between two items: what is answered stands in the room, and the rest of the batch gives the whole.
 -- Assumes nothing.
-use Prim.Native.Nat.{ℕ, _+_, _-_, _*_, _≤_, _<_}
-use mathlib.Core.Path.{_≡_, refl, sym, ap, subst, _∙_}
-use mathlib.Core.Bool.{Bool, true, false}
-use mathlib.Core.List.{List}
-use lib.ListN.{length, take, drop, length-take, length-drop}
-use lib.Seq.{take-all}
+use Prim.Native.Nat.{_-_}
+use mathlib.Core.Path.{sym, ap, _∙_}
+use lib.ListN.{length, length-take, length-drop}
 use native.Mathlib.Omega.{arith}
 use borrow.Author.Needs.{needs}
 use Rattle.octets.specs.Maybe.{isSome}
-use Rattle.engine.specs.Calls.{askedIn, ranOver, ItemIs}
-use Rattle.engine.proofs.Turns.{Mid, Next, begins, ended, next-item, next-index, stopped, again, room-left, as-asked, own-part, ends-as}
+use Rattle.engine.specs.Calls.{ranOver}
+use Rattle.engine.proofs.Turns.{Mid, begins, ended, next-item, next-index, stopped, again, room-left, as-asked, own-part, ends-as}
 use Rattle.engine.proofs.run_items.Statement.{statement}
 use Rattle.engine.proofs.run_items.Tie as tie
-use Rattle.engine.proofs.run_items.Reads as reads
-use Rattle.engine.proofs.run_items.Lts as lts
-use Rattle.engine.proofs.ends.Reads as ends-reads
-use Rattle.engine.proofs.one_item.Reads as one-item-reads
-use Rattle.ttlv.proofs.body_field.Reads as body-field-reads
 
 abbrev Inv-loop : tie.InvT-loop
 Inv-loop items table₀ fresh option out₀ left₀ i₀ holder₀ at₀ table out left i holder at = Mid (ranOver items fresh option table₀) fresh option table₀ out₀ table out left i holder at

@@ -1,21 +1,14 @@
 -- `engine::serve`. Each return is one law about the whole call.
 -- Assumes nothing.
-use mathlib.Core.Path.{_≡_, refl, sym, ap, _∙_}
+use mathlib.Core.Path.{ap, _∙_}
 use native.Mathlib.Omega.{arith}
 use mir.Syntax.{w64}
 use mir.Val.{ofZ}
 use mir.Facts.{toZ-ofZ}
-use Rattle.engine.proofs.Serves.{Passed, early-away, early-passed, frame-away, frame-asks, from-within, runs-from, front-asks, served-is}
+use Rattle.engine.proofs.Serves.{early-away, early-passed, frame-away, frame-asks, from-within, runs-from, front-asks, served-is}
 use borrow.Author.Needs.{needs}
 use Rattle.engine.proofs.serve.Statement.{statement}
 use Rattle.engine.proofs.serve.Tie as tie
-use Rattle.engine.proofs.serve.Reads as reads
-use Rattle.engine.proofs.serve.Lts as lts
-use Rattle.answer_write.proofs.write_front.Reads as write-front-reads
-use Rattle.clock.proofs.bits_of.Reads as bits-of-reads
-use Rattle.engine.proofs.early_refusal.Reads as early-refusal-reads
-use Rattle.engine.proofs.run_items.Reads as run-items-reads
-use Rattle.frame.proofs.read_frame.Reads as read-frame-reads
 
 early-refusal-requires : tie.Need-early-refusal-requires
 early-refusal-requires c κs = search needs

@@ -10,8 +10,6 @@ use mir.Facts.{toZ-pos, toZ-ofZ, ofZ-toZ}
 use borrow.Author.Needs.{needs}
 use Rattle.feedlib.proofs.clock_of.Statement.{statement}
 use Rattle.feedlib.proofs.clock_of.Tie as tie
-use Rattle.feedlib.proofs.clock_of.Reads as reads
-use Rattle.feedlib.proofs.clock_of.Lts as lts
 
 down : (m : ℕ) → negsuc 0 -ℤ pos m ≡ negsuc m
 down zero = refl

@@ -6,10 +6,6 @@ use lib.Seq.{length-take-le}
 use borrow.Author.Needs.{needs}
 use Rattle.feedlib.proofs.headed.Statement.{statement}
 use Rattle.feedlib.proofs.headed.Tie as tie
-use Rattle.feedlib.proofs.headed.Reads as reads
-use Rattle.feedlib.proofs.headed.Lts as lts
-use Rattle.feedlib.proofs.call.Reads as call-reads
-use Rattle.feedlib.proofs.too_large.Reads as too-large-reads
 
 too-large-requires : tie.Need-too-large-requires
 too-large-requires c κs = search needs

@@ -3,9 +3,6 @@
 use native.Mathlib.Omega.{arith}
 use Rattle.feedlib.proofs.run.Statement.{statement}
 use Rattle.feedlib.proofs.run.Tie as tie
-use Rattle.feedlib.proofs.run.Reads as reads
-use Rattle.feedlib.proofs.run.Lts as lts
-use Rattle.feedlib.proofs.next.Reads as next-reads
 
 abbrev Inv-loop : tie.InvT-loop
 Inv-loop from to turns₀ turns = Unit {0}

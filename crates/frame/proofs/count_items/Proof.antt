@@ -1,10 +1,10 @@
 -- `frame::count_items`. What is counted and what is left decide; the rest of the run is shorter.
 -- Assumes nothing.
 use borrow.Author.Needs.{needs}
-use mathlib.Core.Path.{_≡_, refl, sym, ap, _∙_}
-use Prim.Native.Nat.{ℕ, _+_, _-_, _≤_}
+use mathlib.Core.Path.{_≡_, sym, ap, _∙_}
+use Prim.Native.Nat.{_+_, _-_, _≤_}
 use native.Mathlib.Omega.{arith}
-use lib.ListN.{length, take, drop, length-take, length-drop}
+use lib.ListN.{length, length-take, length-drop}
 use mathlib.Core.Bool.{true}
 use Rattle.ttlv.specs.Tree.{isRun, treeOf}
 use borrow.Author.Tests.{not-true, not-false}
@@ -12,16 +12,12 @@ use Rattle.ttlv.proofs.Found.{body-ends}
 use Rattle.ttlv.proofs.Lift.{body-rest, body-is-run}
 use Rattle.frame.specs.declared.ItemsRead.the-variants.{Items as Counted}
 use Rattle.frame.specs.Tags.{batchItem}
-use Rattle.frame.specs.Frame.{itemIn, itemsIn}
+use Rattle.frame.specs.Frame.{itemsIn}
 use Rattle.frame.specs.Readers.{itemsRead}
 use Rattle.ttlv.proofs.Runs.{run-behind}
 use Rattle.frame.proofs.Items.{counted, counted-none, items-end, items-other, items-bad, items-more}
 use Rattle.frame.proofs.count_items.Statement.{statement}
 use Rattle.frame.proofs.count_items.Tie as tie
-use Rattle.frame.proofs.count_items.Reads as reads
-use Rattle.frame.proofs.count_items.Lts as lts
-use Rattle.frame.proofs.item_ok.Reads as item-ok-reads
-use Rattle.ttlv.proofs.body_field.Reads as body-field-reads
 
 abbrev Inv-loop : tie.InvT-loop
 Inv-loop s t₀ count₀ t count = (isRun t ≡ true) × (itemsRead (itemsIn (treeOf s)) ≡ counted count (itemsIn (treeOf t))) × (count + length t ≤ length s)

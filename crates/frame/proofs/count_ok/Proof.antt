@@ -1,14 +1,9 @@
 -- `frame::count_ok`. By the three tests.
 -- Assumes nothing.
-use mathlib.Core.Path.{_≡_, refl, sym, ap, _∙_}
-use Prim.Native.Nat.{ℕ, _+_, _-_, _≤_}
-use native.Mathlib.Omega.{arith}
-use lib.ListN.{length, take, drop}
+use Prim.Native.Nat.{_-_}
 use borrow.Author.Tests.{le-leb, lt-leb}
 use Rattle.frame.proofs.count_ok.Statement.{statement}
 use Rattle.frame.proofs.count_ok.Tie as tie
-use Rattle.frame.proofs.count_ok.Reads as reads
-use Rattle.frame.proofs.count_ok.Lts as lts
 
 returns : tie.Need-returns
 returns c =

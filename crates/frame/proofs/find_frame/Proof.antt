@@ -1,11 +1,9 @@
 -- `frame::find_frame`. Each way through by its law.
 -- Assumes nothing.
-use mathlib.Core.Path.{_≡_, refl, sym, ap, _∙_}
-use Prim.Native.Nat.{ℕ, _+_, _-_, _≤_}
+use mathlib.Core.Path.{sym, ap, _∙_}
+use Prim.Native.Nat.{_-_}
 use native.Mathlib.Omega.{arith}
-use lib.ListN.{length, take, drop}
-use mathlib.Core.Option.{Option, none, some}
-use Rattle.ttlv.specs.Tree.{isRun, treeOf}
+use mathlib.Core.Option.{Option}
 use Rattle.ttlv.proofs.Found.{body-ends}
 use Rattle.ttlv.proofs.Lift.{body-is-run}
 use Rattle.frame.specs.Tags.{requestHeader, requestMessage}
@@ -16,11 +14,6 @@ use Rattle.frame.proofs.Frame.{message-room, inner-run, frame-no-messag
 use borrow.Author.Needs.{needs}
 use Rattle.frame.proofs.find_frame.Statement.{statement}
 use Rattle.frame.proofs.find_frame.Tie as tie
-use Rattle.frame.proofs.find_frame.Reads as reads
-use Rattle.frame.proofs.find_frame.Lts as lts
-use Rattle.frame.proofs.count_items.Reads as count-items-reads
-use Rattle.frame.proofs.read_header.Reads as read-header-reads
-use Rattle.ttlv.proofs.body_field.Reads as body-field-reads
 
 body-field-requires : tie.Need-body-field-requires
 body-field-requires c κs = search needs

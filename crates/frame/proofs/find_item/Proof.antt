@@ -1,11 +1,10 @@
 -- `frame::find_item`. Each way through by its law.
 -- Assumes nothing.
-use mathlib.Core.Path.{_≡_, refl, sym, ap, _∙_}
-use Prim.Native.Nat.{ℕ, _+_, _-_, _≤_}
+use mathlib.Core.Path.{refl, sym, ap, _∙_}
+use Prim.Native.Nat.{_-_}
 use native.Mathlib.Omega.{arith}
-use lib.ListN.{length, take, drop}
-use Rattle.ttlv.specs.Types.{integer, enumeration, byteString}
-use Rattle.frame.specs.Tags.{batchCount, batchErrorContinuationOption, batchItem, operationTag, protocolVersion, protocolVersionMajor, protocolVersionMinor, requestHeader, requestMessage, requestPayload, uniqueBatchItemId}
+use Rattle.ttlv.specs.Types.{enumeration}
+use Rattle.frame.specs.Tags.{operationTag}
 use Rattle.octets.proofs.Numbers.{bytes-of}
 use Rattle.ttlv.proofs.Found.{number-ends}
 use Rattle.ttlv.proofs.Lift.{word-below}
@@ -15,11 +14,6 @@ use Rattle.frame.proofs.Item.{id-some, item-no-operation, item-behind, 
 use borrow.Author.Needs.{needs}
 use Rattle.frame.proofs.find_item.Statement.{statement}
 use Rattle.frame.proofs.find_item.Tie as tie
-use Rattle.frame.proofs.find_item.Reads as reads
-use Rattle.frame.proofs.find_item.Lts as lts
-use Rattle.frame.proofs.read_id.Reads as read-id-reads
-use Rattle.ttlv.proofs.body_field.Reads as body-field-reads
-use Rattle.ttlv.proofs.number_field.Reads as number-field-reads
 
 number-field-requires : tie.Need-number-field-requires
 number-field-requires c κs = search needs

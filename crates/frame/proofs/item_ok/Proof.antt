@@ -1,16 +1,13 @@
 -- `frame::item_ok`. Whether the reader found one.
 -- Assumes nothing.
-use mathlib.Core.Path.{_≡_, refl, sym, ap, _∙_}
-use Rattle.ttlv.specs.Tree.{isRun, treeOf}
+use mathlib.Core.Path.{sym, ap, _∙_}
+use Rattle.ttlv.specs.Tree.{treeOf}
 use Rattle.octets.specs.Maybe.{isSome}
 use Rattle.frame.specs.Frame.{itemIn}
 use Rattle.frame.proofs.Item.{item-absent, told-item}
 use borrow.Author.Needs.{needs}
 use Rattle.frame.proofs.item_ok.Statement.{statement}
 use Rattle.frame.proofs.item_ok.Tie as tie
-use Rattle.frame.proofs.item_ok.Reads as reads
-use Rattle.frame.proofs.item_ok.Lts as lts
-use Rattle.frame.proofs.find_item.Reads as find-item-reads
 
 find-item-requires : tie.Need-find-item-requires
 find-item-requires c κs =

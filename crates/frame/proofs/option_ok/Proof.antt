@@ -1,11 +1,8 @@
 -- `frame::option_ok`. By the two tests.
 -- Assumes nothing.
-use mathlib.Core.Path.{_≡_, refl, sym, ap, _∙_}
 use borrow.Author.Tests.{eq-eqb, ne-eqb}
 use Rattle.frame.proofs.option_ok.Statement.{statement}
 use Rattle.frame.proofs.option_ok.Tie as tie
-use Rattle.frame.proofs.option_ok.Reads as reads
-use Rattle.frame.proofs.option_ok.Lts as lts
 
 returns : tie.Need-returns
 returns c =

@@ -1,8 +1,8 @@
 -- `frame::read_frame`. The refusals in order, by what the frame reader tells.
 -- Assumes nothing.
-use mathlib.Core.Path.{_≡_, refl, sym, ap, _∙_}
+use mathlib.Core.Path.{sym, _∙_}
 use native.Mathlib.Omega.{arith}
-use Rattle.ttlv.specs.Tree.{isRun, treeOf}
+use Rattle.ttlv.specs.Tree.{treeOf}
 use borrow.Author.Tests.{not-true, not-false}
 use Rattle.frame.specs.Frame.{frameIn, framed}
 use Rattle.frame.specs.Readers.{itemsAt, framingOf}
@@ -10,13 +10,6 @@ use Rattle.frame.proofs.Frame.{told, taken-6, taken-7, taken-8, taken-9
 use borrow.Author.Needs.{needs}
 use Rattle.frame.proofs.read_frame.Statement.{statement}
 use Rattle.frame.proofs.read_frame.Tie as tie
-use Rattle.frame.proofs.read_frame.Reads as reads
-use Rattle.frame.proofs.read_frame.Lts as lts
-use Rattle.frame.proofs.count_ok.Reads as count-ok-reads
-use Rattle.frame.proofs.find_frame.Reads as find-frame-reads
-use Rattle.frame.proofs.option_ok.Reads as option-ok-reads
-use Rattle.frame.proofs.refuse.Reads as refuse-reads
-use Rattle.frame.proofs.version_ok.Reads as version-ok-reads
 
 find-frame-requires : tie.Need-find-frame-requires
 find-frame-requires c κs =

@@ -1,11 +1,9 @@
 -- `frame::read_header`. Each way through by its law.
 -- Assumes nothing.
-use mathlib.Core.Path.{_≡_, refl, sym, ap, _∙_}
-use Prim.Native.Nat.{ℕ, _+_, _-_, _≤_}
+use mathlib.Core.Path.{sym, ap, _∙_}
+use Prim.Native.Nat.{_-_}
 use native.Mathlib.Omega.{arith}
-use lib.ListN.{length, take, drop}
-use Rattle.ttlv.specs.Types.{integer, enumeration, byteString}
-use Rattle.frame.specs.Tags.{batchCount, batchErrorContinuationOption, batchItem, operationTag, protocolVersion, protocolVersionMajor, protocolVersionMinor, requestHeader, requestMessage, requestPayload, uniqueBatchItemId}
+use Rattle.frame.specs.Tags.{protocolVersion}
 use Rattle.ttlv.proofs.Found.{body-ends}
 use Rattle.ttlv.proofs.Lift.{body-is-run}
 use Rattle.frame.specs.Readers.{headerRead}
@@ -14,12 +12,6 @@ use Rattle.frame.proofs.Header.{option-within, header-no-version, heade
 use borrow.Author.Needs.{needs}
 use Rattle.frame.proofs.read_header.Statement.{statement}
 use Rattle.frame.proofs.read_header.Tie as tie
-use Rattle.frame.proofs.read_header.Reads as reads
-use Rattle.frame.proofs.read_header.Lts as lts
-use Rattle.frame.proofs.read_option.Reads as read-option-reads
-use Rattle.frame.proofs.read_version.Reads as read-version-reads
-use Rattle.ttlv.proofs.body_field.Reads as body-field-reads
-use Rattle.ttlv.proofs.number_field.Reads as number-field-reads
 
 body-field-requires : tie.Need-body-field-requires
 body-field-requires c κs = search needs

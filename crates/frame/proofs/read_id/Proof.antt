@@ -1,6 +1,6 @@
 -- `frame::read_id`. What was read stands at the front, and by its length; where nothing was read, by whether the tag stands there.
 -- Assumes nothing.
-use mathlib.Core.Path.{_≡_, sym, ap, _∙_}
+use mathlib.Core.Path.{sym, ap, _∙_}
 use lib.Dec.{leb}
 use borrow.Author.Tests.{le-leb, lt-leb}
 use Rattle.octets.proofs.If.{ifb-true, ifb-false}
@@ -12,10 +12,6 @@ use Rattle.frame.specs.Readers.{idSpan, idAt}
 use borrow.Author.Needs.{needs}
 use Rattle.frame.proofs.read_id.Statement.{statement}
 use Rattle.frame.proofs.read_id.Tie as tie
-use Rattle.frame.proofs.read_id.Reads as reads
-use Rattle.frame.proofs.read_id.Lts as lts
-use Rattle.ttlv.proofs.bytes_field.Reads as bytes-field-reads
-use Rattle.ttlv.proofs.starts_with.Reads as starts-with-reads
 
 bytes-field-requires : tie.Need-bytes-field-requires
 bytes-field-requires c κs = search needs

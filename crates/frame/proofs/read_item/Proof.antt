@@ -1,19 +1,14 @@
 -- `frame::read_item`. The parts that the item reader tells, with the ID carried by its struct.
 -- Assumes nothing.
-use mathlib.Core.Path.{_≡_, refl, sym, ap, _∙_}
-use Prim.Native.Nat.{ℕ, _+_, _-_, _≤_}
+use mathlib.Core.Path.{sym, _∙_}
+use Prim.Native.Nat.{_-_}
 use native.Mathlib.Omega.{arith}
-use lib.ListN.{length, take, drop}
-use Rattle.ttlv.specs.Tree.{isRun, treeOf}
+use Rattle.ttlv.specs.Tree.{treeOf}
 use Rattle.frame.specs.Frame.{itemIn}
 use Rattle.frame.proofs.Item.{no-item, told-room, id-fits, parts-are}
 use borrow.Author.Needs.{needs}
 use Rattle.frame.proofs.read_item.Statement.{statement}
 use Rattle.frame.proofs.read_item.Tie as tie
-use Rattle.frame.proofs.read_item.Reads as reads
-use Rattle.frame.proofs.read_item.Lts as lts
-use Rattle.frame.proofs.find_item.Reads as find-item-reads
-use Rattle.frame.proofs.take_id.Reads as take-id-reads
 
 find-item-requires : tie.Need-find-item-requires
 find-item-requires c κs =

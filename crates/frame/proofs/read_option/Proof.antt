@@ -1,6 +1,6 @@
 -- `frame::read_option`. What was read stands at the front; where nothing was read, by whether the tag stands there.
 -- Assumes nothing.
-use mathlib.Core.Path.{_≡_, sym, _∙_}
+use mathlib.Core.Path.{sym, _∙_}
 use Rattle.octets.proofs.If.{ifb-true, ifb-false}
 use Rattle.ttlv.specs.Types.{enumeration}
 use Rattle.ttlv.proofs.Found.{number-starts}
@@ -9,10 +9,6 @@ use Rattle.frame.specs.Readers.{optionAt}
 use borrow.Author.Needs.{needs}
 use Rattle.frame.proofs.read_option.Statement.{statement}
 use Rattle.frame.proofs.read_option.Tie as tie
-use Rattle.frame.proofs.read_option.Reads as reads
-use Rattle.frame.proofs.read_option.Lts as lts
-use Rattle.ttlv.proofs.number_field.Reads as number-field-reads
-use Rattle.ttlv.proofs.starts_with.Reads as starts-with-reads
 
 number-field-requires : tie.Need-number-field-requires
 number-field-requires c κs = search needs

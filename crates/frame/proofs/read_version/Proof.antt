@@ -1,20 +1,16 @@
 -- `frame::read_version`. Each way through by its law.
 -- Assumes nothing.
-use mathlib.Core.Path.{_≡_, refl, sym, ap, _∙_}
-use Prim.Native.Nat.{ℕ, _+_, _-_, _≤_}
+use mathlib.Core.Path.{sym, ap, _∙_}
+use Prim.Native.Nat.{_-_}
 use native.Mathlib.Omega.{arith}
-use lib.ListN.{length, take, drop}
-use Rattle.ttlv.specs.Types.{integer, enumeration, byteString}
-use Rattle.frame.specs.Tags.{batchCount, batchErrorContinuationOption, batchItem, operationTag, protocolVersion, protocolVersionMajor, protocolVersionMinor, requestHeader, requestMessage, requestPayload, uniqueBatchItemId}
+use Rattle.ttlv.specs.Types.{integer}
+use Rattle.frame.specs.Tags.{protocolVersionMajor}
 use Rattle.ttlv.proofs.Found.{number-ends}
 use Rattle.frame.specs.Readers.{versionRead}
 use Rattle.frame.proofs.Header.{version-no-major, version-no-minor, version-more, version-is}
 use borrow.Author.Needs.{needs}
 use Rattle.frame.proofs.read_version.Statement.{statement}
 use Rattle.frame.proofs.read_version.Tie as tie
-use Rattle.frame.proofs.read_version.Reads as reads
-use Rattle.frame.proofs.read_version.Lts as lts
-use Rattle.ttlv.proofs.number_field.Reads as number-field-reads
 
 number-field-requires : tie.Need-number-field-requires
 number-field-requires c κs = search needs

@@ -1,13 +1,9 @@
 -- `frame::take_id`. The bytes stored over sixteen zeros.
 -- Assumes nothing.
-use mathlib.Core.Path.{_≡_, refl, sym, ap, _∙_}
 use Rattle.frame.proofs.Item.{id-filled}
 use borrow.Author.Needs.{needs}
 use Rattle.frame.proofs.take_id.Statement.{statement}
 use Rattle.frame.proofs.take_id.Tie as tie
-use Rattle.frame.proofs.take_id.Reads as reads
-use Rattle.frame.proofs.take_id.Lts as lts
-use Rattle.octets.proofs.put_all.Reads as put-all-reads
 
 slice-aggregate-put-all : tie.Need-slice-aggregate-put-all
 slice-aggregate-put-all c = search needs

@@ -1,6 +1,6 @@
 -- `junctionmoth::junctionmoth_serve`. The engine's contract, with the length through a reference.
 -- Assumes nothing.
-use mathlib.Core.Path.{_≡_, ap}
+use mathlib.Core.Path.{ap}
 use mir.Syntax.{w64}
 use mir.Val.{ofZ}
 use mir.Facts.{toZ-ofZ}
@@ -8,9 +8,6 @@ use Rattle.junctionmoth.proofs.Calls.{call-is}
 use borrow.Author.Needs.{needs}
 use Rattle.junctionmoth.proofs.junctionmoth_serve.Statement.{statement}
 use Rattle.junctionmoth.proofs.junctionmoth_serve.Tie as tie
-use Rattle.junctionmoth.proofs.junctionmoth_serve.Reads as reads
-use Rattle.junctionmoth.proofs.junctionmoth_serve.Lts as lts
-use Rattle.engine.proofs.serve.Reads as serve-reads
 
 serve-requires : tie.Need-serve-requires
 serve-requires c κs = search needs

@@ -1,8 +1,8 @@
 -- `octets::all_zero`. The running test and what is left decide.
 -- Assumes nothing.
-use mathlib.Core.Path.{_≡_, refl, sym, _∙_}
+use mathlib.Core.Path.{_≡_, sym, _∙_}
 use mathlib.Core.Bool.{_&&_}
-use Prim.Native.Nat.{ℕ, _-_, _≤_, _<_}
+use Prim.Native.Nat.{_-_, _≤_, _<_}
 use native.Mathlib.Omega.{arith}
 use lib.ListN.{length, drop}
 use borrow.Author.Needs.{needs}
@@ -11,8 +11,6 @@ use Rattle.octets.proofs.All.{all-on, all-end}
 use Rattle.octets.proofs.Bools.{and-true}
 use Rattle.octets.proofs.all_zero.Statement.{statement}
 use Rattle.octets.proofs.all_zero.Tie as tie
-use Rattle.octets.proofs.all_zero.Reads as reads
-use Rattle.octets.proofs.all_zero.Lts as lts
 
 abbrev Inv-loop : tie.InvT-loop
 Inv-loop s clear₀ k₀ clear k = (k ≤ length s) × (all isZero s ≡ (clear && all isZero (drop k s)))

@@ -1,19 +1,14 @@
 -- `octets::number`. One word, or two put together.
 -- Assumes nothing.
-use Prim.Native.Nat.{ℕ, _+_, _-_, _*_, _^_, _≤_, _<_, min}
-use mathlib.Core.Path.{_≡_, sym, ap, _∙_}
+use Prim.Native.Nat.{_-_}
+use mathlib.Core.Path.{sym, ap, _∙_}
 use native.Mathlib.Nat.{le-refl}
 use native.Mathlib.Omega.{arith}
-use lib.ListN.{length, take}
 use Rattle.octets.specs.Octets.{fromBe}
 use Rattle.octets.proofs.Words.{length-looked, looked, two-words}
 use borrow.Author.Needs.{needs}
 use Rattle.octets.proofs.number.Statement.{statement}
 use Rattle.octets.proofs.number.Tie as tie
-use Rattle.octets.proofs.number.Reads as reads
-use Rattle.octets.proofs.number.Lts as lts
-use Rattle.octets.proofs.fewer.Reads as fewer-reads
-use Rattle.octets.proofs.word.Reads as word-reads
 
 fewer-requires : tie.Need-fewer-requires
 fewer-requires c κs = search needs

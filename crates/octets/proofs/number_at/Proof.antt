@@ -8,9 +8,6 @@ use Rattle.octets.proofs.Stores.{length-part, lent-field}
 use borrow.Author.Needs.{needs}
 use Rattle.octets.proofs.number_at.Statement.{statement}
 use Rattle.octets.proofs.number_at.Tie as tie
-use Rattle.octets.proofs.number_at.Reads as reads
-use Rattle.octets.proofs.number_at.Lts as lts
-use Rattle.octets.proofs.number.Reads as number-reads
 
 add-number : tie.Need-add-number
 add-number c = search needs

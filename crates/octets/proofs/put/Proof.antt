@@ -1,18 +1,14 @@
 -- `octets::put`. What is left to write gives the whole.
 -- Assumes nothing.
-use Prim.Native.Nat.{ℕ, suc, _+_, _-_, _*_, _/_, _%_, _^_, _≤_, _<_}
-use mathlib.Core.Path.{_≡_, refl, sym, ap, _∙_, subst}
-use mathlib.Core.List.{List, _++_}
-use lib.ListN.{length, take, drop, getD, length-set}
+use Prim.Native.Nat.{_-_, _≤_}
+use mathlib.Core.Path.{_≡_, refl, _∙_}
+use lib.ListN.{length, length-set}
 use lib.Seq.{sets}
 use native.Mathlib.Omega.{arith}
-use borrow.Author.Needs.{needs}
 use Rattle.octets.specs.Octets.{be}
 use Rattle.octets.proofs.Stores.{sets-be-back}
 use Rattle.octets.proofs.put.Statement.{statement}
 use Rattle.octets.proofs.put.Tie as tie
-use Rattle.octets.proofs.put.Reads as reads
-use Rattle.octets.proofs.put.Lts as lts
 
 abbrev Inv-loop : tie.InvT-loop
 Inv-loop t₀ at width v rest₀ k₀ t rest k = (k ≤ width) × ((length t ≡ length t₀) × (sets t at (be k rest) ≡ sets t₀ at (be width v)))

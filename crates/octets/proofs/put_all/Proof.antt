@@ -1,16 +1,14 @@
 -- `octets::put_all`. What is written so far is a run of stores of what was read so far.
 -- Assumes nothing.
-use Prim.Native.Nat.{ℕ, suc, _+_, _-_, _≤_, _<_}
-use mathlib.Core.Path.{_≡_, refl, sym, ap, _∙_}
-use lib.ListN.{length, take, drop, getD, length-set}
+use Prim.Native.Nat.{_-_, _≤_}
+use mathlib.Core.Path.{_≡_, ap, _∙_}
+use lib.ListN.{length, take, length-set}
 use lib.Seq.{sets, take-all}
 use native.Mathlib.Omega.{arith}
 use borrow.Author.Needs.{needs}
 use Rattle.octets.proofs.Stores.{sets-more}
 use Rattle.octets.proofs.put_all.Statement.{statement}
 use Rattle.octets.proofs.put_all.Tie as tie
-use Rattle.octets.proofs.put_all.Reads as reads
-use Rattle.octets.proofs.put_all.Lts as lts
 
 abbrev Inv-loop : tie.InvT-loop
 Inv-loop t₀ at s k₀ t k = (k ≤ length s) × ((length t ≡ length t₀) × (t ≡ sets t₀ at (take k s)))

@@ -1,7 +1,7 @@
 -- `octets::word`. The bytes read so far spell the number so far.
 -- Assumes nothing.
 use Prim.Native.Nat.{ℕ, _≤_, _<_, _-_, _^_}
-use mathlib.Core.Path.{_≡_, refl, sym, ap, _∙_}
+use mathlib.Core.Path.{_≡_, refl, ap, _∙_}
 use native.Mathlib.Omega.{arith}
 use borrow.Author.Needs.{needs}
 use lib.ListN.{length, take}
@@ -10,9 +10,6 @@ use Rattle.octets.specs.Octets.{fromBe, fromBeAfter}
 use Rattle.octets.proofs.Numbers.{fromBe-more, more-lt, more-fits}
 use Rattle.octets.proofs.word.Statement.{statement}
 use Rattle.octets.proofs.word.Tie as tie
-use Rattle.octets.proofs.word.Reads as reads
-use Rattle.octets.proofs.word.Lts as lts
-use Rattle.octets.proofs.wide.Reads as wide-reads
 
 abbrev Inv-loop : tie.InvT-loop
 Inv-loop s n₀ i₀ n i = (i ≤ length s) × ((n < 256 ^ i) × (n ≡ fromBe (take i s)))

@@ -6,8 +6,6 @@ use borrow.Author.Tests.{eq-eqb, ne-eqb}
 use Rattle.payload.specs.Readers.{aloneOf}
 use Rattle.payload.proofs.alone.Statement.{statement}
 use Rattle.payload.proofs.alone.Tie as tie
-use Rattle.payload.proofs.alone.Reads as reads
-use Rattle.payload.proofs.alone.Lts as lts
 
 returns : tie.Need-returns
 unfolding aloneOf

@@ -8,9 +8,6 @@ use Rattle.payload.specs.Readers.{lastBody, onlyBodyAt}
 use borrow.Author.Needs.{needs}
 use Rattle.payload.proofs.only_body.Statement.{statement}
 use Rattle.payload.proofs.only_body.Tie as tie
-use Rattle.payload.proofs.only_body.Reads as reads
-use Rattle.payload.proofs.only_body.Lts as lts
-use Rattle.ttlv.proofs.body_field.Reads as body-field-reads
 
 body-field-requires : tie.Need-body-field-requires
 body-field-requires c κs = search needs

@@ -8,9 +8,6 @@ use Rattle.payload.specs.Readers.{lastNumber, onlyNumberAt}
 use borrow.Author.Needs.{needs}
 use Rattle.payload.proofs.only_number.Statement.{statement}
 use Rattle.payload.proofs.only_number.Tie as tie
-use Rattle.payload.proofs.only_number.Reads as reads
-use Rattle.payload.proofs.only_number.Lts as lts
-use Rattle.ttlv.proofs.number_field.Reads as number-field-reads
 
 number-field-requires : tie.Need-number-field-requires
 number-field-requires c κs = search needs

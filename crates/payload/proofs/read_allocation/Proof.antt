@@ -10,11 +10,6 @@ use Rattle.payload.proofs.Targets.{target-stops, target-within, allocat
 use borrow.Author.Needs.{needs}
 use Rattle.payload.proofs.read_allocation.Statement.{statement}
 use Rattle.payload.proofs.read_allocation.Tie as tie
-use Rattle.payload.proofs.read_allocation.Reads as reads
-use Rattle.payload.proofs.read_allocation.Lts as lts
-use Rattle.payload.proofs.amount_ok.Reads as amount-ok-reads
-use Rattle.payload.proofs.only_number.Reads as only-number-reads
-use Rattle.payload.proofs.read_target.Reads as read-target-reads
 
 read-target-requires : tie.Need-read-target-requires
 read-target-requires c κs = search needs

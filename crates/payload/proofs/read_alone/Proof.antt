@@ -7,10 +7,6 @@ use Rattle.payload.proofs.Targets.{target-stops, alone-is, alone-more}
 use borrow.Author.Needs.{needs}
 use Rattle.payload.proofs.read_alone.Statement.{statement}
 use Rattle.payload.proofs.read_alone.Tie as tie
-use Rattle.payload.proofs.read_alone.Reads as reads
-use Rattle.payload.proofs.read_alone.Lts as lts
-use Rattle.payload.proofs.alone.Reads as alone-reads
-use Rattle.payload.proofs.read_target.Reads as read-target-reads
 
 read-target-requires : tie.Need-read-target-requires
 read-target-requires c κs = search needs

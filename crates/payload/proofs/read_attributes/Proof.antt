@@ -10,11 +10,6 @@ use Rattle.payload.proofs.Wanted.{attributes-no-algorithm, algorithm-wi
 use borrow.Author.Needs.{needs}
 use Rattle.payload.proofs.read_attributes.Statement.{statement}
 use Rattle.payload.proofs.read_attributes.Tie as tie
-use Rattle.payload.proofs.read_attributes.Reads as reads
-use Rattle.payload.proofs.read_attributes.Lts as lts
-use Rattle.payload.proofs.read_masked.Reads as read-masked-reads
-use Rattle.values.proofs.bits_ok.Reads as bits-ok-reads
-use Rattle.ttlv.proofs.number_field.Reads as number-field-reads
 
 number-field-requires : tie.Need-number-field-requires
 number-field-requires c κs = search needs

@@ -6,12 +6,6 @@ use Rattle.payload.proofs.Commands.{of-create, of-rekey, of-allocation,
 use borrow.Author.Needs.{needs}
 use Rattle.payload.proofs.read_command.Statement.{statement}
 use Rattle.payload.proofs.read_command.Tie as tie
-use Rattle.payload.proofs.read_command.Reads as reads
-use Rattle.payload.proofs.read_command.Lts as lts
-use Rattle.payload.proofs.read_allocation.Reads as read-allocation-reads
-use Rattle.payload.proofs.read_alone.Reads as read-alone-reads
-use Rattle.payload.proofs.read_create.Reads as read-create-reads
-use Rattle.payload.proofs.read_revoke.Reads as read-revoke-reads
 
 read-create-requires : tie.Need-read-create-requires
 read-create-requires c κs = search needs

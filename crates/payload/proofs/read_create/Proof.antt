@@ -9,11 +9,6 @@ use Rattle.payload.proofs.Wanted.{create-no-type, type-within, create-o
 use borrow.Author.Needs.{needs}
 use Rattle.payload.proofs.read_create.Statement.{statement}
 use Rattle.payload.proofs.read_create.Tie as tie
-use Rattle.payload.proofs.read_create.Reads as reads
-use Rattle.payload.proofs.read_create.Lts as lts
-use Rattle.payload.proofs.only_body.Reads as only-body-reads
-use Rattle.payload.proofs.read_attributes.Reads as read-attributes-reads
-use Rattle.ttlv.proofs.number_field.Reads as number-field-reads
 
 number-field-requires : tie.Need-number-field-requires
 number-field-requires c κs = search needs

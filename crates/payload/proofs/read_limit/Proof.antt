@@ -10,12 +10,6 @@ use Rattle.payload.proofs.Wanted.{limit-no-total, limit-within, limit-b
 use borrow.Author.Needs.{needs}
 use Rattle.payload.proofs.read_limit.Statement.{statement}
 use Rattle.payload.proofs.read_limit.Tie as tie
-use Rattle.payload.proofs.read_limit.Reads as reads
-use Rattle.payload.proofs.read_limit.Lts as lts
-use Rattle.payload.proofs.only_number.Reads as only-number-reads
-use Rattle.values.proofs.total_ok.Reads as total-ok-reads
-use Rattle.values.proofs.unit_ok.Reads as unit-ok-reads
-use Rattle.ttlv.proofs.number_field.Reads as number-field-reads
 
 number-field-requires : tie.Need-number-field-requires
 number-field-requires c κs = search needs

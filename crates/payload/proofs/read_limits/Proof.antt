@@ -9,10 +9,6 @@ use Rattle.payload.proofs.Wanted.{limits-empty, limits-other, limits-is
 use borrow.Author.Needs.{needs}
 use Rattle.payload.proofs.read_limits.Statement.{statement}
 use Rattle.payload.proofs.read_limits.Tie as tie
-use Rattle.payload.proofs.read_limits.Reads as reads
-use Rattle.payload.proofs.read_limits.Lts as lts
-use Rattle.payload.proofs.only_body.Reads as only-body-reads
-use Rattle.payload.proofs.read_limit.Reads as read-limit-reads
 
 returns : tie.Need-returns
 unfolding limitsRead

@@ -10,11 +10,6 @@ use Rattle.payload.proofs.Wanted.{masked-no-mask, mask-within, mask-beh
 use borrow.Author.Needs.{needs}
 use Rattle.payload.proofs.read_masked.Statement.{statement}
 use Rattle.payload.proofs.read_masked.Tie as tie
-use Rattle.payload.proofs.read_masked.Reads as reads
-use Rattle.payload.proofs.read_masked.Lts as lts
-use Rattle.payload.proofs.read_limits.Reads as read-limits-reads
-use Rattle.values.proofs.mask_ok.Reads as mask-ok-reads
-use Rattle.ttlv.proofs.number_field.Reads as number-field-reads
 
 number-field-requires : tie.Need-number-field-requires
 number-field-requires c κs = search needs

@@ -10,12 +10,6 @@ use Rattle.payload.proofs.Targets.{target-stops, target-within, revoke-
 use borrow.Author.Needs.{needs}
 use Rattle.payload.proofs.read_revoke.Statement.{statement}
 use Rattle.payload.proofs.read_revoke.Tie as tie
-use Rattle.payload.proofs.read_revoke.Reads as reads
-use Rattle.payload.proofs.read_revoke.Lts as lts
-use Rattle.payload.proofs.code_ok.Reads as code-ok-reads
-use Rattle.payload.proofs.only_body.Reads as only-body-reads
-use Rattle.payload.proofs.only_number.Reads as only-number-reads
-use Rattle.payload.proofs.read_target.Reads as read-target-reads
 
 read-target-requires : tie.Need-read-target-requires
 read-target-requires c κs = search needs

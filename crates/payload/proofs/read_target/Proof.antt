@@ -16,11 +16,6 @@ use Rattle.payload.specs.declared.TargetRead.the-variants.{Is}
 use borrow.Author.Needs.{needs}
 use Rattle.payload.proofs.read_target.Statement.{statement}
 use Rattle.payload.proofs.read_target.Tie as tie
-use Rattle.payload.proofs.read_target.Reads as reads
-use Rattle.payload.proofs.read_target.Lts as lts
-use Rattle.identifier.proofs.serial_of.Reads as serial-of-reads
-use Rattle.ttlv.proofs.bytes_field.Reads as bytes-field-reads
-use Rattle.ttlv.proofs.starts_with.Reads as starts-with-reads
 
 starts-with-requires : tie.Need-starts-with-requires
 starts-with-requires c κs = search needs

@@ -4,12 +4,6 @@ use Rattle.table.proofs.Places.{place-fields}
 use borrow.Author.Needs.{needs}
 use Rattle.records.proofs.load.Statement.{statement}
 use Rattle.records.proofs.load.Tie as tie
-use Rattle.records.proofs.load.Reads as reads
-use Rattle.records.proofs.load.Lts as lts
-use Rattle.table.proofs.Layout.body.Reads as body-reads
-use Rattle.table.proofs.Layout.line.Reads as line-reads
-use Rattle.octets.proofs.number_at.Reads as number-at-reads
-use Rattle.records.proofs.material_at.Reads as material-at-reads
 
 line-requires : tie.Need-line-requires
 line-requires c κs = search needs

@@ -10,8 +10,6 @@ use Rattle.octets.proofs.Stores.{prefix-more}
 use Rattle.table.specs.Layout.{materialSize}
 use Rattle.records.proofs.material_at.Statement.{statement}
 use Rattle.records.proofs.material_at.Tie as tie
-use Rattle.records.proofs.material_at.Reads as reads
-use Rattle.records.proofs.material_at.Lts as lts
 
 abbrev Inv-loop : tie.InvT-loop
 Inv-loop t at m₀ k₀ m k = (k ≤ materialSize) × ((length m ≡ materialSize) × (take k m ≡ part t at k))

@@ -4,10 +4,6 @@ use Rattle.table.proofs.Lines.{body-chain}
 use borrow.Author.Needs.{needs}
 use Rattle.records.proofs.put_body.Statement.{statement}
 use Rattle.records.proofs.put_body.Tie as tie
-use Rattle.records.proofs.put_body.Reads as reads
-use Rattle.records.proofs.put_body.Lts as lts
-use Rattle.octets.proofs.put.Reads as put-reads
-use Rattle.octets.proofs.put_all.Reads as put-all-reads
 
 put-requires : tie.Need-put-requires
 put-requires c κs = search needs

@@ -4,9 +4,6 @@ use Rattle.table.proofs.Lines.{line-chain}
 use borrow.Author.Needs.{needs}
 use Rattle.records.proofs.put_line.Statement.{statement}
 use Rattle.records.proofs.put_line.Tie as tie
-use Rattle.records.proofs.put_line.Reads as reads
-use Rattle.records.proofs.put_line.Lts as lts
-use Rattle.octets.proofs.put.Reads as put-reads
 
 put-requires : tie.Need-put-requires
 put-requires c κs = search needs

@@ -8,10 +8,6 @@ use Rattle.table.proofs.Places.{place-fields}
 use borrow.Author.Needs.{needs}
 use Rattle.records.proofs.replaced.Statement.{statement}
 use Rattle.records.proofs.replaced.Tie as tie
-use Rattle.records.proofs.replaced.Reads as reads
-use Rattle.records.proofs.replaced.Lts as lts
-use Rattle.octets.proofs.number_at.Reads as number-at-reads
-use Rattle.table.proofs.Layout.line.Reads as line-reads
 
 -- src/lib.rt:64:9
 line-requires : tie.Need-line-requires

@@ -8,10 +8,6 @@ use Rattle.table.proofs.Places.{place-fields}
 use borrow.Author.Needs.{needs}
 use Rattle.records.proofs.replacement.Statement.{statement}
 use Rattle.records.proofs.replacement.Tie as tie
-use Rattle.records.proofs.replacement.Reads as reads
-use Rattle.records.proofs.replacement.Lts as lts
-use Rattle.octets.proofs.number_at.Reads as number-at-reads
-use Rattle.table.proofs.Layout.line.Reads as line-reads
 
 -- src/lib.rt:73:9
 line-requires : tie.Need-line-requires

@@ -4,12 +4,6 @@ use Rattle.table.specs.Records.{withPlace}
 use borrow.Author.Needs.{needs}
 use Rattle.records.proofs.store.Statement.{statement}
 use Rattle.records.proofs.store.Tie as tie
-use Rattle.records.proofs.store.Reads as reads
-use Rattle.records.proofs.store.Lts as lts
-use Rattle.table.proofs.Layout.body.Reads as body-reads
-use Rattle.table.proofs.Layout.line.Reads as line-reads
-use Rattle.records.proofs.put_body.Reads as put-body-reads
-use Rattle.records.proofs.put_line.Reads as put-line-reads
 
 line-requires : tie.Need-line-requires
 line-requires c κs = search needs

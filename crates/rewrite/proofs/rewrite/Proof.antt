@@ -12,10 +12,6 @@ use Rattle.ttlv_write.proofs.Puts.{wrote-none}
 use Rattle.rewrite.proofs.Walk.{Mid, start, kept, length-left, left-fits, again, whole}
 use Rattle.rewrite.proofs.rewrite.Statement.{statement}
 use Rattle.rewrite.proofs.rewrite.Tie as tie
-use Rattle.rewrite.proofs.rewrite.Reads as reads
-use Rattle.rewrite.proofs.rewrite.Lts as lts
-use Rattle.rewrite.proofs.rewrite_first.Reads as rewrite-first-reads
-use Rattle.ttlv.proofs.is_message.Reads as is-message-reads
 
 abbrev Inv-loop : tie.InvT-loop
 Inv-loop out₀ s at₀ t₀ out at t = Mid s out₀ out at t

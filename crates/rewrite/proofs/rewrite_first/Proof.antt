@@ -1,20 +1,14 @@
 -- `rewrite::rewrite_first`. What the view of a run says of its front, arm by arm.
 -- Assumes nothing.
-use Prim.Native.Nat.{_+_, _-_, _≤_}
-use mathlib.Core.Path.{_≡_, sym, ap, _∙_}
+use Prim.Native.Nat.{_+_, _-_}
+use mathlib.Core.Path.{_≡_, sym, _∙_}
 use native.Mathlib.Omega.{arith}
-use lib.ListN.{length}
 use Rattle.octets.proofs.Numbers.{bytes-of}
 use Rattle.ttlv.proofs.Tree.{tree-bad, group-rest}
 use Rattle.rewrite.proofs.Front.{value-fine, value-within, value-again, group-again, not-end}
 use borrow.Author.Needs.{needs}
 use Rattle.rewrite.proofs.rewrite_first.Statement.{statement}
 use Rattle.rewrite.proofs.rewrite_first.Tie as tie
-use Rattle.rewrite.proofs.rewrite_first.Reads as reads
-use Rattle.rewrite.proofs.rewrite_first.Lts as lts
-use Rattle.rewrite.proofs.rewrite_value.Reads as rewrite-value-reads
-use Rattle.ttlv.proofs.read_first.Reads as read-first-reads
-use Rattle.ttlv_write.proofs.write_structure.Reads as write-structure-reads
 
 read-first-requires : tie.Need-read-first-requires
 read-first-requires c κs = search needs

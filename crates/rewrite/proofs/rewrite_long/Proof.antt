@@ -1,17 +1,11 @@
 -- `rewrite::rewrite_long`. Each type by its arm.
 -- Assumes nothing.
-use mathlib.Core.Path.{_≡_, sym}
+use mathlib.Core.Path.{_≡_}
 use Rattle.ttlv.specs.Types.{dateTimeExtended}
 use Rattle.rewrite.proofs.Values.{is-extended, bit-back}
 use borrow.Author.Needs.{needs}
 use Rattle.rewrite.proofs.rewrite_long.Statement.{statement}
 use Rattle.rewrite.proofs.rewrite_long.Tie as tie
-use Rattle.rewrite.proofs.rewrite_long.Reads as reads
-use Rattle.rewrite.proofs.rewrite_long.Lts as lts
-use Rattle.ttlv_write.proofs.write_boolean.Reads as write-boolean-reads
-use Rattle.ttlv_write.proofs.write_date_time.Reads as write-date-time-reads
-use Rattle.ttlv_write.proofs.write_date_time_extended.Reads as write-date-time-extended-reads
-use Rattle.ttlv_write.proofs.write_long.Reads as write-long-reads
 
 write-boolean-requires : tie.Need-write-boolean-requires
 write-boolean-requires c κs = search needs

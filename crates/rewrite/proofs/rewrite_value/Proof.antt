@@ -1,25 +1,16 @@
 -- `rewrite::rewrite_value`. Each type by its arm; the number that a value spells spells the value.
 -- Assumes nothing.
-use Prim.Native.Nat.{_≤_, _<_, _^_}
+use Prim.Native.Nat.{_<_, _^_}
 use mathlib.Core.Path.{_≡_, ap, _∙_}
 use native.Mathlib.Omega.{arith}
 use lib.ListN.{length, take, length-take}
 use lib.Seq.{take-all}
 use Rattle.octets.specs.Octets.{fromBe}
 use Rattle.octets.proofs.Numbers.{bytes-of}
-use Rattle.ttlv.specs.Types.{lengthOk, valueOk, textString, bigInteger, boolean}
 use Rattle.rewrite.proofs.Values.{is-word, is-long, text-value, boolean-value, number-again}
 use borrow.Author.Needs.{needs}
 use Rattle.rewrite.proofs.rewrite_value.Statement.{statement}
 use Rattle.rewrite.proofs.rewrite_value.Tie as tie
-use Rattle.rewrite.proofs.rewrite_value.Reads as reads
-use Rattle.rewrite.proofs.rewrite_value.Lts as lts
-use Rattle.octets.proofs.number.Reads as number-reads
-use Rattle.rewrite.proofs.rewrite_long.Reads as rewrite-long-reads
-use Rattle.rewrite.proofs.rewrite_word.Reads as rewrite-word-reads
-use Rattle.ttlv_write.proofs.write_big_integer.Reads as write-big-integer-reads
-use Rattle.ttlv_write.proofs.write_bytes.Reads as write-bytes-reads
-use Rattle.ttlv_write.proofs.write_text.Reads as write-text-reads
 
 write-text-requires : tie.Need-write-text-requires
 write-text-requires c κs = search needs

@@ -6,11 +6,6 @@ use Rattle.rewrite.proofs.Values.{is-interval}
 use borrow.Author.Needs.{needs}
 use Rattle.rewrite.proofs.rewrite_word.Statement.{statement}
 use Rattle.rewrite.proofs.rewrite_word.Tie as tie
-use Rattle.rewrite.proofs.rewrite_word.Reads as reads
-use Rattle.rewrite.proofs.rewrite_word.Lts as lts
-use Rattle.ttlv_write.proofs.write_enumeration.Reads as write-enumeration-reads
-use Rattle.ttlv_write.proofs.write_integer.Reads as write-integer-reads
-use Rattle.ttlv_write.proofs.write_interval.Reads as write-interval-reads
 
 write-integer-requires : tie.Need-write-integer-requires
 write-integer-requires c κs = search needs

@@ -9,11 +9,6 @@ use Rattle.soundness.proofs.Checked.{material-zeros}
 use borrow.Author.Needs.{needs}
 use Rattle.soundness.proofs.material_right.Statement.{statement}
 use Rattle.soundness.proofs.material_right.Tie as tie
-use Rattle.soundness.proofs.material_right.Reads as reads
-use Rattle.soundness.proofs.material_right.Lts as lts
-use Rattle.octets.proofs.all_zero.Reads as all-zero-reads
-use Rattle.soundness.proofs.zeros_from.Reads as zeros-from-reads
-use Rattle.table.proofs.Layout.body.Reads as body-reads
 
 body-requires : tie.Need-body-requires
 body-requires c κs = search needs

@@ -9,10 +9,6 @@ use Rattle.table.specs.Search.{first, isDestroyed, destroyedPlace}
 use Rattle.table.proofs.First.{left, left-start, left-end, left-yes, left-no}
 use Rattle.table.proofs.destroyed_place.Statement.{statement}
 use Rattle.table.proofs.destroyed_place.Tie as tie
-use Rattle.table.proofs.destroyed_place.Reads as reads
-use Rattle.table.proofs.destroyed_place.Lts as lts
-use Rattle.table.proofs.is_destroyed.Reads as is-destroyed-reads
-use Rattle.table.proofs.state_at.Reads as state-at-reads
 
 abbrev Inv-loop : tie.InvT-loop
 Inv-loop t n place₀ place = (place ≤ n) × (left n (λ k. isDestroyed (stateAt t k)) place ≡ first n (λ k. isDestroyed (stateAt t k)))

@@ -8,9 +8,6 @@ use Rattle.table.specs.Search.{find}
 use borrow.Author.Needs.{needs}
 use Rattle.table.proofs.find.Statement.{statement}
 use Rattle.table.proofs.find.Tie as tie
-use Rattle.table.proofs.find.Reads as reads
-use Rattle.table.proofs.find.Lts as lts
-use Rattle.table.proofs.place_with.Reads as place-with-reads
 
 returns : tie.Need-returns
 unfolding find

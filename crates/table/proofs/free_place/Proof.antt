@@ -4,9 +4,6 @@ use Rattle.table.specs.Search.{freePlace}
 use borrow.Author.Needs.{needs}
 use Rattle.table.proofs.free_place.Statement.{statement}
 use Rattle.table.proofs.free_place.Tie as tie
-use Rattle.table.proofs.free_place.Reads as reads
-use Rattle.table.proofs.free_place.Lts as lts
-use Rattle.table.proofs.place_with.Reads as place-with-reads
 
 place-with-requires : tie.Need-place-with-requires
 place-with-requires c κs = search needs

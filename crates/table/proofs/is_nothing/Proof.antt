@@ -5,8 +5,6 @@ use Rattle.table.proofs.First.{isNothing-at, isNothing-none}
 use borrow.Author.Needs.{needs}
 use Rattle.table.proofs.is_nothing.Statement.{statement}
 use Rattle.table.proofs.is_nothing.Tie as tie
-use Rattle.table.proofs.is_nothing.Reads as reads
-use Rattle.table.proofs.is_nothing.Lts as lts
 
 enum-told : tie.Need-enum-told
 enum-told c = search needs

@@ -4,9 +4,6 @@ use Rattle.table.specs.Records.{lastSerial}
 use borrow.Author.Needs.{needs}
 use Rattle.table.proofs.last_serial.Statement.{statement}
 use Rattle.table.proofs.last_serial.Tie as tie
-use Rattle.table.proofs.last_serial.Reads as reads
-use Rattle.table.proofs.last_serial.Lts as lts
-use Rattle.octets.proofs.number_at.Reads as number-at-reads
 
 number-at-requires : tie.Need-number-at-requires
 number-at-requires c κs = search needs

@@ -8,11 +8,6 @@ use Rattle.table.proofs.Finds.{new-if-free, new-destroyed}
 use borrow.Author.Needs.{needs}
 use Rattle.table.proofs.new_place.Statement.{statement}
 use Rattle.table.proofs.new_place.Tie as tie
-use Rattle.table.proofs.new_place.Reads as reads
-use Rattle.table.proofs.new_place.Lts as lts
-use Rattle.table.proofs.destroyed_place.Reads as destroyed-place-reads
-use Rattle.table.proofs.free_place.Reads as free-place-reads
-use Rattle.table.proofs.is_nothing.Reads as is-nothing-reads
 
 free-place-requires : tie.Need-free-place-requires
 free-place-requires c κs = search needs

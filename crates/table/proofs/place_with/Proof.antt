@@ -9,9 +9,6 @@ use Rattle.table.specs.Search.{first, hasSerial}
 use Rattle.table.proofs.First.{left, left-start, left-end, left-yes, left-no}
 use Rattle.table.proofs.place_with.Statement.{statement}
 use Rattle.table.proofs.place_with.Tie as tie
-use Rattle.table.proofs.place_with.Reads as reads
-use Rattle.table.proofs.place_with.Lts as lts
-use Rattle.table.proofs.serial_at.Reads as serial-at-reads
 
 abbrev Inv-loop : tie.InvT-loop
 Inv-loop t n serial i₀ i = (i ≤ n) × (left n (hasSerial t serial) i ≡ first n (hasSerial t serial))

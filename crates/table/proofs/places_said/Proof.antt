@@ -4,9 +4,6 @@ use Rattle.table.specs.Records.{placesSaid}
 use borrow.Author.Needs.{needs}
 use Rattle.table.proofs.places_said.Statement.{statement}
 use Rattle.table.proofs.places_said.Tie as tie
-use Rattle.table.proofs.places_said.Reads as reads
-use Rattle.table.proofs.places_said.Lts as lts
-use Rattle.octets.proofs.number_at.Reads as number-at-reads
 
 number-at-requires : tie.Need-number-at-requires
 number-at-requires c κs = search needs

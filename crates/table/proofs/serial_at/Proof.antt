@@ -4,10 +4,6 @@ use Rattle.table.specs.Records.{serialAt}
 use borrow.Author.Needs.{needs}
 use Rattle.table.proofs.serial_at.Statement.{statement}
 use Rattle.table.proofs.serial_at.Tie as tie
-use Rattle.table.proofs.serial_at.Reads as reads
-use Rattle.table.proofs.serial_at.Lts as lts
-use Rattle.table.proofs.Layout.line.Reads as line-reads
-use Rattle.octets.proofs.number_at.Reads as number-at-reads
 
 line-requires : tie.Need-line-requires
 line-requires c κs = search needs

@@ -4,9 +4,6 @@ use Rattle.table.specs.Records.{withLast}
 use borrow.Author.Needs.{needs}
 use Rattle.table.proofs.set_last_serial.Statement.{statement}
 use Rattle.table.proofs.set_last_serial.Tie as tie
-use Rattle.table.proofs.set_last_serial.Reads as reads
-use Rattle.table.proofs.set_last_serial.Lts as lts
-use Rattle.octets.proofs.put.Reads as put-reads
 
 put-requires : tie.Need-put-requires
 put-requires c κs = search needs

@@ -5,9 +5,6 @@ use lib.ListN.{length}
 use borrow.Author.Needs.{needs}
 use Rattle.treelib.proofs.print_bytes.Statement.{statement}
 use Rattle.treelib.proofs.print_bytes.Tie as tie
-use Rattle.treelib.proofs.print_bytes.Reads as reads
-use Rattle.treelib.proofs.print_bytes.Lts as lts
-use Rattle.treelib.proofs.print_byte.Reads as print-byte-reads
 
 abbrev Inv-loop : tie.InvT-loop
 Inv-loop s k₀ k = k ≤ length s

@@ -4,9 +4,6 @@ use Prim.Native.Nat.{_≤_, _-_}
 use borrow.Author.Needs.{needs}
 use Rattle.treelib.proofs.print_indent.Statement.{statement}
 use Rattle.treelib.proofs.print_indent.Tie as tie
-use Rattle.treelib.proofs.print_indent.Reads as reads
-use Rattle.treelib.proofs.print_indent.Lts as lts
-use Rattle.io.proofs.write_all.Reads as write-all-reads
 
 abbrev Inv-loop : tie.InvT-loop
 Inv-loop depth k₀ t3 k = depth ≤ k

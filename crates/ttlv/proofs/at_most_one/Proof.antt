@@ -10,9 +10,6 @@ use Rattle.ttlv.proofs.Small.{small-none, small-no, small-last}
 use borrow.Author.Needs.{needs}
 use Rattle.ttlv.proofs.at_most_one.Statement.{statement}
 use Rattle.ttlv.proofs.at_most_one.Tie as tie
-use Rattle.ttlv.proofs.at_most_one.Reads as reads
-use Rattle.ttlv.proofs.at_most_one.Lts as lts
-use Rattle.octets.proofs.all_zero.Reads as all-zero-reads
 
 returns : tie.Need-returns
 returns c = sym (small-none (c .before .before .args .v .now) (c .if1 .taken))

@@ -6,9 +6,6 @@ use Rattle.ttlv.proofs.Found.{no-group-first, other-group, wanted-group
 use borrow.Author.Needs.{needs}
 use Rattle.ttlv.proofs.body_field.Statement.{statement}
 use Rattle.ttlv.proofs.body_field.Tie as tie
-use Rattle.ttlv.proofs.body_field.Reads as reads
-use Rattle.ttlv.proofs.body_field.Lts as lts
-use Rattle.ttlv.proofs.read_first.Reads as read-first-reads
 
 read-first-requires : tie.Need-read-first-requires
 read-first-requires c κs = search needs

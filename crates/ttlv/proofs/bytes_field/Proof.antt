@@ -6,9 +6,6 @@ use Rattle.ttlv.proofs.Found.{no-value-first, other-tag, other-kind, wa
 use borrow.Author.Needs.{needs}
 use Rattle.ttlv.proofs.bytes_field.Statement.{statement}
 use Rattle.ttlv.proofs.bytes_field.Tie as tie
-use Rattle.ttlv.proofs.bytes_field.Reads as reads
-use Rattle.ttlv.proofs.bytes_field.Lts as lts
-use Rattle.ttlv.proofs.read_first.Reads as read-first-reads
 
 read-first-requires : tie.Need-read-first-requires
 read-first-requires c κs = search needs

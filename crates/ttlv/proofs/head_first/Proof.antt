@@ -13,11 +13,6 @@ use Rattle.ttlv.proofs.Turns.{whole}
 use borrow.Author.Needs.{needs}
 use Rattle.ttlv.proofs.head_first.Statement.{statement}
 use Rattle.ttlv.proofs.head_first.Tie as tie
-use Rattle.ttlv.proofs.head_first.Reads as reads
-use Rattle.ttlv.proofs.head_first.Lts as lts
-use Rattle.ttlv.proofs.length_ok.Reads as length-ok-reads
-use Rattle.ttlv.proofs.padding_clear.Reads as padding-clear-reads
-use Rattle.ttlv.proofs.value_ok.Reads as value-ok-reads
 
 length-ok-requires : tie.Need-length-ok-requires
 length-ok-requires c κs = search needs

@@ -9,8 +9,6 @@ use Rattle.ttlv.specs.Types.{longInteger, boolean, dateTime, dateTimeExt
 use Rattle.octets.proofs.Bools.{or-first, or-second}
 use Rattle.ttlv.proofs.is_long.Statement.{statement}
 use Rattle.ttlv.proofs.is_long.Tie as tie
-use Rattle.ttlv.proofs.is_long.Reads as reads
-use Rattle.ttlv.proofs.is_long.Lts as lts
 
 returns : tie.Need-returns
 returns c =

@@ -11,10 +11,6 @@ use Rattle.ttlv.proofs.One.{one-end, one-bad, one-value, one-group}
 use borrow.Author.Needs.{needs}
 use Rattle.ttlv.proofs.is_message.Statement.{statement}
 use Rattle.ttlv.proofs.is_message.Tie as tie
-use Rattle.ttlv.proofs.is_message.Reads as reads
-use Rattle.ttlv.proofs.is_message.Lts as lts
-use Rattle.ttlv.proofs.check.Reads as check-reads
-use Rattle.ttlv.proofs.read_first.Reads as read-first-reads
 
 read-first-requires : tie.Need-read-first-requires
 read-first-requires c κs = search needs

@@ -9,8 +9,6 @@ use Rattle.ttlv.specs.Types.{integer, enumeration, interval}
 use Rattle.octets.proofs.Bools.{or-first, or-second}
 use Rattle.ttlv.proofs.is_word.Statement.{statement}
 use Rattle.ttlv.proofs.is_word.Tie as tie
-use Rattle.ttlv.proofs.is_word.Reads as reads
-use Rattle.ttlv.proofs.is_word.Lts as lts
 
 returns : tie.Need-returns
 returns c =

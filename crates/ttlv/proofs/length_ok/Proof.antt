@@ -11,10 +11,6 @@ use Rattle.octets.proofs.Bools.{and-second, and-no, or-first, or-second}
 use borrow.Author.Needs.{needs}
 use Rattle.ttlv.proofs.length_ok.Statement.{statement}
 use Rattle.ttlv.proofs.length_ok.Tie as tie
-use Rattle.ttlv.proofs.length_ok.Reads as reads
-use Rattle.ttlv.proofs.length_ok.Lts as lts
-use Rattle.ttlv.proofs.is_long.Reads as is-long-reads
-use Rattle.ttlv.proofs.is_word.Reads as is-word-reads
 
 -- the definition, test by test
 module _ (kind n : ℕ) where

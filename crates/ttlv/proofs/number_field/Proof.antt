@@ -11,10 +11,6 @@ use Rattle.ttlv.proofs.Found.{bytes-ends}
 use borrow.Author.Needs.{needs}
 use Rattle.ttlv.proofs.number_field.Statement.{statement}
 use Rattle.ttlv.proofs.number_field.Tie as tie
-use Rattle.ttlv.proofs.number_field.Reads as reads
-use Rattle.ttlv.proofs.number_field.Lts as lts
-use Rattle.octets.proofs.number.Reads as number-reads
-use Rattle.ttlv.proofs.bytes_field.Reads as bytes-field-reads
 
 bytes-field-requires : tie.Need-bytes-field-requires
 bytes-field-requires c κs = search needs

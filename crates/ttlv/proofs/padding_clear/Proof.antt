@@ -8,9 +8,6 @@ use Rattle.ttlv.proofs.Padding.{no-padding, padding-left}
 use borrow.Author.Needs.{needs}
 use Rattle.ttlv.proofs.padding_clear.Statement.{statement}
 use Rattle.ttlv.proofs.padding_clear.Tie as tie
-use Rattle.ttlv.proofs.padding_clear.Reads as reads
-use Rattle.ttlv.proofs.padding_clear.Lts as lts
-use Rattle.octets.proofs.number.Reads as number-reads
 
 returns : tie.Need-returns
 returns c =

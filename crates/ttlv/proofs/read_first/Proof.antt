@@ -11,10 +11,6 @@ use Rattle.ttlv.proofs.Eight.{eight-part, eight-below}
 use borrow.Author.Needs.{needs}
 use Rattle.ttlv.proofs.read_first.Statement.{statement}
 use Rattle.ttlv.proofs.read_first.Tie as tie
-use Rattle.ttlv.proofs.read_first.Reads as reads
-use Rattle.ttlv.proofs.read_first.Lts as lts
-use Rattle.octets.proofs.number.Reads as number-reads
-use Rattle.ttlv.proofs.head_first.Reads as head-first-reads
 
 returns : tie.Need-returns
 returns c =

@@ -9,10 +9,6 @@ use Rattle.ttlv.proofs.Starts.{starts-short, starts-other, starts-end, 
 use borrow.Author.Needs.{needs}
 use Rattle.ttlv.proofs.starts_with.Statement.{statement}
 use Rattle.ttlv.proofs.starts_with.Tie as tie
-use Rattle.ttlv.proofs.starts_with.Reads as reads
-use Rattle.ttlv.proofs.starts_with.Lts as lts
-use Rattle.octets.proofs.number.Reads as number-reads
-use Rattle.ttlv.proofs.read_first.Reads as read-first-reads
 
 returns : tie.Need-returns
 returns c = sym (starts-short (c .before .before .args .s .now) (c .before .before .args .tag) (c .if1 .taken))

@@ -14,8 +14,6 @@ use Rattle.octets.proofs.All.{all-go, all-stop, all-end}
 use borrow.Author.Needs.{needs}
 use Rattle.ttlv.proofs.text_ok.Statement.{statement}
 use Rattle.ttlv.proofs.text_ok.Tie as tie
-use Rattle.ttlv.proofs.text_ok.Reads as reads
-use Rattle.ttlv.proofs.text_ok.Lts as lts
 
 below-text : (x : ℕ) → x < 0x20 → isTextByte x ≡ false
 below-text x h = and-no (leb 0x20 x) (leb x 0x7E) (lt-leb 0x20 x h)

@@ -7,10 +7,6 @@ use Rattle.ttlv.specs.Types.{boolean, textString, valueOk}
 use borrow.Author.Needs.{needs}
 use Rattle.ttlv.proofs.value_ok.Statement.{statement}
 use Rattle.ttlv.proofs.value_ok.Tie as tie
-use Rattle.ttlv.proofs.value_ok.Reads as reads
-use Rattle.ttlv.proofs.value_ok.Lts as lts
-use Rattle.ttlv.proofs.at_most_one.Reads as at-most-one-reads
-use Rattle.ttlv.proofs.text_ok.Reads as text-ok-reads
 
 at-most-one-requires : tie.Need-at-most-one-requires
 at-most-one-requires c κs = search needs

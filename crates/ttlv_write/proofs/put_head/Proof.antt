@@ -6,9 +6,6 @@ use Rattle.ttlv_write.proofs.Puts.{head-puts}
 use borrow.Author.Needs.{needs}
 use Rattle.ttlv_write.proofs.put_head.Statement.{statement}
 use Rattle.ttlv_write.proofs.put_head.Tie as tie
-use Rattle.ttlv_write.proofs.put_head.Reads as reads
-use Rattle.ttlv_write.proofs.put_head.Lts as lts
-use Rattle.octets.proofs.put.Reads as put-reads
 
 add-put : tie.Need-add-put
 add-put c = search needs

@@ -7,10 +7,6 @@ use Rattle.ttlv_write.proofs.Puts.{wrote-right, wrote-wrong}
 use borrow.Author.Needs.{needs}
 use Rattle.ttlv_write.proofs.write_big_integer.Statement.{statement}
 use Rattle.ttlv_write.proofs.write_big_integer.Tie as tie
-use Rattle.ttlv_write.proofs.write_big_integer.Reads as reads
-use Rattle.ttlv_write.proofs.write_big_integer.Lts as lts
-use Rattle.ttlv.proofs.length_ok.Reads as length-ok-reads
-use Rattle.ttlv_write.proofs.write_value.Reads as write-value-reads
 
 length-ok-requires : tie.Need-length-ok-requires
 length-ok-requires c κs = search needs

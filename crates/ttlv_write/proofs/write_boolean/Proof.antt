@@ -6,9 +6,6 @@ use Rattle.ttlv_write.specs.Write.{bit}
 use borrow.Author.Needs.{needs}
 use Rattle.ttlv_write.proofs.write_boolean.Statement.{statement}
 use Rattle.ttlv_write.proofs.write_boolean.Tie as tie
-use Rattle.ttlv_write.proofs.write_boolean.Reads as reads
-use Rattle.ttlv_write.proofs.write_boolean.Lts as lts
-use Rattle.ttlv_write.proofs.write_number.Reads as write-number-reads
 
 write-number-requires : tie.Need-write-number-requires
 write-number-requires c κs = search needs

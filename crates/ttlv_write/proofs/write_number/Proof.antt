@@ -2,7 +2,6 @@
 -- Assumes nothing.
 use Prim.Native.Nat.{_≤_, _-_}
 use native.Mathlib.Omega.{arith}
-use mathlib.Core.Path.{_≡_}
 use lib.ListN.{length}
 use borrow.Author.Tests.{le-leb, lt-leb}
 use Rattle.octets.specs.Octets.{be}
@@ -13,10 +12,6 @@ use Rattle.ttlv_write.proofs.Puts.{wrote-value, wrote-none}
 use borrow.Author.Needs.{needs}
 use Rattle.ttlv_write.proofs.write_number.Statement.{statement}
 use Rattle.ttlv_write.proofs.write_number.Tie as tie
-use Rattle.ttlv_write.proofs.write_number.Reads as reads
-use Rattle.ttlv_write.proofs.write_number.Lts as lts
-use Rattle.octets.proofs.put.Reads as put-reads
-use Rattle.ttlv_write.proofs.put_head.Reads as put-head-reads
 
 returns : tie.Need-returns
 returns c =

@@ -14,10 +14,6 @@ use Rattle.ttlv_write.proofs.Puts.{wrote-all, wrote-none}
 use borrow.Author.Needs.{needs}
 use Rattle.ttlv_write.proofs.write_structure.Statement.{statement}
 use Rattle.ttlv_write.proofs.write_structure.Tie as tie
-use Rattle.ttlv_write.proofs.write_structure.Reads as reads
-use Rattle.ttlv_write.proofs.write_structure.Lts as lts
-use Rattle.ttlv.proofs.length_ok.Reads as length-ok-reads
-use Rattle.ttlv_write.proofs.put_head.Reads as put-head-reads
 
 returns : tie.Need-returns
 returns c =

@@ -7,10 +7,6 @@ use Rattle.ttlv_write.proofs.Puts.{wrote-right, wrote-wrong}
 use borrow.Author.Needs.{needs}
 use Rattle.ttlv_write.proofs.write_text.Statement.{statement}
 use Rattle.ttlv_write.proofs.write_text.Tie as tie
-use Rattle.ttlv_write.proofs.write_text.Reads as reads
-use Rattle.ttlv_write.proofs.write_text.Lts as lts
-use Rattle.ttlv.proofs.text_ok.Reads as text-ok-reads
-use Rattle.ttlv_write.proofs.write_value.Reads as write-value-reads
 
 text-ok-requires : tie.Need-text-ok-requires
 text-ok-requires c κs = search needs

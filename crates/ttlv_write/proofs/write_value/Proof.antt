@@ -1,9 +1,9 @@
 -- `ttlv_write::write_value`. The head, the value and its padding, one behind the other.
 -- Assumes nothing.
-use Prim.Native.Nat.{_+_, _<_, _≤_}
+use Prim.Native.Nat.{_+_, _≤_}
 use native.Mathlib.Omega.{arith}
 use mathlib.Core.Path.{_≡_, refl}
-use mathlib.Core.Bool.{true, false, _&&_}
+use mathlib.Core.Bool.{true, false}
 use lib.ListN.{length}
 use borrow.Author.Tests.{le-leb, lt-leb, lt-ltb, le-ltb}
 use Rattle.ttlv.specs.Types.{padded}
@@ -13,11 +13,6 @@ use Rattle.ttlv_write.proofs.Puts.{wrote-value, wrote-none}
 use borrow.Author.Needs.{needs}
 use Rattle.ttlv_write.proofs.write_value.Statement.{statement}
 use Rattle.ttlv_write.proofs.write_value.Tie as tie
-use Rattle.ttlv_write.proofs.write_value.Reads as reads
-use Rattle.ttlv_write.proofs.write_value.Lts as lts
-use Rattle.octets.proofs.put.Reads as put-reads
-use Rattle.octets.proofs.put_all.Reads as put-all-reads
-use Rattle.ttlv_write.proofs.put_head.Reads as put-head-reads
 
 returns : tie.Need-returns
 returns c =

@@ -6,11 +6,6 @@ use lib.Seq.{length-take-le}
 use borrow.Author.Needs.{needs}
 use Rattle.cardslib.proofs.print.answer.Statement.{statement}
 use Rattle.cardslib.proofs.print.answer.Tie as tie
-use Rattle.cardslib.proofs.print.answer.Reads as reads
-use Rattle.cardslib.proofs.print.answer.Lts as lts
-use Rattle.cardslib.proofs.print.bytes.Reads as bytes-reads
-use Rattle.io.proofs.print_decimal.Reads as print-decimal-reads
-use Rattle.io.proofs.write_all.Reads as write-all-reads
 
 slice-aggregate-write-all : tie.Need-slice-aggregate-write-all
 slice-aggregate-write-all c = search needs

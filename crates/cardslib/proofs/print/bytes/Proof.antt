@@ -6,10 +6,6 @@ use lib.ListN.{length}
 use borrow.Author.Needs.{needs}
 use Rattle.cardslib.proofs.print.bytes.Statement.{statement}
 use Rattle.cardslib.proofs.print.bytes.Tie as tie
-use Rattle.cardslib.proofs.print.bytes.Reads as reads
-use Rattle.cardslib.proofs.print.bytes.Lts as lts
-use Rattle.cardslib.proofs.print.byte.Reads as byte-reads
-use Rattle.io.proofs.write_all.Reads as write-all-reads
 
 abbrev Inv-loop : tie.InvT-loop
 Inv-loop s i₀ t3 i-end i = (i-end ≡ length s) × (i ≤ i-end)

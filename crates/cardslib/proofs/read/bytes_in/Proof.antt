@@ -7,10 +7,6 @@ use lib.ListN.{length, length-set}
 use borrow.Author.Needs.{needs}
 use Rattle.cardslib.proofs.read.bytes_in.Statement.{statement}
 use Rattle.cardslib.proofs.read.bytes_in.Tie as tie
-use Rattle.cardslib.proofs.read.bytes_in.Reads as reads
-use Rattle.cardslib.proofs.read.bytes_in.Lts as lts
-use Rattle.cardslib.proofs.read.bad.Reads as bad-reads
-use Rattle.cardslib.proofs.read.pair.Reads as pair-reads
 
 abbrev Inv-loop : tie.InvT-loop
 Inv-loop s out₀ n₀ i₀ out n i = (length out ≡ length out₀) × ((n ≤ length out) × (i ≤ length s))

@@ -5,8 +5,6 @@ use lib.ListN.{length}
 use borrow.Author.Needs.{needs}
 use Rattle.cardslib.proofs.read.find.Statement.{statement}
 use Rattle.cardslib.proofs.read.find.Tie as tie
-use Rattle.cardslib.proofs.read.find.Reads as reads
-use Rattle.cardslib.proofs.read.find.Lts as lts
 
 abbrev Inv-loop : tie.InvT-loop
 Inv-loop s b i₀ i = i ≤ length s

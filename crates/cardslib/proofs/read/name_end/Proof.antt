@@ -5,8 +5,6 @@ use lib.ListN.{length}
 use borrow.Author.Needs.{needs}
 use Rattle.cardslib.proofs.read.name_end.Statement.{statement}
 use Rattle.cardslib.proofs.read.name_end.Tie as tie
-use Rattle.cardslib.proofs.read.name_end.Reads as reads
-use Rattle.cardslib.proofs.read.name_end.Lts as lts
 
 abbrev Inv-loop : tie.InvT-loop
 Inv-loop s i₀ i = 1 ≤ i

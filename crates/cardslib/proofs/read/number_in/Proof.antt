@@ -5,9 +5,6 @@ use lib.ListN.{length}
 use borrow.Author.Needs.{needs}
 use Rattle.cardslib.proofs.read.number_in.Statement.{statement}
 use Rattle.cardslib.proofs.read.number_in.Tie as tie
-use Rattle.cardslib.proofs.read.number_in.Reads as reads
-use Rattle.cardslib.proofs.read.number_in.Lts as lts
-use Rattle.cardslib.proofs.read.digit.Reads as digit-reads
 
 abbrev Inv-loop : tie.InvT-loop
 Inv-loop s n₀ i₀ n i = i ≤ length s

@@ -6,8 +6,6 @@ use lib.ListN.{length}
 use borrow.Author.Needs.{needs}
 use Rattle.cardslib.proofs.read.same.Statement.{statement}
 use Rattle.cardslib.proofs.read.same.Tie as tie
-use Rattle.cardslib.proofs.read.same.Reads as reads
-use Rattle.cardslib.proofs.read.same.Lts as lts
 
 abbrev Inv-loop : tie.InvT-loop
 Inv-loop a b i₀ i = (length a ≡ length b) × (i ≤ length a)

@@ -6,11 +6,6 @@ use lib.Seq.{length-take-le}
 use borrow.Author.Needs.{needs}
 use Rattle.cardslib.proofs.read.span_in.Statement.{statement}
 use Rattle.cardslib.proofs.read.span_in.Tie as tie
-use Rattle.cardslib.proofs.read.span_in.Reads as reads
-use Rattle.cardslib.proofs.read.span_in.Lts as lts
-use Rattle.cardslib.proofs.read.find.Reads as find-reads
-use Rattle.cardslib.proofs.read.number_in.Reads as number-in-reads
-use Rattle.cardslib.proofs.read.past.Reads as past-reads
 
 find-requires : tie.Need-find-requires
 find-requires c κs = search needs
