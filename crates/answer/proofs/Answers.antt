@@ -13,8 +13,8 @@ use Rattle.octets.specs.If.{ifb}
 use Rattle.octets.specs.Maybe.{_>>=_, _>>_}
 use Rattle.octets.specs.Octets.{all}
 use Rattle.ttlv.specs.Types.{integer, enumeration, byteString, dateTime}
-use Rattle.ttlv.specs.Items.{Items, nil, value, group}
-use Rattle.ttlv.specs.Fields.{startsWith, ended, bytesOf, bodyOf, optional}
+use Rattle.ttlv.specs.Items.{Items, nil, value, group, ended}
+use Rattle.fields.specs.Fields.{startsWith, bytesOf, bodyOf, optional}
 use Rattle.octets.proofs.Bools.{both, and-i}
 use Rattle.frame.specs.Tags.{batchCount, batchItem, operationTag, protocolVersion, protocolVersionMajor, protocolVersionMinor, uniqueBatchItemId}
 use Rattle.frame.specs.Frame.{idMost, idOk, idBytes, batchMost}

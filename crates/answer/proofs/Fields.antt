@@ -14,8 +14,8 @@ use Rattle.octets.specs.Octets.{be, fromBe}
 use Rattle.octets.proofs.If.{on-if}
 use Rattle.octets.proofs.Numbers.{fromBe-be}
 use Rattle.ttlv.specs.Types.{textString}
-use Rattle.ttlv.specs.Items.{Items, nil, value, group}
-use Rattle.ttlv.specs.Fields.{startsWith, ended, bytesOf, bodyOf, optional}
+use Rattle.ttlv.specs.Items.{Items, nil, value, group, ended}
+use Rattle.fields.specs.Fields.{startsWith, bytesOf, bodyOf, optional}
 use Rattle.octets.proofs.Bools.{both}
 use Rattle.identifier.specs.Identifier.{identifier, serialOf}
 use Rattle.identifier.proofs.Texts.{serial-back, serial-spells}

@@ -11,8 +11,8 @@ use Rattle.octets.specs.If.{ifb}
 use Rattle.octets.specs.Maybe.{_>>=_, _>>_}
 use Rattle.octets.proofs.If.{ifb-true, ifb-false, on-bool}
 use Rattle.ttlv.specs.Types.{longInteger, enumeration}
-use Rattle.ttlv.specs.Items.{Items, nil, group}
-use Rattle.ttlv.specs.Fields.{startsWith, ended, bodyOf, optional}
+use Rattle.ttlv.specs.Items.{Items, nil, group, ended}
+use Rattle.fields.specs.Fields.{startsWith, bodyOf, optional}
 use Rattle.octets.proofs.Bools.{both}
 use Rattle.payload.specs.Tags.{usageLimits, usageLimitsCount, usageLimitsTotal, usageLimitsUnit}
 use Rattle.values.specs.Values.{unitOk, totalOk}

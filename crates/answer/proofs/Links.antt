@@ -11,8 +11,8 @@ use Rattle.octets.specs.If.{ifb}
 use Rattle.octets.specs.Maybe.{_>>=_, _>>_}
 use Rattle.octets.proofs.If.{ifb-true, ifb-false, on-if, on-bool}
 use Rattle.ttlv.specs.Types.{enumeration}
-use Rattle.ttlv.specs.Items.{Items, nil, group}
-use Rattle.ttlv.specs.Fields.{startsWith, ended, bodyOf}
+use Rattle.ttlv.specs.Items.{Items, nil, group, ended}
+use Rattle.fields.specs.Fields.{startsWith, bodyOf}
 use Rattle.octets.proofs.Bools.{and-i}
 use Rattle.payload.specs.Tags.{usageLimits}
 use Rattle.answer.specs.Tags.{link, linkType, linkedObjectIdentifier, replacedObjectLink, replacementObjectLink}

@@ -12,8 +12,8 @@ use Rattle.octets.specs.If.{ifb}
 use Rattle.octets.specs.Maybe.{_>>=_, _>>_}
 use Rattle.octets.proofs.If.{ifb-true, ifb-false, on-if, on-bool}
 use Rattle.ttlv.specs.Types.{enumeration}
-use Rattle.ttlv.specs.Items.{Items, nil}
-use Rattle.ttlv.specs.Fields.{ended, bodyOf}
+use Rattle.ttlv.specs.Items.{Items, nil, ended}
+use Rattle.fields.specs.Fields.{bodyOf}
 use Rattle.octets.proofs.Bools.{both}
 use Rattle.answer.specs.Tags.{responsePayload, resultReason, resultStatus}
 use Rattle.rules.specs.declared.Reason.{Reason}

@@ -10,8 +10,8 @@ use borrow.Author.Tests.{eqb-true, leb-true}
 use Rattle.octets.specs.If.{ifb}
 use Rattle.octets.specs.Maybe.{_>>=_, _>>_}
 use Rattle.ttlv.specs.Types.{integer, enumeration}
-use Rattle.ttlv.specs.Items.{Items, nil, group}
-use Rattle.ttlv.specs.Fields.{startsWith, ended, bodyOf}
+use Rattle.ttlv.specs.Items.{Items, nil, group, ended}
+use Rattle.fields.specs.Fields.{startsWith, bodyOf}
 use Rattle.octets.proofs.Bools.{both}
 use Rattle.payload.specs.Tags.{attributes, cryptographicAlgorithm, cryptographicLength, cryptographicUsageMask, objectType, uniqueIdentifier, usageLimits, symmetricKey, aes}
 use Rattle.answer.specs.Tags.{stateTag, replacedObjectLink, replacementObjectLink}

@@ -11,9 +11,9 @@ use Rattle.octets.specs.If.{ifb}
 use Rattle.octets.specs.Maybe.{_>>=_, _>>_, isSome}
 use Rattle.octets.specs.Octets.{be, fromBeAfter, fromBe, all, same}
 use Rattle.ttlv.specs.Types.{lengthOk, text, valueOk}
-use Rattle.ttlv.specs.Items.{encode, itemOk, wellFormed}
+use Rattle.ttlv.specs.Items.{encode, itemOk, wellFormed, ended}
 use Rattle.ttlv.specs.Parse.{headed, firstOf, putValue, putGroup, more, walk, parse, isOne, message}
-use Rattle.ttlv.specs.Fields.{startsWith, ended, bytesOf, bodyOf, numberOf, optional}
+use Rattle.fields.specs.Fields.{startsWith, bytesOf, bodyOf, numberOf, optional}
 use Rattle.identifier.specs.Identifier.{digits, identifier, fromDigitsAfter, serialOf}
 use Rattle.frame.specs.Frame.{versionIn, headerIn, idOk, idBytes, itemIn, itemsIn, frameIn, optionOf, framing, framed}
 use Rattle.answer.specs.Respond.{limitItems, linkItems, attributeItems, outcomeItems, idItems, answerItems, batchItems, versionItems, headerItems, respond}

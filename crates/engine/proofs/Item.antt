@@ -11,7 +11,7 @@ use lib.Seq.{take-at, take-all}
 use Rattle.octets.specs.Maybe.{isSome}
 use Rattle.ttlv.specs.Items.{nil, group}
 use Rattle.ttlv.specs.Tree.{isRun, treeOf}
-use Rattle.ttlv.proofs.Lift.{cut-tree}
+use Rattle.fields.proofs.Lift.{cut-tree}
 use Rattle.ttlv_write.specs.Write.{Holds}
 use Rattle.table.specs.Layout.{placeCount}
 use Rattle.frame.specs.declared.ItemId.{ItemId}

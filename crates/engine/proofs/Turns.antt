@@ -18,9 +18,9 @@ use Rattle.octets.proofs.Over.{lent-length}
 use Rattle.ttlv.specs.Items.{encode}
 use Rattle.ttlv.specs.Tree.{isRun, treeOf}
 use Rattle.ttlv.specs.Parse.{firstOf}
-use Rattle.ttlv.specs.Found.{bodyIn, bodyAt}
-use Rattle.ttlv.specs.declared.BodyField.{BodyField}
-use Rattle.ttlv.specs.declared.BodyField.the-variants.{Body, NoBody}
+use Rattle.fields.specs.Found.{bodyIn, bodyAt}
+use Rattle.fields.specs.declared.BodyField.{BodyField}
+use Rattle.fields.specs.declared.BodyField.the-variants.{Body, NoBody}
 use Rattle.ttlv_write.specs.Write.{Holds}
 use Rattle.ttlv_write.proofs.Holds.{holds-none, holds-then}
 use Rattle.table.specs.Layout.{placeCount, sizeOf, materialSize}

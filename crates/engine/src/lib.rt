@@ -1,6 +1,6 @@
 // The engine: the refusal ladder, the batch, and `serve`, which joins them.
 // `serve` asks nothing: bad input gets a refusal. What the functions below it ask, `serve` shows.
-use ttlv::BodyField;
+use fields::BodyField;
 ghost use mathlib.Core.Path.{_≡_};
 ghost use mathlib.Core.Bool.{true};
 ghost use Prim.Native.Nat.{ℕ, _+_, _≤_};
@@ -106,7 +106,7 @@ fn run_items(items: &[u8], table: &mut [u8], fresh: &[u8], option: u32, out: &mu
     let mut holder: u32 = 0;
     let mut at: usize = 0;
     loop {
-        let BodyField::Body { next } = ttlv::body_field(left, frame::BATCH_ITEM) else {
+        let BodyField::Body { next } = fields::body_field(left, frame::BATCH_ITEM) else {
             return BatchDone {
                 count: i as u32,
                 used: at,

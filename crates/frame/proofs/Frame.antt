@@ -13,19 +13,19 @@ use borrow.Author.Tests.{eqb-true, eqb-false, eq-eqb, ne-eqb, leb-true}
 use Rattle.octets.specs.Maybe.{_>>=_, _>>_, isSome}
 use Rattle.octets.specs.Octets.{part}
 use Rattle.octets.proofs.If.{ifb-true, ifb-false, on-bool}
-use Rattle.ttlv.specs.Items.{Items}
+use Rattle.ttlv.specs.Items.{Items, ended}
 use Rattle.ttlv.specs.Parse.{parse, message}
 use Rattle.ttlv.specs.Tree.{isRun, treeOf}
-use Rattle.ttlv.specs.Fields.{ended, bodyOf}
-use Rattle.ttlv.specs.Found.{bodyAt}
-use Rattle.ttlv.specs.declared.BodyField.{BodyField}
-use Rattle.ttlv.specs.declared.BodyField.the-variants.{Body, NoBody}
+use Rattle.fields.specs.Fields.{bodyOf}
+use Rattle.fields.specs.Found.{bodyAt}
+use Rattle.fields.specs.declared.BodyField.{BodyField}
+use Rattle.fields.specs.declared.BodyField.the-variants.{Body, NoBody}
 use Rattle.octets.proofs.Bools.{both}
 use Rattle.ttlv.proofs.Step.{rest}
-use Rattle.ttlv.proofs.Found.{body-first}
+use Rattle.fields.proofs.Found.{body-first}
 use Rattle.ttlv.proofs.One.{one-group}
 use Rattle.ttlv.proofs.Message.{message-tree}
-use Rattle.ttlv.proofs.Lift.{ended-lifts, body-rest, body-is-run}
+use Rattle.fields.proofs.Lift.{ended-lifts, body-rest, body-is-run}
 use Rattle.frame.specs.declared.HeaderRead.{HeaderRead}
 use Rattle.frame.specs.declared.HeaderRead.the-variants.{Read, NoHeader}
 use Rattle.frame.specs.declared.ItemsRead.the-variants.{Items as Counted, NoItems}
@@ -36,7 +36,7 @@ use Rattle.frame.specs.Frame.{Asked, Header, Frame, Request, Framed, ref
 use Rattle.frame.specs.Readers.{headerRead, itemsRead, bodyEnd, itemsAt, frameRead, framingIn, framingOf}
 use Rattle.frame.proofs.Items.{none-left}
 use Rattle.octets.proofs.Maybe.{not-some, some-is}
-use Rattle.ttlv.proofs.Runs.{tail, length-tail, run-behind, ended-yes, body-some, body-none}
+use Rattle.fields.proofs.Runs.{tail, length-tail, run-behind, ended-yes, body-some, body-none}
 
 -- ---- a message, its one structure and what is in it
 

@@ -13,17 +13,17 @@ use Rattle.octets.proofs.If.{ifb-true, ifb-false, on-bool}
 use Rattle.ttlv.specs.Types.{integer, enumeration}
 use Rattle.ttlv.specs.Items.{Items}
 use Rattle.ttlv.specs.Tree.{isRun, treeOf}
-use Rattle.ttlv.specs.Fields.{numberOf, optional}
-use Rattle.ttlv.specs.Found.{startsAt, numberAt, bodyAt}
-use Rattle.ttlv.specs.declared.NumberField.the-variants.{Number, NoNumber}
-use Rattle.ttlv.specs.declared.BodyField.the-variants.{Body, NoBody}
-use Rattle.ttlv.proofs.Lift.{number-rest, body-rest}
+use Rattle.fields.specs.Fields.{numberOf, optional}
+use Rattle.fields.specs.Found.{startsAt, numberAt, bodyAt}
+use Rattle.fields.specs.declared.NumberField.the-variants.{Number, NoNumber}
+use Rattle.fields.specs.declared.BodyField.the-variants.{Body, NoBody}
+use Rattle.fields.proofs.Lift.{number-rest, body-rest}
 use Rattle.frame.specs.declared.VersionRead.the-variants.{Version, NoVersion}
 use Rattle.frame.specs.declared.HeaderRead.the-variants.{Read}
 use Rattle.frame.specs.Tags.{batchCount, batchErrorContinuationOption, protocolVersion, protocolVersionMajor, protocolVersionMinor}
 use Rattle.frame.specs.Frame.{versionIn, headerIn, stop, optionOf}
 use Rattle.frame.specs.Readers.{versionRead, optionAt, headerRead}
-use Rattle.ttlv.proofs.Runs.{tail, tail-none, run-behind, ended-yes, ended-not, number-some, number-none, body-some, body-none, optional-there, optional-absent}
+use Rattle.fields.proofs.Runs.{tail, tail-none, run-behind, ended-yes, ended-not, number-some, number-none, body-some, body-none, optional-there, optional-absent}
 
 -- ---- the version
 

@@ -18,19 +18,19 @@ use Rattle.octets.proofs.Stores.{length-part, sets-over}
 use Rattle.ttlv.specs.Types.{enumeration, byteString}
 use Rattle.ttlv.specs.Items.{Items}
 use Rattle.ttlv.specs.Tree.{isRun, treeOf}
-use Rattle.ttlv.specs.Fields.{bytesOf, optional}
-use Rattle.ttlv.specs.Found.{startsAt, bytesAt, numberAt, bodyAt}
-use Rattle.ttlv.specs.declared.BytesField.{BytesField}
-use Rattle.ttlv.specs.declared.BytesField.the-variants.{Span, NoSpan}
-use Rattle.ttlv.specs.declared.NumberField.{NumberField}
-use Rattle.ttlv.specs.declared.NumberField.the-variants.{Number, NoNumber}
-use Rattle.ttlv.specs.declared.BodyField.{BodyField}
-use Rattle.ttlv.specs.declared.BodyField.the-variants.{Body, NoBody}
+use Rattle.fields.specs.Fields.{bytesOf, optional}
+use Rattle.fields.specs.Found.{startsAt, bytesAt, numberAt, bodyAt}
+use Rattle.fields.specs.declared.BytesField.{BytesField}
+use Rattle.fields.specs.declared.BytesField.the-variants.{Span, NoSpan}
+use Rattle.fields.specs.declared.NumberField.{NumberField}
+use Rattle.fields.specs.declared.NumberField.the-variants.{Number, NoNumber}
+use Rattle.fields.specs.declared.BodyField.{BodyField}
+use Rattle.fields.specs.declared.BodyField.the-variants.{Body, NoBody}
 use Rattle.octets.proofs.Bools.{both}
 use Rattle.ttlv.proofs.Step.{rest}
-use Rattle.ttlv.proofs.Found.{bytes-ends}
+use Rattle.fields.proofs.Found.{bytes-ends}
 use Rattle.ttlv.proofs.Tree.{Rest}
-use Rattle.ttlv.proofs.Lift.{bytes-rest, number-rest, body-rest, body-is-run, word-below}
+use Rattle.fields.proofs.Lift.{bytes-rest, number-rest, body-rest, body-is-run, word-below}
 use Rattle.frame.specs.declared.ItemId.{ItemId}
 use Rattle.frame.specs.declared.ItemParts.{ItemParts}
 use Rattle.frame.specs.declared.ItemRead.the-variants.{Item, NoItem}
@@ -39,7 +39,7 @@ use Rattle.frame.specs.Frame.{Asked, idMost, idOk, idBytes, itemIn}
 use Rattle.frame.specs.Readers.{numberEnd, bytesEnd, idSpan, idAt, operationEnd, payloadAt, itemRead, idOf, partsIn, partsOf}
 use Rattle.octets.proofs.Maybe.{not-some, some-is}
 use Rattle.octets.proofs.Zeros.{drop-zeros}
-use Rattle.ttlv.proofs.Runs.{tail, tail-none, length-tail, run-behind, ended-yes, ended-not, number-some, number-none, bytes-some, bytes-none, body-some, body-none, optional-there, optional-absent}
+use Rattle.fields.proofs.Runs.{tail, tail-none, length-tail, run-behind, ended-yes, ended-not, number-some, number-none, bytes-some, bytes-none, body-some, body-none, optional-there, optional-absent}
 
 -- ---- the ID
 

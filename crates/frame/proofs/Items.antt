@@ -15,23 +15,23 @@ use Rattle.octets.proofs.If.{ifb-true, on-bool}
 use Rattle.ttlv.specs.Items.{Items, nil, value, group}
 use Rattle.ttlv.specs.Parse.{firstOf}
 use Rattle.ttlv.specs.Tree.{isRun, treeOf}
-use Rattle.ttlv.specs.Found.{bodyIn, bodyAt}
+use Rattle.fields.specs.Found.{bodyIn, bodyAt}
 use Rattle.ttlv.specs.declared.First.{First}
 use Rattle.ttlv.specs.declared.First.the-variants.{End, Value, Group}
-use Rattle.ttlv.specs.declared.BodyField.{BodyField}
-use Rattle.ttlv.specs.declared.BodyField.the-variants.{Body, NoBody}
+use Rattle.fields.specs.declared.BodyField.{BodyField}
+use Rattle.fields.specs.declared.BodyField.the-variants.{Body, NoBody}
 use Rattle.ttlv.proofs.Step.{rest}
 use Rattle.ttlv.proofs.View.{empty, first-end}
-use Rattle.ttlv.proofs.Found.{body-first}
+use Rattle.fields.proofs.Found.{body-first}
 use Rattle.ttlv.proofs.Tree.{Tree, t-end, t-value, t-group, tree, tree-end, tree-group}
-use Rattle.ttlv.proofs.Lift.{body-rest, body-is-run}
+use Rattle.fields.proofs.Lift.{body-rest, body-is-run}
 use Rattle.frame.specs.declared.ItemsRead.{ItemsRead}
 use Rattle.frame.specs.declared.ItemsRead.the-variants.{Items as Counted, NoItems}
 use Rattle.frame.specs.Tags.{batchItem}
 use Rattle.frame.specs.Frame.{Asked, itemIn, itemsIn}
 use Rattle.frame.specs.Readers.{itemsRead}
 use Rattle.octets.proofs.Maybe.{not-some}
-use Rattle.ttlv.proofs.Runs.{tail}
+use Rattle.fields.proofs.Runs.{tail}
 
 -- ---- how many there are, n having been counted before
 

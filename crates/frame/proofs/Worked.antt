@@ -4,7 +4,7 @@ use mathlib.Core.Path.{_≡_, refl}
 use mathlib.Core.Option.{Option, none, some}
 use mathlib.Core.List.{[], _∷_}
 use Rattle.octets.specs.Hex.{hex}
-use Rattle.ttlv.specs.Items.{Items, nil}
+use Rattle.ttlv.specs.Items.{Items, nil, ended}
 use Rattle.frame.specs.Frame.{Framed, refused, asked}
 use Rattle.octets.specs.If.{ifb}
 use Rattle.octets.specs.Maybe.{_>>=_, _>>_, isSome}
@@ -12,7 +12,7 @@ use Rattle.octets.specs.Octets.{be, fromBeAfter, fromBe, all, same}
 use Rattle.ttlv.specs.Types.{lengthOk, text, valueOk}
 use Rattle.ttlv.specs.Items.{encode, itemOk, wellFormed}
 use Rattle.ttlv.specs.Parse.{headed, firstOf, putValue, putGroup, more, walk, parse, isOne, message}
-use Rattle.ttlv.specs.Fields.{startsWith, ended, bytesOf, bodyOf, numberOf, optional}
+use Rattle.fields.specs.Fields.{startsWith, bytesOf, bodyOf, numberOf, optional}
 use Rattle.frame.specs.Frame.{versionIn, headerIn, idOk, idBytes, itemIn, itemsIn, frameIn, optionOf, framing, framed}
 
 -- what bytes say as a frame; 5 where they are no item

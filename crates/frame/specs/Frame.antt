@@ -9,8 +9,8 @@ use lib.Dec.{leb, eqb}
 use Rattle.octets.specs.If.{ifb}
 use Rattle.octets.specs.Maybe.{_>>=_, _>>_}
 use Rattle.ttlv.specs.Types.{integer, enumeration, byteString}
-use Rattle.ttlv.specs.Items.{Items, nil, value, group}
-use Rattle.ttlv.specs.Fields.{ended, bytesOf, bodyOf, numberOf, optional}
+use Rattle.ttlv.specs.Items.{Items, nil, value, group, ended}
+use Rattle.fields.specs.Fields.{bytesOf, bodyOf, numberOf, optional}
 use Rattle.frame.specs.Tags.{batchCount, batchErrorContinuationOption, batchItem, operationTag, protocolVersion, protocolVersionMajor, protocolVersionMinor, requestHeader, requestMessage, requestPayload, uniqueBatchItemId}
 
 -- ---- what a frame says

@@ -9,13 +9,13 @@ use lib.Dec.{leb}
 use Rattle.octets.specs.If.{ifb}
 use Rattle.ttlv.specs.Types.{enumeration, byteString}
 use Rattle.ttlv.specs.Tree.{treeOf}
-use Rattle.ttlv.specs.Found.{startsAt, bytesAt, numberAt, bodyAt}
-use Rattle.ttlv.specs.declared.BytesField.{BytesField}
-use Rattle.ttlv.specs.declared.BytesField.the-variants.{Span, NoSpan}
-use Rattle.ttlv.specs.declared.NumberField.{NumberField}
-use Rattle.ttlv.specs.declared.NumberField.the-variants.{Number, NoNumber}
-use Rattle.ttlv.specs.declared.BodyField.{BodyField}
-use Rattle.ttlv.specs.declared.BodyField.the-variants.{Body, NoBody}
+use Rattle.fields.specs.Found.{startsAt, bytesAt, numberAt, bodyAt}
+use Rattle.fields.specs.declared.BytesField.{BytesField}
+use Rattle.fields.specs.declared.BytesField.the-variants.{Span, NoSpan}
+use Rattle.fields.specs.declared.NumberField.{NumberField}
+use Rattle.fields.specs.declared.NumberField.the-variants.{Number, NoNumber}
+use Rattle.fields.specs.declared.BodyField.{BodyField}
+use Rattle.fields.specs.declared.BodyField.the-variants.{Body, NoBody}
 use Rattle.frame.specs.declared.VersionRead.{VersionRead}
 use Rattle.frame.specs.declared.VersionRead.the-variants.{Version, NoVersion}
 use Rattle.frame.specs.declared.HeaderRead.{HeaderRead}

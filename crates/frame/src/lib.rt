@@ -1,8 +1,8 @@
 // The message frame of a request: header and batch items.
 // It knows TTLV by its items alone, and nothing of keys. A function that asks for a run of items is given one by the TTLV check, which every request passes first.
-use ttlv::BodyField;
-use ttlv::BytesField;
-use ttlv::NumberField;
+use fields::BodyField;
+use fields::BytesField;
+use fields::NumberField;
 ghost use mathlib.Core.Path.{_≡_};
 ghost use mathlib.Core.Bool.{true};
 ghost use Rattle.octets.specs.Maybe.{isSome};
@@ -124,7 +124,7 @@ fn read_version(s: &[u8]) -> VersionRead
     requires { ⌜ isRun (now s) ≡ true ⌝ }
     ensures { λ r. ⌜ r ≡ versionRead (versionIn (treeOf (now (s .entry)))) ⌝ }
 {
-    let NumberField::Number { value: major, next } = ttlv::number_field(
+    let NumberField::Number { value: major, next } = fields::number_field(
         s,
         PROTOCOL_VERSION_MAJOR,
         ttlv::INTEGER,
@@ -135,7 +135,7 @@ fn read_version(s: &[u8]) -> VersionRead
     let NumberField::Number {
         value: minor,
         next: end,
-    } = ttlv::number_field(t, PROTOCOL_VERSION_MINOR, ttlv::INTEGER)
+    } = fields::number_field(t, PROTOCOL_VERSION_MINOR, ttlv::INTEGER)
     else {
         return VersionRead::NoVersion;
     };
@@ -149,12 +149,12 @@ fn read_version(s: &[u8]) -> VersionRead
 fn read_option(s: &[u8]) -> NumberField
     ensures { λ r. ⌜ r ≡ optionAt (now (s .entry)) ⌝ }
 {
-    let NumberField::Number { value, next } = ttlv::number_field(
+    let NumberField::Number { value, next } = fields::number_field(
         s,
         BATCH_ERROR_CONTINUATION_OPTION,
         ttlv::ENUMERATION,
     ) else {
-        if ttlv::starts_with(s, BATCH_ERROR_CONTINUATION_OPTION) {
+        if fields::starts_with(s, BATCH_ERROR_CONTINUATION_OPTION) {
             return NumberField::NoNumber;
         }
         return NumberField::Number {
@@ -170,7 +170,7 @@ fn read_header(s: &[u8]) -> HeaderRead
     requires { ⌜ isRun (now s) ≡ true ⌝ }
     ensures { λ r. ⌜ r ≡ headerRead (headerIn (treeOf (now (s .entry)))) ⌝ }
 {
-    let BodyField::Body { next } = ttlv::body_field(s, PROTOCOL_VERSION) else {
+    let BodyField::Body { next } = fields::body_field(s, PROTOCOL_VERSION) else {
         return HeaderRead::NoHeader;
     };
     let VersionRead::Version { major, minor } = read_version(&s[8..next]) else {
@@ -188,7 +188,7 @@ fn read_header(s: &[u8]) -> HeaderRead
     let NumberField::Number {
         value: count,
         next: end,
-    } = ttlv::number_field(u, BATCH_COUNT, ttlv::INTEGER)
+    } = fields::number_field(u, BATCH_COUNT, ttlv::INTEGER)
     else {
         return HeaderRead::NoHeader;
     };
@@ -207,12 +207,12 @@ fn read_header(s: &[u8]) -> HeaderRead
 fn read_id(s: &[u8]) -> BytesField
     ensures { λ r. ⌜ r ≡ idAt (now (s .entry)) ⌝ }
 {
-    let BytesField::Span { len, next } = ttlv::bytes_field(
+    let BytesField::Span { len, next } = fields::bytes_field(
         s,
         UNIQUE_BATCH_ITEM_ID,
         ttlv::BYTE_STRING,
     ) else {
-        if ttlv::starts_with(s, UNIQUE_BATCH_ITEM_ID) {
+        if fields::starts_with(s, UNIQUE_BATCH_ITEM_ID) {
             return BytesField::NoSpan;
         }
         return BytesField::Span { len: 0, next: 0 };
@@ -234,7 +234,7 @@ fn find_item(body: &[u8]) -> ItemRead
     let NumberField::Number {
         value: operation,
         next,
-    } = ttlv::number_field(body, OPERATION, ttlv::ENUMERATION)
+    } = fields::number_field(body, OPERATION, ttlv::ENUMERATION)
     else {
         return ItemRead::NoItem;
     };
@@ -243,7 +243,7 @@ fn find_item(body: &[u8]) -> ItemRead
         return ItemRead::NoItem;
     };
     let u = &t[after..];
-    let BodyField::Body { next: end } = ttlv::body_field(u, REQUEST_PAYLOAD) else {
+    let BodyField::Body { next: end } = fields::body_field(u, REQUEST_PAYLOAD) else {
         return ItemRead::NoItem;
     };
     if end != u.len() {
@@ -282,7 +282,7 @@ fn count_items(s: &[u8]) -> ItemsRead
     let mut t = s;
     let mut count: usize = 0;
     while t.len() != 0 {
-        let BodyField::Body { next } = ttlv::body_field(t, BATCH_ITEM) else {
+        let BodyField::Body { next } = fields::body_field(t, BATCH_ITEM) else {
             return ItemsRead::NoItems;
         };
         if !item_ok(&t[8..next]) {
@@ -299,11 +299,11 @@ fn find_frame(request: &[u8]) -> FrameRead
     requires { ⌜ isSome (message (now request)) ≡ true ⌝ }
     ensures { λ r. ⌜ r ≡ frameRead (frameIn (treeOf (now (request .entry)))) (itemsAt (now (request .entry))) ⌝ }
 {
-    let BodyField::Body { next: _ } = ttlv::body_field(request, REQUEST_MESSAGE) else {
+    let BodyField::Body { next: _ } = fields::body_field(request, REQUEST_MESSAGE) else {
         return FrameRead::NoFrame;
     };
     let s = &request[8..];
-    let BodyField::Body { next } = ttlv::body_field(s, REQUEST_HEADER) else {
+    let BodyField::Body { next } = fields::body_field(s, REQUEST_HEADER) else {
         return FrameRead::NoFrame;
     };
     let HeaderRead::Read {

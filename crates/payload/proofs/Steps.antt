@@ -12,16 +12,16 @@ use borrow.Author.Tests.{eqb-true, eqb-false}
 use Rattle.octets.specs.Maybe.{_>>=_, _>>_}
 use Rattle.octets.specs.Octets.{part}
 use Rattle.octets.proofs.If.{ifb-true, ifb-false, on-bool}
-use Rattle.ttlv.specs.Items.{Items}
+use Rattle.ttlv.specs.Items.{Items, ended}
 use Rattle.ttlv.specs.Tree.{isRun, treeOf}
-use Rattle.ttlv.specs.Fields.{ended, bodyOf, numberOf}
-use Rattle.ttlv.specs.Found.{numberAt, bodyAt}
-use Rattle.ttlv.specs.declared.NumberField.{NumberField}
-use Rattle.ttlv.specs.declared.NumberField.the-variants.{Number, NoNumber}
-use Rattle.ttlv.specs.declared.BodyField.{BodyField}
-use Rattle.ttlv.specs.declared.BodyField.the-variants.{Body, NoBody}
-use Rattle.ttlv.proofs.Lift.{isNumber, number-rest, body-rest, body-is-run}
-use Rattle.ttlv.proofs.Runs.{tail, run-behind, ended-yes, ended-not, number-some, number-none, body-some, body-none}
+use Rattle.fields.specs.Fields.{bodyOf, numberOf}
+use Rattle.fields.specs.Found.{numberAt, bodyAt}
+use Rattle.fields.specs.declared.NumberField.{NumberField}
+use Rattle.fields.specs.declared.NumberField.the-variants.{Number, NoNumber}
+use Rattle.fields.specs.declared.BodyField.{BodyField}
+use Rattle.fields.specs.declared.BodyField.the-variants.{Body, NoBody}
+use Rattle.fields.proofs.Lift.{isNumber, number-rest, body-rest, body-is-run}
+use Rattle.fields.proofs.Runs.{tail, run-behind, ended-yes, ended-not, number-some, number-none, body-some, body-none}
 use Rattle.payload.specs.Readers.{lastNumber, onlyNumberAt, lastBody, onlyBodyAt}
 
 -- ---- steps that give something or nothing

@@ -13,17 +13,17 @@ use Rattle.octets.specs.Maybe.{_>>=_, _>>_}
 use Rattle.octets.specs.Octets.{part}
 use Rattle.octets.proofs.If.{ifb-true, ifb-false, on-bool}
 use Rattle.ttlv.specs.Types.{longInteger, enumeration, textString}
-use Rattle.ttlv.specs.Items.{Items}
+use Rattle.ttlv.specs.Items.{Items, ended}
 use Rattle.ttlv.specs.Tree.{isRun, treeOf}
-use Rattle.ttlv.specs.Fields.{ended, bytesOf, numberOf}
-use Rattle.ttlv.specs.Found.{startsAt, bytesAt}
-use Rattle.ttlv.specs.declared.BytesField.{BytesField}
-use Rattle.ttlv.specs.declared.BytesField.the-variants.{Span, NoSpan}
-use Rattle.ttlv.specs.declared.NumberField.the-variants.{Number, NoNumber}
-use Rattle.ttlv.specs.declared.BodyField.the-variants.{Body, NoBody}
+use Rattle.fields.specs.Fields.{bytesOf, numberOf}
+use Rattle.fields.specs.Found.{startsAt, bytesAt}
+use Rattle.fields.specs.declared.BytesField.{BytesField}
+use Rattle.fields.specs.declared.BytesField.the-variants.{Span, NoSpan}
+use Rattle.fields.specs.declared.NumberField.the-variants.{Number, NoNumber}
+use Rattle.fields.specs.declared.BodyField.the-variants.{Body, NoBody}
 use Rattle.octets.proofs.Bools.{both}
-use Rattle.ttlv.proofs.Lift.{bytes-rest}
-use Rattle.ttlv.proofs.Runs.{tail, tail-none, run-behind, tail-ended, tail-more, bytes-some, bytes-none, optional-there, optional-absent}
+use Rattle.fields.proofs.Lift.{bytes-rest}
+use Rattle.fields.proofs.Runs.{tail, tail-none, run-behind, tail-ended, tail-more, bytes-some, bytes-none, optional-there, optional-absent}
 use Rattle.identifier.specs.Identifier.{serialOf}
 use Rattle.rules.specs.States.{codeOk}
 use Rattle.payload.specs.Tags.{uniqueIdentifier, usageLimitsCount, revocationReason, revocationReasonCode}

@@ -13,16 +13,16 @@ use Rattle.octets.specs.Maybe.{_>>=_, _>>_}
 use Rattle.octets.specs.Octets.{part}
 use Rattle.octets.proofs.If.{ifb-true, on-bool}
 use Rattle.ttlv.specs.Types.{integer, longInteger, enumeration}
-use Rattle.ttlv.specs.Items.{Items}
+use Rattle.ttlv.specs.Items.{Items, ended}
 use Rattle.ttlv.specs.Parse.{firstOf}
 use Rattle.ttlv.specs.Tree.{isRun, treeOf}
-use Rattle.ttlv.specs.Fields.{ended, optional}
-use Rattle.ttlv.specs.Found.{startsIn, startsAt, numberAt, bodyAt}
-use Rattle.ttlv.specs.declared.NumberField.the-variants.{Number, NoNumber}
-use Rattle.ttlv.specs.declared.BodyField.the-variants.{Body, NoBody}
-use Rattle.ttlv.proofs.Lift.{ended-lifts, body-rest}
-use Rattle.ttlv.proofs.Runs.{tail, ended-yes, ended-not, body-some, body-none, optional-there, optional-absent}
-use Rattle.ttlv.proofs.Found.{body-first}
+use Rattle.fields.specs.Fields.{optional}
+use Rattle.fields.specs.Found.{startsIn, startsAt, numberAt, bodyAt}
+use Rattle.fields.specs.declared.NumberField.the-variants.{Number, NoNumber}
+use Rattle.fields.specs.declared.BodyField.the-variants.{Body, NoBody}
+use Rattle.fields.proofs.Lift.{ended-lifts, body-rest}
+use Rattle.fields.proofs.Runs.{tail, ended-yes, ended-not, body-some, body-none, optional-there, optional-absent}
+use Rattle.fields.proofs.Found.{body-first}
 use Rattle.values.specs.Values.{bitsOk, maskOk, unitOk, totalOk}
 use Rattle.rules.specs.declared.Attributes.{Attributes}
 use Rattle.payload.specs.Tags.{attributes, cryptographicAlgorithm, cryptographicLength, cryptographicUsageMask, objectType, usageLimits, usageLimitsTotal, usageLimitsUnit}

@@ -5,7 +5,7 @@ use Prim.Native.Nat.{ℕ}
 use mathlib.Core.Option.{Option, none, some}
 use mathlib.Core.List.{[]}
 use Rattle.octets.specs.Hex.{hex}
-use Rattle.ttlv.specs.Items.{Items}
+use Rattle.ttlv.specs.Items.{Items, ended}
 use Rattle.payload.specs.declared.Target.the-variants.{Placeholder, Serial}
 use Rattle.payload.specs.declared.Command.{Command}
 use Rattle.payload.specs.declared.Command.the-variants.{Unsupported, Invalid, Create, Rekey, GetUsageAllocation, Revoke, Destroy, GetAttributes}
@@ -15,7 +15,7 @@ use Rattle.octets.specs.Octets.{be, fromBeAfter, fromBe, all, same}
 use Rattle.ttlv.specs.Types.{lengthOk, text, valueOk}
 use Rattle.ttlv.specs.Items.{encode, itemOk, wellFormed}
 use Rattle.ttlv.specs.Parse.{headed, firstOf, putValue, putGroup, more, walk, parse, isOne, message}
-use Rattle.ttlv.specs.Fields.{startsWith, ended, bytesOf, bodyOf, numberOf, optional}
+use Rattle.fields.specs.Fields.{startsWith, bytesOf, bodyOf, numberOf, optional}
 use Rattle.identifier.specs.Identifier.{digits, identifier, fromDigitsAfter, serialOf}
 use Rattle.payload.specs.Payload.{limitIn, limitFirst, wantedOf, attributesIn, createIn, targetOf, targetIn, aloneIn, allocationIn, revokeIn, orInvalid, command}
 

@@ -8,8 +8,8 @@ use lib.Dec.{leb, ltb, eqb}
 use Rattle.octets.specs.If.{ifb}
 use Rattle.octets.specs.Maybe.{_>>=_, _>>_}
 use Rattle.ttlv.specs.Types.{integer, longInteger, enumeration, textString}
-use Rattle.ttlv.specs.Items.{Items}
-use Rattle.ttlv.specs.Fields.{ended, bytesOf, bodyOf, numberOf, optional}
+use Rattle.ttlv.specs.Items.{Items, ended}
+use Rattle.fields.specs.Fields.{bytesOf, bodyOf, numberOf, optional}
 use Rattle.payload.specs.Tags.{attributes, cryptographicAlgorithm, cryptographicLength, cryptographicUsageMask, objectType, revocationReason, revocationReasonCode, uniqueIdentifier, usageLimits, usageLimitsCount, usageLimitsTotal, usageLimitsUnit, symmetricKey, aes}
 use Rattle.identifier.specs.Identifier.{serialOf}
 use Rattle.values.specs.Values.{bitsOk, maskOk, unitOk, totalOk}

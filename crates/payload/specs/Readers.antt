@@ -9,15 +9,15 @@ use Rattle.octets.specs.If.{ifb}
 use Rattle.octets.specs.Maybe.{_>>=_, _>>_}
 use Rattle.octets.specs.Octets.{part}
 use Rattle.ttlv.specs.Types.{integer, textString}
-use Rattle.ttlv.specs.Items.{Items}
-use Rattle.ttlv.specs.Fields.{ended, numberOf, optional}
-use Rattle.ttlv.specs.Found.{startsAt, bytesAt, numberAt, bodyAt}
-use Rattle.ttlv.specs.declared.BytesField.{BytesField}
-use Rattle.ttlv.specs.declared.BytesField.the-variants.{Span, NoSpan}
-use Rattle.ttlv.specs.declared.NumberField.{NumberField}
-use Rattle.ttlv.specs.declared.NumberField.the-variants.{Number, NoNumber}
-use Rattle.ttlv.specs.declared.BodyField.{BodyField}
-use Rattle.ttlv.specs.declared.BodyField.the-variants.{Body, NoBody}
+use Rattle.ttlv.specs.Items.{Items, ended}
+use Rattle.fields.specs.Fields.{numberOf, optional}
+use Rattle.fields.specs.Found.{startsAt, bytesAt, numberAt, bodyAt}
+use Rattle.fields.specs.declared.BytesField.{BytesField}
+use Rattle.fields.specs.declared.BytesField.the-variants.{Span, NoSpan}
+use Rattle.fields.specs.declared.NumberField.{NumberField}
+use Rattle.fields.specs.declared.NumberField.the-variants.{Number, NoNumber}
+use Rattle.fields.specs.declared.BodyField.{BodyField}
+use Rattle.fields.specs.declared.BodyField.the-variants.{Body, NoBody}
 use Rattle.identifier.specs.Identifier.{serialOf}
 use Rattle.values.specs.Values.{maskOk}
 use Rattle.rules.specs.declared.Attributes.{Attributes}

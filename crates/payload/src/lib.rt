@@ -1,9 +1,9 @@
 // Payloads: what an item asks for, as a command, or that it is not allowed or not supported.
 // It knows TTLV by its items alone, and looks at no table. A function that asks for a run of items is given one by the frame's reader, whose items are runs.
+use fields::BodyField;
+use fields::BytesField;
+use fields::NumberField;
 use rules::Attributes;
-use ttlv::BodyField;
-use ttlv::BytesField;
-use ttlv::NumberField;
 ghost use mathlib.Core.Path.{_≡_};
 ghost use mathlib.Core.Bool.{true};
 ghost use Rattle.ttlv.specs.Tree.{isRun, treeOf};
@@ -93,7 +93,7 @@ pub enum AttributesRead {
 fn only_number(s: &[u8], tag: u32, kind: u8) -> NumberField
     ensures { λ r. ⌜ r ≡ onlyNumberAt (now (s .entry)) tag kind ⌝ }
 {
-    let NumberField::Number { value, next } = ttlv::number_field(s, tag, kind) else {
+    let NumberField::Number { value, next } = fields::number_field(s, tag, kind) else {
         return NumberField::NoNumber;
     };
     if next != s.len() {
@@ -106,7 +106,7 @@ fn only_number(s: &[u8], tag: u32, kind: u8) -> NumberField
 fn only_body(s: &[u8], tag: u32) -> BodyField
     ensures { λ r. ⌜ r ≡ onlyBodyAt (now (s .entry)) tag ⌝ }
 {
-    let BodyField::Body { next: end } = ttlv::body_field(s, tag) else {
+    let BodyField::Body { next: end } = fields::body_field(s, tag) else {
         return BodyField::NoBody;
     };
     if end != s.len() {
@@ -119,14 +119,17 @@ fn only_body(s: &[u8], tag: u32) -> BodyField
 fn read_target(s: &[u8]) -> TargetRead
     ensures { λ r. ⌜ r ≡ targetAt (now (s .entry)) ⌝ }
 {
-    if !ttlv::starts_with(s, UNIQUE_IDENTIFIER) {
+    if !fields::starts_with(s, UNIQUE_IDENTIFIER) {
         return TargetRead::Is {
             target: Target::Placeholder,
             next: 0,
         };
     }
-    let BytesField::Span { len, next } = ttlv::bytes_field(s, UNIQUE_IDENTIFIER, ttlv::TEXT_STRING)
-    else {
+    let BytesField::Span { len, next } = fields::bytes_field(
+        s,
+        UNIQUE_IDENTIFIER,
+        ttlv::TEXT_STRING,
+    ) else {
         return TargetRead::NoTarget;
     };
     let stop = 8 + len;
@@ -143,7 +146,7 @@ fn read_limit(s: &[u8]) -> LimitRead
     requires { ⌜ isRun (now s) ≡ true ⌝ }
     ensures { λ r. ⌜ r ≡ limitRead (limitIn (treeOf (now (s .entry)))) ⌝ }
 {
-    let NumberField::Number { value: total, next } = ttlv::number_field(
+    let NumberField::Number { value: total, next } = fields::number_field(
         s,
         USAGE_LIMITS_TOTAL,
         ttlv::LONG_INTEGER,
@@ -188,7 +191,7 @@ fn read_masked(s: &[u8], bits: u16) -> AttributesRead
     requires { ⌜ isRun (now s) ≡ true ⌝ }
     ensures { λ r. ⌜ r ≡ attributesRead (maskedIn bits (treeOf (now (s .entry)))) ⌝ }
 {
-    let NumberField::Number { value: mask, next } = ttlv::number_field(
+    let NumberField::Number { value: mask, next } = fields::number_field(
         s,
         CRYPTOGRAPHIC_USAGE_MASK,
         ttlv::INTEGER,
@@ -219,7 +222,7 @@ fn read_attributes(s: &[u8]) -> AttributesRead
     let NumberField::Number {
         value: algorithm,
         next,
-    } = ttlv::number_field(s, CRYPTOGRAPHIC_ALGORITHM, ttlv::ENUMERATION)
+    } = fields::number_field(s, CRYPTOGRAPHIC_ALGORITHM, ttlv::ENUMERATION)
     else {
         return AttributesRead::NoAttributes;
     };
@@ -230,7 +233,7 @@ fn read_attributes(s: &[u8]) -> AttributesRead
     let NumberField::Number {
         value: bits,
         next: after,
-    } = ttlv::number_field(t, CRYPTOGRAPHIC_LENGTH, ttlv::INTEGER)
+    } = fields::number_field(t, CRYPTOGRAPHIC_LENGTH, ttlv::INTEGER)
     else {
         return AttributesRead::NoAttributes;
     };
@@ -245,7 +248,7 @@ fn read_create(s: &[u8]) -> Command
     requires { ⌜ isRun (now s) ≡ true ⌝ }
     ensures { λ r. ⌜ r ≡ orInvalid (createIn (treeOf (now (s .entry)))) ⌝ }
 {
-    let NumberField::Number { value: kind, next } = ttlv::number_field(
+    let NumberField::Number { value: kind, next } = fields::number_field(
         s,
         OBJECT_TYPE,
         ttlv::ENUMERATION,

@@ -13,10 +13,6 @@ pub mod Tree
 pub mod Message
 pub mod Step
 pub mod One
-pub mod Found
-pub mod Lift
-pub mod Runs
-pub mod Starts
 pub mod Small
 pub mod Padding
 pub mod Unique

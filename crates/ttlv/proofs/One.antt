@@ -13,8 +13,7 @@ use Rattle.octets.specs.If.{ifb}
 use Rattle.octets.specs.Maybe.{_>>=_, _>>_, isSome}
 use Rattle.octets.specs.Octets.{part}
 use Rattle.octets.proofs.If.{on-bool}
-use Rattle.ttlv.specs.Items.{Items, nil, value, group}
-use Rattle.ttlv.specs.Fields.{ended}
+use Rattle.ttlv.specs.Items.{Items, nil, value, group, ended}
 use Rattle.ttlv.specs.Parse.{firstOf, putValue, putGroup, more, walk, parse, isOne, message}
 use Rattle.ttlv.specs.declared.First.{First}
 use Rattle.ttlv.specs.declared.First.the-variants.{End, Bad, Value, Group}

@@ -18,14 +18,6 @@ use Rattle.ttlv.proofs.check.Reads as check-reads
 use Rattle.ttlv.proofs.check.Kinds as check-kinds
 use Rattle.ttlv.proofs.is_message.Reads as is-message-reads
 use Rattle.ttlv.proofs.is_message.Kinds as is-message-kinds
-use Rattle.ttlv.proofs.starts_with.Reads as starts-with-reads
-use Rattle.ttlv.proofs.starts_with.Kinds as starts-with-kinds
-use Rattle.ttlv.proofs.bytes_field.Reads as bytes-field-reads
-use Rattle.ttlv.proofs.bytes_field.Kinds as bytes-field-kinds
-use Rattle.ttlv.proofs.number_field.Reads as number-field-reads
-use Rattle.ttlv.proofs.number_field.Kinds as number-field-kinds
-use Rattle.ttlv.proofs.body_field.Reads as body-field-reads
-use Rattle.ttlv.proofs.body_field.Kinds as body-field-kinds
 
 -- two answers to the same arguments that both meet the contract are the same answer
 abbrev One : (n : ℕ) (ps : List (PK n)) (r : RK n) → Out n ps r → Type 0
@@ -48,15 +40,3 @@ check-unique κs a x y s t p q = p ∙ sym q
 
 pub is-message-unique : One 1 is-message-kinds.ps is-message-kinds.r is-message-reads.Post
 is-message-unique κs a x y s t p q = p ∙ sym q
-
-pub starts-with-unique : One 1 starts-with-kinds.ps starts-with-kinds.r starts-with-reads.Post
-starts-with-unique κs a x y s t p q = p ∙ sym q
-
-pub bytes-field-unique : One 1 bytes-field-kinds.ps bytes-field-kinds.r bytes-field-reads.Post
-bytes-field-unique κs a x y s t p q = p ∙ sym q
-
-pub number-field-unique : One 1 number-field-kinds.ps number-field-kinds.r number-field-reads.Post
-number-field-unique κs a x y s t p q = p ∙ sym q
-
-pub body-field-unique : One 1 body-field-kinds.ps body-field-kinds.r body-field-reads.Post
-body-field-unique κs a x y s t p q = p ∙ sym q

@@ -14,6 +14,12 @@ pub data Items : Type 0 where
   value : ℕ → ℕ → List ℕ → Items → Items
   group : ℕ → Items → Items → Items
 
+-- whether no item is left
+unfoldable pub ended : Items → Bool
+ended nil = true
+ended (value tag kind v rest) = false
+ended (group tag body rest) = false
+
 -- tag 3 bytes, type 1 byte, length 4 bytes
 abbrev pub head : ℕ → ℕ → ℕ → List ℕ
 head tag kind n = be 3 tag ++ (kind ∷ be 4 n)

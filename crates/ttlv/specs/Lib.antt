@@ -1,8 +1,6 @@
--- TTLV: types, items, writing, reading, and the fields of a run.
+-- TTLV: types, items, writing and reading.
 -- Assumes nothing.
 pub mod Types
 pub mod Items
 pub mod Parse
 pub mod Tree
-pub mod Fields
-pub mod Found

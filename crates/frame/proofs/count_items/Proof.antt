@@ -8,13 +8,13 @@ use lib.ListN.{length, length-take, length-drop}
 use mathlib.Core.Bool.{true}
 use Rattle.ttlv.specs.Tree.{isRun, treeOf}
 use borrow.Author.Tests.{not-true, not-false}
-use Rattle.ttlv.proofs.Found.{body-ends}
-use Rattle.ttlv.proofs.Lift.{body-rest, body-is-run}
+use Rattle.fields.proofs.Found.{body-ends}
+use Rattle.fields.proofs.Lift.{body-rest, body-is-run}
 use Rattle.frame.specs.declared.ItemsRead.the-variants.{Items as Counted}
 use Rattle.frame.specs.Tags.{batchItem}
 use Rattle.frame.specs.Frame.{itemsIn}
 use Rattle.frame.specs.Readers.{itemsRead}
-use Rattle.ttlv.proofs.Runs.{run-behind}
+use Rattle.fields.proofs.Runs.{run-behind}
 use Rattle.frame.proofs.Items.{counted, counted-none, items-end, items-other, items-bad, items-more}
 use Rattle.frame.proofs.count_items.Statement.{statement}
 use Rattle.frame.proofs.count_items.Tie as tie

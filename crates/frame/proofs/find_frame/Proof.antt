@@ -4,12 +4,12 @@ use mathlib.Core.Path.{sym, ap, _∙_}
 use Prim.Native.Nat.{_-_}
 use native.Mathlib.Omega.{arith}
 use mathlib.Core.Option.{Option}
-use Rattle.ttlv.proofs.Found.{body-ends}
-use Rattle.ttlv.proofs.Lift.{body-is-run}
+use Rattle.fields.proofs.Found.{body-ends}
+use Rattle.fields.proofs.Lift.{body-is-run}
 use Rattle.frame.specs.Tags.{requestHeader, requestMessage}
 use Rattle.frame.specs.Frame.{Frame}
 use Rattle.frame.specs.Readers.{itemsAt, frameRead}
-use Rattle.ttlv.proofs.Runs.{tail, length-tail}
+use Rattle.fields.proofs.Runs.{tail, length-tail}
 use Rattle.frame.proofs.Frame.{message-room, inner-run, frame-no-message, frame-no-header, batch-run, frame-bad-header, frame-empty, frame-bad-items, frame-is}
 use borrow.Author.Needs.{needs}
 use Rattle.frame.proofs.find_frame.Statement.{statement}

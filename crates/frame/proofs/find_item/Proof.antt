@@ -6,10 +6,10 @@ use native.Mathlib.Omega.{arith}
 use Rattle.ttlv.specs.Types.{enumeration}
 use Rattle.frame.specs.Tags.{operationTag}
 use Rattle.octets.proofs.Numbers.{bytes-of}
-use Rattle.ttlv.proofs.Found.{number-ends}
-use Rattle.ttlv.proofs.Lift.{word-below}
+use Rattle.fields.proofs.Found.{number-ends}
+use Rattle.fields.proofs.Lift.{word-below}
 use Rattle.frame.specs.Readers.{itemRead}
-use Rattle.ttlv.proofs.Runs.{tail}
+use Rattle.fields.proofs.Runs.{tail}
 use Rattle.frame.proofs.Item.{id-some, item-no-operation, item-behind, item-bad-id, item-no-payload, item-room, item-more, item-reads}
 use borrow.Author.Needs.{needs}
 use Rattle.frame.proofs.find_item.Statement.{statement}

@@ -4,10 +4,10 @@ use mathlib.Core.Path.{sym, ap, _∙_}
 use Prim.Native.Nat.{_-_}
 use native.Mathlib.Omega.{arith}
 use Rattle.frame.specs.Tags.{protocolVersion}
-use Rattle.ttlv.proofs.Found.{body-ends}
-use Rattle.ttlv.proofs.Lift.{body-is-run}
+use Rattle.fields.proofs.Found.{body-ends}
+use Rattle.fields.proofs.Lift.{body-is-run}
 use Rattle.frame.specs.Readers.{headerRead}
-use Rattle.ttlv.proofs.Runs.{tail}
+use Rattle.fields.proofs.Runs.{tail}
 use Rattle.frame.proofs.Header.{option-within, header-no-version, header-bad-version, header-behind, header-bad-option, header-no-count, header-more, header-is}
 use borrow.Author.Needs.{needs}
 use Rattle.frame.proofs.read_header.Statement.{statement}

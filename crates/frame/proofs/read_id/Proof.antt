@@ -6,7 +6,7 @@ use borrow.Author.Tests.{le-leb, lt-leb}
 use Rattle.octets.proofs.If.{ifb-true, ifb-false}
 use Rattle.ttlv.specs.Types.{byteString}
 use Rattle.octets.proofs.Bools.{and-i, and-no, and-second}
-use Rattle.ttlv.proofs.Found.{bytes-starts}
+use Rattle.fields.proofs.Found.{bytes-starts}
 use Rattle.frame.specs.Tags.{uniqueBatchItemId}
 use Rattle.frame.specs.Readers.{idSpan, idAt}
 use borrow.Author.Needs.{needs}

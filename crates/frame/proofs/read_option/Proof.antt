@@ -3,7 +3,7 @@
 use mathlib.Core.Path.{sym, _∙_}
 use Rattle.octets.proofs.If.{ifb-true, ifb-false}
 use Rattle.ttlv.specs.Types.{enumeration}
-use Rattle.ttlv.proofs.Found.{number-starts}
+use Rattle.fields.proofs.Found.{number-starts}
 use Rattle.frame.specs.Tags.{batchErrorContinuationOption}
 use Rattle.frame.specs.Readers.{optionAt}
 use borrow.Author.Needs.{needs}

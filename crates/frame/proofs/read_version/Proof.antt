@@ -5,7 +5,7 @@ use Prim.Native.Nat.{_-_}
 use native.Mathlib.Omega.{arith}
 use Rattle.ttlv.specs.Types.{integer}
 use Rattle.frame.specs.Tags.{protocolVersionMajor}
-use Rattle.ttlv.proofs.Found.{number-ends}
+use Rattle.fields.proofs.Found.{number-ends}
 use Rattle.frame.specs.Readers.{versionRead}
 use Rattle.frame.proofs.Header.{version-no-major, version-no-minor, version-more, version-is}
 use borrow.Author.Needs.{needs}

@@ -6,7 +6,7 @@ use native.Mathlib.Omega.{arith}
 use borrow.Author.Tests.{not-true, not-false}
 use Rattle.octets.specs.Octets.{part}
 use Rattle.octets.proofs.If.{ifb-true, ifb-false}
-use Rattle.ttlv.proofs.Found.{bytes-ends}
+use Rattle.fields.proofs.Found.{bytes-ends}
 use Rattle.identifier.specs.Identifier.{serialOf}
 use Rattle.payload.specs.Tags.{uniqueIdentifier}
 use Rattle.ttlv.specs.Types.{textString}

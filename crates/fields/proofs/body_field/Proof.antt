@@ -1,11 +1,11 @@
 -- `ttlv::body_field`. By cases on the item at the front and its tag.
 -- Assumes nothing.
 use mathlib.Core.Path.{sym, ap, _∙_}
-use Rattle.ttlv.specs.Found.{bodyIn, bodyAt}
-use Rattle.ttlv.proofs.Found.{no-group-first, other-group, wanted-group}
+use Rattle.fields.specs.Found.{bodyIn, bodyAt}
+use Rattle.fields.proofs.Found.{no-group-first, other-group, wanted-group}
 use borrow.Author.Needs.{needs}
-use Rattle.ttlv.proofs.body_field.Statement.{statement}
-use Rattle.ttlv.proofs.body_field.Tie as tie
+use Rattle.fields.proofs.body_field.Statement.{statement}
+use Rattle.fields.proofs.body_field.Tie as tie
 
 read-first-requires : tie.Need-read-first-requires
 read-first-requires c κs = search needs

@@ -8,11 +8,11 @@ use mathlib.Core.List.{List}
 use lib.ListN.{length}
 use borrow.Author.Tests.{eq-eqb, ne-eqb}
 use Rattle.octets.specs.Octets.{fromBe, part}
 use Rattle.ttlv.specs.Parse.{firstOf}
-use Rattle.ttlv.specs.Found.{startsIn, startsAt}
+use Rattle.fields.specs.Found.{startsIn, startsAt}
 use Rattle.ttlv.specs.declared.First.{First}
 use Rattle.ttlv.specs.declared.First.the-variants.{End, Bad, Value, Group}
 use Rattle.ttlv.proofs.View.{View, end, bad, val, grp, view}
 
 module _ (s : List ℕ) (tag : ℕ) where
   short : length s < 8 → (f : First) → View s f → startsIn tag f ≡ false

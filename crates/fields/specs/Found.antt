@@ -7,15 +7,15 @@ use lib.ListN.{take}
 use lib.Dec.{eqb}
 use Rattle.octets.specs.If.{ifb}
 use Rattle.octets.specs.Octets.{fromBe, part}
 use Rattle.ttlv.specs.Parse.{firstOf}
 use Rattle.ttlv.specs.declared.First.{First}
 use Rattle.ttlv.specs.declared.First.the-variants.{End, Bad, Value, Group}
-use Rattle.ttlv.specs.declared.BytesField.{BytesField}
-use Rattle.ttlv.specs.declared.BytesField.the-variants.{Span, NoSpan}
-use Rattle.ttlv.specs.declared.NumberField.{NumberField}
-use Rattle.ttlv.specs.declared.NumberField.the-variants.{Number, NoNumber}
-use Rattle.ttlv.specs.declared.BodyField.{BodyField}
-use Rattle.ttlv.specs.declared.BodyField.the-variants.{Body, NoBody}
+use Rattle.fields.specs.declared.BytesField.{BytesField}
+use Rattle.fields.specs.declared.BytesField.the-variants.{Span, NoSpan}
+use Rattle.fields.specs.declared.NumberField.{NumberField}
+use Rattle.fields.specs.declared.NumberField.the-variants.{Number, NoNumber}
+use Rattle.fields.specs.declared.BodyField.{BodyField}
+use Rattle.fields.specs.declared.BodyField.the-variants.{Body, NoBody}
 
 unfoldable pub startsIn : ℕ → First → Bool
 startsIn tag End = false

@@ -8,19 +8,13 @@ use lib.Dec.{eqb}
 use Rattle.octets.specs.If.{ifb}
 use Rattle.octets.specs.Maybe.{_>>=_, _>>_}
 use Rattle.octets.specs.Octets.{fromBe}
 use Rattle.ttlv.specs.Items.{Items, nil, value, group}
 
 -- whether the first item has this tag
 unfoldable pub startsWith : ℕ → Items → Bool
 startsWith tag nil = false
 startsWith tag (value tag2 kind v rest) = eqb tag2 tag
 startsWith tag (group tag2 body rest) = eqb tag2 tag
-
--- whether no item is left
-unfoldable pub ended : Items → Bool
-ended nil = true
-ended (value tag kind v rest) = false
-ended (group tag body rest) = false
 
 -- the value of the first item, which has this tag and type, and the rest
 unfoldable pub bytesOf : ℕ → ℕ → Items → Option (List ℕ × Items)

@@ -1,11 +1,11 @@
 -- `ttlv::bytes_field`. By cases on the item at the front, its tag and its type.
 -- Assumes nothing.
 use mathlib.Core.Path.{sym, ap, _∙_}
-use Rattle.ttlv.specs.Found.{bytesIn, bytesAt}
-use Rattle.ttlv.proofs.Found.{no-value-first, other-tag, other-kind, wanted}
+use Rattle.fields.specs.Found.{bytesIn, bytesAt}
+use Rattle.fields.proofs.Found.{no-value-first, other-tag, other-kind, wanted}
 use borrow.Author.Needs.{needs}
-use Rattle.ttlv.proofs.bytes_field.Statement.{statement}
-use Rattle.ttlv.proofs.bytes_field.Tie as tie
+use Rattle.fields.proofs.bytes_field.Statement.{statement}
+use Rattle.fields.proofs.bytes_field.Tie as tie
 
 read-first-requires : tie.Need-read-first-requires
 read-first-requires c κs = search needs

@@ -4,11 +4,11 @@ use mathlib.Core.Path.{sym, ap, _∙_}
 use Prim.Native.Nat.{_^_, _<_}
 use native.Mathlib.Omega.{arith}
 use Rattle.octets.specs.Octets.{fromBe}
 use Rattle.ttlv.proofs.Eight.{eight-part, eight-below}
-use Rattle.ttlv.proofs.Starts.{starts-short, starts-other, starts-end, starts-bad, starts-value, starts-group}
+use Rattle.fields.proofs.Starts.{starts-short, starts-other, starts-end, starts-bad, starts-value, starts-group}
 use borrow.Author.Needs.{needs}
-use Rattle.ttlv.proofs.starts_with.Statement.{statement}
-use Rattle.ttlv.proofs.starts_with.Tie as tie
+use Rattle.fields.proofs.starts_with.Statement.{statement}
+use Rattle.fields.proofs.starts_with.Tie as tie
 
 returns : tie.Need-returns
 returns c = sym (starts-short (c .before .before .args .s .now) (c .before .before .args .tag) (c .if1 .taken))

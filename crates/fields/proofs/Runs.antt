@@ -11,16 +11,16 @@ use borrow.Author.Tests.{eq-eqb, ne-eqb}
 use Rattle.octets.specs.Maybe.{_>>=_}
 use Rattle.octets.specs.Octets.{part}
 use Rattle.octets.proofs.If.{ifb-true, ifb-false}
-use Rattle.ttlv.specs.Items.{Items}
+use Rattle.ttlv.specs.Items.{Items, ended}
 use Rattle.ttlv.specs.Tree.{isRun, treeOf}
-use Rattle.ttlv.specs.Fields.{ended, bytesOf, bodyOf, numberOf, optional}
-use Rattle.ttlv.specs.Found.{startsAt, bytesAt, numberAt, bodyAt}
-use Rattle.ttlv.specs.declared.BytesField.the-variants.{Span, NoSpan}
-use Rattle.ttlv.specs.declared.NumberField.the-variants.{Number, NoNumber}
-use Rattle.ttlv.specs.declared.BodyField.the-variants.{Body, NoBody}
+use Rattle.fields.specs.Fields.{bytesOf, bodyOf, numberOf, optional}
+use Rattle.fields.specs.Found.{startsAt, bytesAt, numberAt, bodyAt}
+use Rattle.fields.specs.declared.BytesField.the-variants.{Span, NoSpan}
+use Rattle.fields.specs.declared.NumberField.the-variants.{Number, NoNumber}
+use Rattle.fields.specs.declared.BodyField.the-variants.{Body, NoBody}
 use Rattle.ttlv.proofs.Step.{rest}
 use Rattle.ttlv.proofs.Tree.{Rest}
-use Rattle.ttlv.proofs.Lift.{bytesRead, numberRead, bodyRead, isNumber, starts-lifts, ended-lifts, bytes-lifts, number-lifts, body-lifts}
+use Rattle.fields.proofs.Lift.{bytesRead, numberRead, bodyRead, isNumber, starts-lifts, ended-lifts, bytes-lifts, number-lifts, body-lifts}
 
 -- s from n on
 abbrev pub tail : List ℕ → ℕ → List ℕ

@@ -15,25 +15,25 @@ use Rattle.octets.specs.Octets.{fromBe, part, Bytes}
 use Rattle.octets.proofs.If.{ifb-true, ifb-false, on-bool}
 use Rattle.octets.proofs.Numbers.{fromBe-lt, bytes-take, bytes-drop}
 use Rattle.octets.proofs.Stores.{length-part}
 use Rattle.ttlv.specs.Types.{isWord, isLong, lengthOk}
-use Rattle.ttlv.specs.Items.{Items, nil, value, group}
+use Rattle.ttlv.specs.Items.{Items, nil, value, group, ended}
 use Rattle.ttlv.specs.Parse.{firstOf}
 use Rattle.ttlv.specs.Tree.{isRun, treeOf}
-use Rattle.ttlv.specs.Fields.{startsWith, ended, bytesOf, bodyOf, numberOf}
-use Rattle.ttlv.specs.Found.{startsIn, startsAt, bytesIn, bytesAt, numberIn, numberAt, bodyIn, bodyAt}
+use Rattle.fields.specs.Fields.{startsWith, bytesOf, bodyOf, numberOf}
+use Rattle.fields.specs.Found.{startsIn, startsAt, bytesIn, bytesAt, numberIn, numberAt, bodyIn, bodyAt}
 use Rattle.ttlv.specs.declared.First.{First}
 use Rattle.ttlv.specs.declared.First.the-variants.{End, Value, Group}
-use Rattle.ttlv.specs.declared.BytesField.{BytesField}
-use Rattle.ttlv.specs.declared.BytesField.the-variants.{Span, NoSpan}
-use Rattle.ttlv.specs.declared.NumberField.{NumberField}
-use Rattle.ttlv.specs.declared.NumberField.the-variants.{Number, NoNumber}
-use Rattle.ttlv.specs.declared.BodyField.{BodyField}
-use Rattle.ttlv.specs.declared.BodyField.the-variants.{Body, NoBody}
+use Rattle.fields.specs.declared.BytesField.{BytesField}
+use Rattle.fields.specs.declared.BytesField.the-variants.{Span, NoSpan}
+use Rattle.fields.specs.declared.NumberField.{NumberField}
+use Rattle.fields.specs.declared.NumberField.the-variants.{Number, NoNumber}
+use Rattle.fields.specs.declared.BodyField.{BodyField}
+use Rattle.fields.specs.declared.BodyField.the-variants.{Body, NoBody}
 use Rattle.ttlv.proofs.Step.{rest}
 use Rattle.ttlv.proofs.Eight.{eight-part}
 use Rattle.ttlv.proofs.One.{parse-ended}
-use Rattle.ttlv.proofs.Found.{bytes-first, bytes-ends, number-bytes, body-first}
+use Rattle.fields.proofs.Found.{bytes-first, bytes-ends, number-bytes, body-first}
 use Rattle.ttlv.proofs.Tree.{Tree, t-end, t-value, t-group, tree, run-parse, Rest, value-rest, group-rest, body-run}
 
 -- ---- what an answer stands for: the field, and the items of the rest
 

@@ -5,12 +5,12 @@ use Prim.Native.Nat.{ℕ, _+_, _-_}
 use native.Mathlib.Omega.{arith}
 use lib.ListN.{take}
 use Rattle.octets.specs.Octets.{fromBe, part}
-use Rattle.ttlv.specs.Found.{numberIn, numberAt}
-use Rattle.ttlv.specs.declared.NumberField.the-variants.{Number}
-use Rattle.ttlv.proofs.Found.{bytes-ends}
+use Rattle.fields.specs.Found.{numberIn, numberAt}
+use Rattle.fields.specs.declared.NumberField.the-variants.{Number}
+use Rattle.fields.proofs.Found.{bytes-ends}
 use borrow.Author.Needs.{needs}
-use Rattle.ttlv.proofs.number_field.Statement.{statement}
-use Rattle.ttlv.proofs.number_field.Tie as tie
+use Rattle.fields.proofs.number_field.Statement.{statement}
+use Rattle.fields.proofs.number_field.Tie as tie
 
 bytes-field-requires : tie.Need-bytes-field-requires
 bytes-field-requires c κs = search needs

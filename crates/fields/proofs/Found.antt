@@ -11,19 +11,19 @@ use lib.Dec.{eqb}
 use borrow.Author.Tests.{eqb-true, eq-eqb, ne-eqb}
 use types.Run.{OneOf}
 use denote.Enum.Declared.{tagOf}
 use Rattle.ttlv.proofs.First.{the-type}
 use Rattle.octets.specs.Octets.{fromBe, part}
 use Rattle.octets.proofs.If.{ifb-true, ifb-false, on-bool}
 use Rattle.ttlv.specs.Parse.{firstOf}
-use Rattle.ttlv.specs.Found.{startsIn, startsAt, bytesIn, bytesAt, numberIn, numberAt, bodyIn, bodyAt}
+use Rattle.fields.specs.Found.{startsIn, startsAt, bytesIn, bytesAt, numberIn, numberAt, bodyIn, bodyAt}
 use Rattle.ttlv.specs.declared.First.{First}
 use Rattle.ttlv.specs.declared.First.the-variants.{End, Bad, Value, Group}
-use Rattle.ttlv.specs.declared.BytesField.{BytesField}
-use Rattle.ttlv.specs.declared.BytesField.the-variants.{Span, NoSpan}
-use Rattle.ttlv.specs.declared.NumberField.the-variants.{Number}
-use Rattle.ttlv.specs.declared.BodyField.the-variants.{Body, NoBody}
+use Rattle.fields.specs.declared.BytesField.{BytesField}
+use Rattle.fields.specs.declared.BytesField.the-variants.{Span, NoSpan}
+use Rattle.fields.specs.declared.NumberField.the-variants.{Number}
+use Rattle.fields.specs.declared.BodyField.the-variants.{Body, NoBody}
 use Rattle.octets.proofs.Bools.{both, and-i, and-no, and-second}
 use Rattle.ttlv.proofs.Step.{Within, Holds, value-ends, group-ends}
 
 -- ---- from the item at the front to the answer
 
