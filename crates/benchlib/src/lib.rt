@@ -1,39 +1,8 @@
 // The bench program's work: a request from a file descriptor on a blank table, its response in hex on a line, or the refusal's number.
 // What it prints is tested and not proved; the call is the engine's.
-ghost use Prim.Native.Nat.{_<_};
 
 // The place count in the lead of a blank table.
 const PLACES: u8 = 64;
-
-fn digit(n: u8) -> u8
-    requires { ⌜ n < 16 ⌝ }
-{
-    if n < 10 { 48 + n } else { 55 + n }
-}
-
-fn print_byte(b: u8) {
-    let pair = [digit(b / 16), digit(b % 16)];
-    io::write_all(1, &pair);
-}
-
-fn print_bytes(s: &[u8]) {
-    for i in 0..s.len() {
-        print_byte(s[i]);
-    }
-    io::write_all(1, b"\n");
-}
-
-fn print_answer(out: &[u8], number: u32, len: usize) {
-    if number == 0 {
-        if len <= out.len() {
-            print_bytes(&out[..len]);
-        }
-    } else {
-        io::write_all(1, b"refusal ");
-        io::print_decimal(1, number as u64);
-        io::write_all(1, b"\n");
-    }
-}
 
 // The bytes 0 to 255 twice.
 fn fill_strip(s: &mut [u8]) {
@@ -53,5 +22,5 @@ pub fn run(fd: i32) {
     fill_strip(&mut strip);
     let mut out = [0u8; 4824];
     let served = engine::serve(&request[..n], &mut table, &strip, 0, &mut out);
-    print_answer(&out, served.number, served.length);
+    printlib::answer(&out, served.number, served.length);
 }

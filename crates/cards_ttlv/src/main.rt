@@ -5,28 +5,9 @@ ghost use mathlib.Core.Path.{_≡_};
 ghost use Prim.Native.Nat.{_≤_, _<_};
 ghost use lib.ListN.{length};
 
-// The value of a hex digit; 0 of any other byte.
-fn digit(b: u8) -> u8
-    ensures { λ r. ⌜ r < 16 ⌝ }
-{
-    if b < 48 {
-        return 0;
-    }
-    if b < 58 {
-        return b - 48;
-    }
-    if b < 65 {
-        return 0;
-    }
-    if b < 71 {
-        return b - 55;
-    }
-    0
-}
-
-// The byte that two hex digits spell.
+// The byte that two hex digits spell; a character that is no digit counts as 0.
 fn pair(high: u8, low: u8) -> u8 {
-    digit(high) * 16 + digit(low)
+    hex::value_of(high) % 16 * 16 + hex::value_of(low) % 16
 }
 
 // The bytes that s spells, over the front of out, as many as it has room for: how many. `card` shows the bound.
@@ -46,35 +27,6 @@ fn unhex(s: &[u8], out: &mut [u8]) -> usize
     n
 }
 
-// Where b stands first in s, or the length of s.
-fn find(s: &[u8], b: u8) -> usize
-    ensures { λ r. ⌜ r ≤ length (now (s .entry)) ⌝ }
-{
-    let mut i: usize = 0;
-    while i < s.len() {
-        if s[i] == b {
-            return i;
-        }
-        i += 1;
-    }
-    i
-}
-
-// Whether a and b are the same bytes.
-fn same(a: &[u8], b: &[u8]) -> bool {
-    if a.len() != b.len() {
-        return false;
-    }
-    let mut i: usize = 0;
-    while i < a.len() {
-        if a[i] != b[i] {
-            return false;
-        }
-        i += 1;
-    }
-    true
-}
-
 // What is said of some bytes. The room is full of ones beforehand, so that what is not written shows.
 fn verdict(s: &[u8]) {
     if !ttlv::is_message(s) {
@@ -83,7 +35,7 @@ fn verdict(s: &[u8]) {
     }
     let mut out = [255u8; 512];
     let n = rewrite::rewrite(&mut out, s);
-    if same(&out[..n], s) {
+    if lines::same(&out[..n], s) {
         io::write_all(1, b": read, same\n");
     } else {
         io::write_all(1, b": read, not same\n");
@@ -92,7 +44,7 @@ fn verdict(s: &[u8]) {
 
 // One line; one without a colon and a blank says nothing.
 fn card(line: &[u8]) {
-    let colon = find(line, 58);
+    let colon = lines::find(line, 58);
     if line.len() - colon < 2 {
         return;
     }
@@ -107,7 +59,7 @@ fn card(line: &[u8]) {
 fn cards(text: &[u8]) {
     let mut t = text;
     while 0 < t.len() {
-        let end = find(t, 10);
+        let end = lines::find(t, 10);
         card(&t[..end]);
         if end < t.len() {
             let next = end + 1;

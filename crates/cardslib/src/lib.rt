@@ -80,31 +80,31 @@ fn fill(s: &mut [u8], buffer: Buffer) {
 
 // The command that a word names.
 fn verb_of(word: &[u8]) -> Verb {
-    if read::same(word, b"blank") {
+    if lines::same(word, b"blank") {
         return Verb::Blank;
     }
-    if read::same(word, b"put") {
+    if lines::same(word, b"put") {
         return Verb::Put;
     }
-    if read::same(word, b"clock") {
+    if lines::same(word, b"clock") {
         return Verb::Clock;
     }
-    if read::same(word, b"room") {
+    if lines::same(word, b"room") {
         return Verb::Room;
     }
-    if read::same(word, b"strip") {
+    if lines::same(word, b"strip") {
         return Verb::Strip;
     }
-    if read::same(word, b"size") {
+    if lines::same(word, b"size") {
         return Verb::Size;
     }
-    if read::same(word, b"request") {
+    if lines::same(word, b"request") {
         return Verb::Request;
     }
-    if read::same(word, b"table") {
+    if lines::same(word, b"table") {
         return Verb::Table;
     }
-    if read::same(word, b"output") {
+    if lines::same(word, b"output") {
         return Verb::Output;
     }
     Verb::Unknown
@@ -158,7 +158,7 @@ fn lay(s: &[u8], t: &mut [u8]) {
 
 // `put OFFSET HEX`: bytes laid over the table, all of them or none.
 fn put(rest: &[u8], table: &mut [u8]) -> bool {
-    let gap = read::find(rest, b' ');
+    let gap = lines::find(rest, b' ');
     let Number::Is(at) = read::number_in(&rest[..gap]) else {
         return false;
     };
@@ -196,7 +196,7 @@ fn show(rest: &[u8], s: &[u8]) -> bool {
     }
     let end = at + len;
     print::name(&rest[..stop]);
-    print::bytes(&s[at..end]);
+    printlib::line(&s[at..end]);
     true
 }
 
@@ -224,7 +224,7 @@ fn answer(request: &[u8], table: &mut [u8], strip: &[u8], out: &mut [u8], s: Set
         s.clock,
         &mut out[..room],
     );
-    print::answer(out, served.number, served.length);
+    printlib::answer(out, served.number, served.length);
 }
 
 // `request NAME: HEX`: serves these bytes.
@@ -247,7 +247,7 @@ fn request(rest: &[u8], table: &mut [u8], strip: &[u8], out: &mut [u8], setting:
 
 // One command carried out.
 fn carry_out(line: &[u8], table: &mut [u8], strip: &[u8], out: &mut [u8], s: Setting) -> Done {
-    let gap = read::find(line, b' ');
+    let gap = lines::find(line, b' ');
     let verb = verb_of(&line[..gap]);
     let from = read::past(line, gap);
     let rest = &line[from..];
@@ -282,7 +282,7 @@ fn script(text: &[u8], table: &mut [u8], strip: &[u8], out: &mut [u8]) {
     let mut s = usual();
     let mut left = text;
     while 0 < left.len() {
-        let end = read::find(left, b'\n');
+        let end = lines::find(left, b'\n');
         s = one_line(&left[..end], table, strip, out, s);
         let from = read::past(left, end);
         left = &left[from..];

@@ -34,20 +34,6 @@ pub(crate) struct Count {
     pub(crate) count: usize,
 }
 
-// Where b stands first in s, or the length of s.
-pub(crate) fn find(s: &[u8], b: u8) -> usize
-    ensures { λ r. ⌜ r ≤ length (now (s .entry)) ⌝ }
-{
-    let mut i: usize = 0;
-    while i < s.len() {
-        if s[i] == b {
-            return i;
-        }
-        i += 1;
-    }
-    i
-}
-
 // Where the colon and the blank that end a name stand first in s, or the length of s.
 pub(crate) fn name_end(s: &[u8]) -> usize
     ensures { λ r. ⌜ r ≤ length (now (s .entry)) ⌝ }
@@ -71,21 +57,6 @@ pub(crate) fn past(s: &[u8], at: usize) -> usize
     if at < s.len() { at + 1 } else { s.len() }
 }
 
-// Whether a and b are the same bytes.
-pub(crate) fn same(a: &[u8], b: &[u8]) -> bool {
-    if a.len() != b.len() {
-        return false;
-    }
-    let mut i: usize = 0;
-    while i < a.len() {
-        if a[i] != b[i] {
-            return false;
-        }
-        i += 1;
-    }
-    true
-}
-
 // Whether a line says nothing: an empty one, or a comment.
 pub(crate) fn is_silent(line: &[u8]) -> bool {
     if line.len() == 0 {
@@ -94,23 +65,12 @@ pub(crate) fn is_silent(line: &[u8]) -> bool {
     line[0] == b'#'
 }
 
-// The value of an upper-case hex digit; 16 of any other byte.
-fn digit(b: u8) -> u8
-    ensures { λ r. ⌜ r ≤ 16 ⌝ }
-{
-    match b {
-        48..=57 => b - 48,
-        65..=70 => b - 55,
-        _ => 16,
-    }
-}
-
 // The byte that two digits spell; 256 where one of them is none.
 fn pair(high: u8, low: u8) -> usize
     ensures { λ r. ⌜ r ≤ 256 ⌝ }
 {
-    let h = digit(high) as usize;
-    let l = digit(low) as usize;
+    let h = hex::value_of(high) as usize;
+    let l = hex::value_of(low) as usize;
     if h == 16 {
         return 256;
     }
@@ -128,7 +88,7 @@ pub(crate) fn number_in(s: &[u8]) -> Number {
     let mut n: usize = 0;
     let mut i: usize = 0;
     while i < s.len() {
-        let d = digit(s[i]) as usize;
+        let d = hex::value_of(s[i]) as usize;
         if 9 < d {
             return Number::Bad;
         }
@@ -180,7 +140,7 @@ pub(crate) fn clock_in(s: &[u8]) -> Clock {
 
 // Two decimal numbers with a blank between them: where bytes start and how many they are.
 pub(crate) fn span_in(s: &[u8]) -> Span {
-    let gap = find(s, b' ');
+    let gap = lines::find(s, b' ');
     let Number::Is(at) = number_in(&s[..gap]) else {
         return Span::Bad;
     };

@@ -11,9 +11,11 @@ use lib.Dec.{leb, eqb}
 use borrow.Author.Tests.{eqb-true, eq-eqb, ne-eqb}
 use Rattle.octets.specs.Octets.{all, Bytes}
 use Rattle.octets.proofs.If.{ifb-true, ifb-false, on-if}
-use Rattle.identifier.specs.Identifier.{digits, isDigit, fromDigitsAfter, identifier, identifierSize, serialOf}
+use Rattle.hex.specs.Hex.{isDigit}
+use Rattle.hex.proofs.Digits.{digit-text}
+use Rattle.identifier.specs.Identifier.{digits, fromDigitsAfter, identifier, identifierSize, serialOf}
 use Rattle.octets.proofs.Bools.{both}
-use Rattle.identifier.proofs.Digits.{length-digits, digits-all, all-bytes, all-weaker, digit-text, digits-back, digits-after, after-lt}
+use Rattle.identifier.proofs.Digits.{length-digits, digits-all, all-bytes, all-weaker, digits-back, digits-after, after-lt}
 
 -- ---- the text of a serial
 

@@ -14,32 +14,9 @@ use Rattle.octets.specs.If.{ifb}
 use Rattle.octets.specs.Octets.{all}
 use Rattle.octets.proofs.If.{ifb-true, ifb-false, on-bool}
 use Rattle.octets.proofs.All.{all-go, all-stop, all-end}
-use Rattle.identifier.specs.Identifier.{digit, digits, isDecimal, isLetter, isDigit, digitOf, fromDigitsAfter, serialOf}
-use Rattle.identifier.proofs.Digits.{Spells, character-spells}
-
--- ---- the digit of a character, or 16
-
-module _ (c : ℕ) where
-  abbrev pub found : ℕ
-  found = ifb (isDigit c) (digitOf c) 16
-
-  pub found-spells : (r : ℕ) → Spells c r → r ≡ found
-  found-spells r s = sym (ifb-true _ _ _ (s .is) ∙ s .back)
-
-  pub found-none : isDecimal c ≡ false → isLetter c ≡ false → 16 ≡ found
-  found-none n m = sym (ifb-false _ _ _ (rw (n, m)))
-
-  pub spells-found : (r : ℕ) → r ≡ found → (r ≡ 16 → ⊥) → Spells c r
-  spells-found r e h =
-      on-bool (isDigit c)
-      (λ t. rw (e ∙ ifb-true _ _ _ t) (character-spells c t))
-      (λ n. absurd (h (e ∙ ifb-false _ _ _ n)))
-
-  pub none-found : (r : ℕ) → r ≡ found → r ≡ 16 → isDigit c ≡ false
-  none-found r e h =
-      on-bool (isDigit c)
-      (λ t. let s = character-spells c t in let b : r ≡ digitOf c = e ∙ ifb-true _ _ _ t in absurd (omega arith))
-      (λ n. n)
+use Rattle.hex.specs.Hex.{digit, isDigit}
+use Rattle.hex.proofs.Digits.{Spells}
+use Rattle.identifier.specs.Identifier.{digits, fromDigitsAfter, serialOf}
 
 -- ---- reading: a is spelled so far, and rest is left
 

@@ -7,22 +7,10 @@ ghost use lib.ListN.{length};
 // "An item at depth 9 is malformed".
 const DEPTH_MOST: usize = 8;
 
-// A hex digit. `print_byte` shows the bound.
-fn digit(n: u8) -> u8
-    requires { ⌜ n < 16 ⌝ }
-{
-    if n < 10 { 48 + n } else { 55 + n }
-}
-
-fn print_byte(b: u8) {
-    let pair = [digit(b / 16), digit(b % 16)];
-    io::write_all(1, &pair);
-}
-
 fn print_tag(tag: u32) {
-    print_byte((tag / 65536 % 256) as u8);
-    print_byte((tag / 256 % 256) as u8);
-    print_byte((tag % 256) as u8);
+    printlib::byte((tag / 65536 % 256) as u8);
+    printlib::byte((tag / 256 % 256) as u8);
+    printlib::byte((tag % 256) as u8);
 }
 
 fn print_type(kind: u8) {
@@ -61,14 +49,6 @@ fn print_head(depth: usize, tag: u32, kind: u8, len: usize) {
     io::print_decimal(1, len as u64);
 }
 
-fn print_bytes(s: &[u8]) {
-    let mut k: usize = 0;
-    while k < s.len() {
-        print_byte(s[k]);
-        k += 1;
-    }
-}
-
 // A number in two's complement; half is the first that stands for one below zero. `print_number` shows the bound.
 fn print_signed(bits: u64, half: u64)
     requires { ⌜ bits ≤ half + half ⌝ }
@@ -105,11 +85,11 @@ fn print_plain(kind: u8, v: &[u8]) {
         return;
     }
     if kind == ttlv::BYTE_STRING {
-        print_bytes(v);
+        printlib::bytes(v);
         return;
     }
     if kind == ttlv::BIG_INTEGER {
-        print_bytes(v);
+        printlib::bytes(v);
         return;
     }
     print_number(kind, octets::number(v));

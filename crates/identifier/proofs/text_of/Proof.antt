@@ -23,6 +23,9 @@ loop-holds c = (omega arith, (refl, append-nil _))
 sub-k : tie.Need-sub-k Inv-loop μ-loop
 sub-k c = omega arith
 
+cast-character : tie.Need-cast-character Inv-loop μ-loop
+cast-character c = omega arith
+
 character-requires : tie.Need-character-requires Inv-loop μ-loop
 character-requires c κs = omega arith
 
@@ -52,6 +55,7 @@ text-of-spec =
     μ-loop
     loop-holds
     sub-k
+    cast-character
     character-requires
     array-write-text
     loop-less

@@ -1,0 +1,4 @@
+-- Laws of hex digits.
+-- Assumes nothing.
+pub mod Digits
+pub mod Unique

@@ -1,0 +1,3 @@
+-- Hex digits.
+-- Assumes nothing.
+pub mod Hex

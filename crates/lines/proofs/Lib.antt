@@ -1,0 +1,4 @@
+-- Laws of lines.
+-- Assumes nothing.
+pub mod Lines
+pub mod Unique

@@ -1,0 +1,3 @@
+-- Bytes as text in lines.
+-- Assumes nothing.
+pub mod Lines

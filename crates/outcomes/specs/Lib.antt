@@ -1,0 +1,3 @@
+-- What it means that a contract leaves one outcome.
+-- Assumes nothing.
+pub mod Outcomes

@@ -1,0 +1,37 @@
+// What programs print: bytes as upper-case hex, and what came of a call.
+// Assumes nothing. What is printed is tested and not proved.
+
+// A byte as two hex digits.
+pub fn byte(b: u8) {
+    let pair = hex::pair_of(b);
+    io::write_all(1, &pair);
+}
+
+// Bytes as hex without blanks.
+pub fn bytes(s: &[u8]) {
+    for i in 0..s.len() {
+        byte(s[i]);
+    }
+}
+
+// Bytes as hex without blanks, to the end of a line.
+pub fn line(s: &[u8]) {
+    bytes(s);
+    io::write_all(1, b"\n");
+}
+
+// The response at the front of the output, or the number of the refusal. That a response fits is the engine's promise; here it is tested, so that
+// nothing has to be asked.
+pub fn answer(out: &[u8], number: u32, len: usize) {
+    if number != 0 {
+        io::write_all(1, b"refusal ");
+        io::print_decimal(1, number as u64);
+        io::write_all(1, b"\n");
+        return;
+    }
+    if out.len() < len {
+        io::write_all(1, b"longer than the output\n");
+        return;
+    }
+    line(&out[..len]);
+}
