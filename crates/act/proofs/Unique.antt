@@ -2,7 +2,6 @@
 -- Assumes nothing.
 use mathlib.Core.Path.{sym, ap, _∙_}
 use denote.Ref.{now}
-use borrow.Fn.Enter.{pair≡}
 use Rattle.outcomes.specs.Outcomes.{OneAnswer, OneOutcome}
 use Rattle.act.specs.declared.Performed.{Performed}
 use Rattle.act.specs.Act.{Did}
@@ -17,5 +16,5 @@ abbrev answer : Did → Performed
 answer did = record { outcome = did .outcome; holder = did .holder }
 
 -- one answer and one table
-pub perform-unique : OneOutcome perform-reads.Post (λ k r s. (r, now (s .0)))
-perform-unique κs a r r′ s s′ p q = pair≡ (ap answer (p ∙ sym q)) (ap (λ (did : Did). did .table) (p ∙ sym q))
+pub perform-unique : OneOutcome perform-reads.Post (λ k s. now (s .0))
+perform-unique κs a r r′ s s′ p q = (ap answer (p ∙ sym q), ap (λ (did : Did). did .table) (p ∙ sym q))

@@ -16,10 +16,10 @@ use Rattle.octets.proofs.Over.{lent-length}
 use Rattle.ttlv.specs.Types.{structure, enumeration, padded, lengthOk}
 use Rattle.ttlv.specs.Items.{Items, nil, value, group, head, encode}
 use Rattle.ttlv.proofs.Back.{eights}
-use Rattle.ttlv_write.specs.Write.{tagOf, join, spelled, fits, Wrote, WroteValue, WroteHead, Holds}
+use Rattle.ttlv_put.specs.Write.{tagOf, join, spelled, fits, Wrote, WroteValue, WroteHead, Holds}
 use Rattle.ttlv.proofs.Sizes.{length-head}
-use Rattle.ttlv_write.proofs.Sizes.{length-value, encode-nil, encode-value, encode-group}
-use Rattle.ttlv_write.proofs.Holds.{wrote-size, holds-none, holds-wrote, holds-value, holds-then, holds-front, holds-join, holds-group, holds-length, holds-left}
+use Rattle.ttlv_put.proofs.Sizes.{length-value, encode-nil, encode-value, encode-group}
+use Rattle.ttlv_put.proofs.Holds.{wrote-size, holds-none, holds-wrote, holds-value, holds-then, holds-front, holds-join, holds-group, holds-length, holds-left}
 use Rattle.answer.specs.Tags.{resultStatus, responsePayload}
 use Rattle.answer.specs.Respond.{word, long, success, succeeded}
 use Rattle.answer_write.specs.Puts.{Puts, opening}

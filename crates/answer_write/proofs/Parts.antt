@@ -9,7 +9,7 @@ use mathlib.Core.List.{List, [], _∷_}
 use lib.Dec.{eqb}
 use Rattle.ttlv.specs.Types.{longInteger, enumeration, textString, byteString, text}
 use Rattle.ttlv.specs.Items.{Items, nil, value, group}
-use Rattle.ttlv_write.specs.Write.{tagOf, join, WroteValue}
+use Rattle.ttlv_put.specs.Write.{tagOf, join, WroteValue}
 use Rattle.identifier.specs.Identifier.{identifier}
 use Rattle.identifier.proofs.Texts.{length-identifier, identifier-text}
 use Rattle.frame.specs.Tags.{uniqueBatchItemId}

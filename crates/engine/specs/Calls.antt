@@ -12,7 +12,7 @@ use Rattle.octets.specs.Maybe.{isSome}
 use Rattle.ttlv.specs.Items.{nil, group, encode}
 use Rattle.ttlv.specs.Parse.{message}
 use Rattle.ttlv.specs.Tree.{isRun, treeOf}
-use Rattle.ttlv_write.specs.Write.{Holds}
+use Rattle.ttlv_put.specs.Write.{Holds}
 use Rattle.table.specs.Layout.{placeCount, sizeOf}
 use Rattle.soundness.specs.Sound.{sound}
 use Rattle.frame.specs.Tags.{batchItem}

@@ -1,10 +1,14 @@
 -- No second outcome meets the contract of `junctionmoth_serve`: number, length, table and output follow from the inputs alone.
 -- Assumes nothing.
 use mathlib.Core.Path.{sym, _∙_}
+use Prim.Native.Nat.{ℕ}
+use mathlib.Core.List.{List}
 use denote.Ref.{now}
 use borrow.Fn.Enter.{pair≡}
 use Rattle.outcomes.specs.Outcomes.{OneOutcome}
 use Rattle.junctionmoth.proofs.junctionmoth_serve.Reads as reads
 
-pub junctionmoth-serve-unique : OneOutcome reads.Post (λ k r s. (r, now (s .1 .1 .1 .1 .1 .0), now (s .1 .0), now (s .1 .1 .1 .1 .0)))
-junctionmoth-serve-unique κs a r r′ s s′ p q = pair≡ (p .number-is ∙ sym (q .number-is)) (pair≡ (p .length-is ∙ sym (q .length-is)) (pair≡ (p .table-is ∙ sym (q .table-is)) (p .output-is ∙ sym (q .output-is))))
+-- the length, the table and the output are what is left
+pub junctionmoth-serve-unique : OneOutcome {X = λ k. ℕ × (List ℕ × List ℕ)} reads.Post (λ k s. (now (s .1 .1 .1 .1 .1 .0), (now (s .1 .0), now (s .1 .1 .1 .1 .0))))
+junctionmoth-serve-unique κs a r r′ s s′ p q =
+    (p .number-is ∙ sym (q .number-is), pair≡ (p .length-is ∙ sym (q .length-is)) (pair≡ (p .table-is ∙ sym (q .table-is)) (p .output-is ∙ sym (q .output-is))))

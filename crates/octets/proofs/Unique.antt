@@ -2,7 +2,7 @@
 -- Assumes nothing.
 use mathlib.Core.Path.{sym, _∙_}
 use denote.Ref.{now}
-use Rattle.outcomes.specs.Outcomes.{OneAnswer, OneOutcome}
+use Rattle.outcomes.specs.Outcomes.{OneAnswer, OneLeft}
 use Rattle.octets.proofs.fewer.Reads as fewer
 use Rattle.octets.proofs.number.Reads as number
 use Rattle.octets.proofs.number_at.Reads as number-at
@@ -19,10 +19,10 @@ number-unique κs a r r′ s s′ p q = p .0 ∙ sym (q .0)
 pub number-at-unique : OneAnswer number-at.Post
 number-at-unique κs a r r′ s s′ p q = p .0 ∙ sym (q .0)
 
-pub put-unique : OneOutcome put.Post (λ k r s. now (s .0))
+pub put-unique : OneLeft put.Post (λ k s. now (s .0))
 put-unique κs a r r′ s s′ p q = p ∙ sym q
 
-pub put-all-unique : OneOutcome put-all.Post (λ k r s. now (s .0))
+pub put-all-unique : OneLeft put-all.Post (λ k s. now (s .0))
 put-all-unique κs a r r′ s s′ p q = p ∙ sym q
 
 pub all-zero-unique : OneAnswer all-zero.Post

@@ -20,10 +20,10 @@ use Rattle.ttlv.proofs.Well.{parse-well}
 use Rattle.ttlv.proofs.Back.{parse-back}
 use Rattle.ttlv.proofs.Fine.{FineValue, FineGroup, well-value, value-well, well-group, group-well}
 use Rattle.ttlv.proofs.Tree.{Tree, t-end, t-value, tree, run-parse, parse-run, tree-value, tree-group, group-rest, body-run}
-use Rattle.ttlv_write.specs.Write.{tagOf, join, WroteValue, WroteHead, Holds}
+use Rattle.ttlv_put.specs.Write.{tagOf, join, WroteValue, WroteHead, Holds}
 use Rattle.ttlv.proofs.Sizes.{length-head}
-use Rattle.ttlv_write.proofs.Sizes.{length-value, encode-value, encode-join}
-use Rattle.ttlv_write.proofs.Holds.{holds-value, holds-head}
+use Rattle.ttlv_put.proofs.Sizes.{length-value, encode-value, encode-join}
+use Rattle.ttlv_put.proofs.Holds.{holds-value, holds-head}
 use Rattle.rewrite.specs.Again.{Again}
 
 -- the last two bytes of a tag that starts with 42 hex give the tag

@@ -2,9 +2,8 @@
 -- Assumes nothing.
 use mathlib.Core.Path.{sym, _∙_}
 use denote.Ref.{now}
-use borrow.Fn.Enter.{pair≡}
 use Rattle.outcomes.specs.Outcomes.{OneOutcome}
 use Rattle.rewrite.proofs.rewrite.Reads as reads
 
-pub rewrite-unique : OneOutcome reads.Post (λ k r s. (r, now (s .0)))
-rewrite-unique κs a r r′ s s′ p q = pair≡ (p .answer ∙ sym (q .answer)) (p .bytes ∙ sym (q .bytes))
+pub rewrite-unique : OneOutcome reads.Post (λ k s. now (s .0))
+rewrite-unique κs a r r′ s s′ p q = (p .answer ∙ sym (q .answer), p .bytes ∙ sym (q .bytes))

@@ -16,7 +16,8 @@ use Rattle.octets.proofs.If.{ifb-true, ifb-false, on-bool}
 use Rattle.octets.proofs.Numbers.{be-fromBe}
 use Rattle.ttlv.specs.Types.{structure, integer, longInteger, bigInteger, enumeration, boolean, textString, byteString, dateTime, interval, dateTimeExtended, padded, isWord, isLong, lengthOk, valueOk, text}
 use Rattle.ttlv.specs.Items.{encode}
-use Rattle.ttlv_write.specs.Write.{item, bit, spelled, fits, Wrote, WroteNumber, WroteValue}
+use Rattle.ttlv_put.specs.Write.{item, spelled, fits, Wrote, WroteNumber, WroteValue}
+use Rattle.ttlv_write.specs.Writable.{bit}
 
 -- ---- what is left when the others are ruled out
 

@@ -17,7 +17,7 @@ use Rattle.ttlv.specs.Items.{Items}
 use Rattle.ttlv.specs.Parse.{message}
 use Rattle.ttlv.specs.Tree.{isRun}
 use Rattle.ttlv.proofs.Message.{message-tree}
-use Rattle.ttlv_write.specs.Write.{Wrote}
+use Rattle.ttlv_put.specs.Write.{Wrote}
 use Rattle.rewrite.specs.Again.{Again}
 
 -- a message is a run

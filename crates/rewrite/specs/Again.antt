@@ -9,7 +9,7 @@ use Rattle.octets.specs.Maybe.{isSome}
 use Rattle.octets.specs.Octets.{over}
 use Rattle.ttlv.specs.Parse.{message}
 use Rattle.ttlv.specs.Tree.{isRun}
-use Rattle.ttlv_write.specs.Write.{fits, Wrote}
+use Rattle.ttlv_put.specs.Write.{fits, Wrote}
 
 -- the item at the front of t, or the head of a structure there, stands again over the front of the room: r bytes, with a run behind them
 pub record Again (t room after : List ℕ) (r : ℕ) : Type 0 where

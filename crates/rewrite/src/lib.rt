@@ -7,7 +7,7 @@ ghost use Prim.Native.Nat.{_≤_, _<_};
 ghost use lib.ListN.{length};
 ghost use Rattle.ttlv.specs.Types.{structure, boolean, isWord, isLong, lengthOk, valueOk};
 ghost use Rattle.ttlv.specs.Tree.{isRun};
-ghost use Rattle.ttlv_write.specs.Write.{WroteNumber, WroteValue};
+ghost use Rattle.ttlv_put.specs.Write.{WroteNumber, WroteValue};
 ghost use Rattle.rewrite.specs.Again.{Again, Rewrote};
 
 // A number of four bytes by the writer of its type. `rewrite_value` shows that the type has four.
@@ -79,7 +79,7 @@ fn rewrite_first(out: &mut [u8], t: &[u8]) -> usize
             rewrite_value(out, (tag % 65536) as u16, kind, &t[8..stop])
         }
         First::Group { tag, next } => {
-            ttlv_write::write_structure(out, (tag % 65536) as u16, next - 8)
+            ttlv_put::write_structure(out, (tag % 65536) as u16, next - 8)
         }
     }
 }

@@ -2,7 +2,7 @@
 -- Assumes nothing.
 use mathlib.Core.Path.{sym, _∙_}
 use denote.Ref.{now}
-use Rattle.outcomes.specs.Outcomes.{OneAnswer, OneOutcome}
+use Rattle.outcomes.specs.Outcomes.{OneAnswer, OneLeft}
 use Rattle.table.proofs.Layout.line.Reads as line-reads
 use Rattle.table.proofs.Layout.body.Reads as body-reads
 use Rattle.table.proofs.Layout.size.Reads as size-reads
@@ -26,7 +26,7 @@ size-unique κs a r r′ s s′ p q = p ∙ sym q
 pub last-serial-unique : OneAnswer last-serial-reads.Post
 last-serial-unique κs a r r′ s s′ p q = p ∙ sym q
 
-pub set-last-serial-unique : OneOutcome set-last-serial-reads.Post (λ k r s. now (s .0))
+pub set-last-serial-unique : OneLeft set-last-serial-reads.Post (λ k s. now (s .0))
 set-last-serial-unique κs a r r′ s s′ p q = p ∙ sym q
 
 pub places-said-unique : OneAnswer places-said-reads.Post

@@ -1,8 +1,5 @@
--- The laws of written items: their sizes, how puts make one, and how one is written behind another.
+-- The laws of the writers of each type: that their tests are the right ones, and a sample of how writes compose.
 -- Assumes nothing.
-pub mod Sizes
-pub mod Puts
-pub mod Holds
 pub mod Sample
 pub mod Writable
 pub mod Unique

@@ -9,10 +9,10 @@ use borrow.Rule.Slice.PartMut.{putMid, midOf}
 use Rattle.octets.proofs.Over.{lent-length}
 use Rattle.ttlv.specs.Types.{structure, integer}
 use Rattle.ttlv.specs.Items.{Items, nil, group, encode}
-use Rattle.ttlv_write.specs.Write.{tagOf, numberItem, join, WroteNumber, WroteHead, Holds}
+use Rattle.ttlv_put.specs.Write.{tagOf, numberItem, join, WroteNumber, WroteHead, Holds}
 use Rattle.ttlv.proofs.Sizes.{length-head}
-use Rattle.ttlv_write.proofs.Sizes.{length-join, length-number, encode-join}
-use Rattle.ttlv_write.proofs.Holds.{holds-number, holds-head, holds-then, holds-front, holds-join, holds-group, holds-left, holds-length}
+use Rattle.ttlv_put.proofs.Sizes.{length-join, length-number, encode-join}
+use Rattle.ttlv_put.proofs.Holds.{holds-number, holds-head, holds-then, holds-front, holds-join, holds-group, holds-left, holds-length}
 
 -- the two fields
 abbrev pub fields : ℕ → ℕ → ℕ → ℕ → Items

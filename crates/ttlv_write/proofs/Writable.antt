@@ -19,9 +19,10 @@ use Rattle.ttlv.specs.Items.{Items, nil, group, encode, tagOk, itemOk, wellForm
 use Rattle.ttlv.specs.Parse.{parse}
 use Rattle.ttlv.proofs.Back.{parse-back}
 use Rattle.octets.proofs.Bools.{both}
-use Rattle.ttlv_write.specs.Write.{tagOf, item, numberItem, bit, fits, spelled, valueFits, writable, Wrote}
-use Rattle.ttlv_write.proofs.Sizes.{length-value}
-use Rattle.ttlv_write.proofs.Holds.{wrote-size, wrote-bytes}
+use Rattle.ttlv_put.specs.Write.{tagOf, item, numberItem, fits, spelled, valueFits, Wrote}
+use Rattle.ttlv_write.specs.Writable.{bit, writable}
+use Rattle.ttlv_put.proofs.Sizes.{length-value}
+use Rattle.ttlv_put.proofs.Holds.{wrote-size, wrote-bytes}
 
 tag-right : (tag : ℕ) → tag < 65536 → tagOk (tagOf tag) ≡ true
 tag-right tag h = eq-eqb ((0x420000 + tag) / 65536) 0x42 (omega arith)

@@ -1,3 +1,3 @@
--- What a writer of TTLV leaves in the room that it is lent.
+-- The value of a Boolean, and when an item is written.
 -- Assumes nothing.
-pub mod Write
+pub mod Writable

@@ -4,7 +4,7 @@ use native.Mathlib.Omega.{arith}
 use Rattle.ttlv.specs.Types.{integer, enumeration}
 use Rattle.payload.specs.Tags.{cryptographicAlgorithm, cryptographicLength, cryptographicUsageMask, aes}
 use Rattle.answer.specs.Tags.{stateTag}
-use Rattle.ttlv_write.specs.Write.{join}
+use Rattle.ttlv_put.specs.Write.{join}
 use Rattle.answer_write.proofs.Compose.{puts-word, then-word}
 use borrow.Author.Needs.{needs}
 use Rattle.answer_write.proofs.write_always.Statement.{statement}

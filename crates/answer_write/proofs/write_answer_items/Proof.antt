@@ -4,7 +4,7 @@ use native.Mathlib.Omega.{arith}
 use Rattle.ttlv.specs.Types.{enumeration}
 use Rattle.frame.specs.Tags.{operationTag}
 use lib.ListN.{take}
-use Rattle.ttlv_write.specs.Write.{join}
+use Rattle.ttlv_put.specs.Write.{join}
 use Rattle.answer.specs.Respond.{answerItems, outcomeItems}
 use Rattle.answer_write.proofs.Compose.{puts-word, puts-then}
 use Rattle.answer_write.proofs.Parts.{id-join}

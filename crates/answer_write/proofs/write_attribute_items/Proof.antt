@@ -1,6 +1,6 @@
 -- `answer_write::write_attribute_items`. The numbers, then the limits, then the links.
 -- Assumes nothing.
-use Rattle.ttlv_write.specs.Write.{join}
+use Rattle.ttlv_put.specs.Write.{join}
 use Rattle.answer.specs.Respond.{attributeItems, linkItems}
 use Rattle.ttlv.specs.Items.{nil}
 use Rattle.answer.specs.Tags.{replacedObjectLink, replacementObjectLink}

@@ -5,7 +5,7 @@ use mathlib.Core.Path.{_≡_}
 use Rattle.ttlv.specs.Types.{enumeration}
 use Rattle.rules.specs.Numbers.{reasonNumber}
 use Rattle.answer.specs.Tags.{resultStatus, resultReason}
-use Rattle.ttlv_write.specs.Write.{join}
+use Rattle.ttlv_put.specs.Write.{join}
 use Rattle.answer.specs.Respond.{operationFailed, outcomeItems}
 use Rattle.answer_write.proofs.Compose.{puts-word, then-word}
 use borrow.Author.Needs.{needs}

@@ -2,7 +2,7 @@
 -- Assumes nothing.
 use native.Mathlib.Omega.{arith}
 use Prim.Native.Nat.{_+_}
-use Rattle.ttlv_write.proofs.Holds.{holds-then}
+use Rattle.ttlv_put.proofs.Holds.{holds-then}
 use Rattle.answer.specs.Front.{headerSize, front}
 use Rattle.answer_write.proofs.Compose.{holds-structure}
 use borrow.Author.Needs.{needs}

@@ -4,7 +4,7 @@ use native.Mathlib.Omega.{arith}
 use Rattle.ttlv.specs.Types.{integer, dateTime}
 use Rattle.frame.specs.Tags.{batchCount}
 use Rattle.answer.specs.Tags.{timeStamp}
-use Rattle.ttlv_write.specs.Write.{join}
+use Rattle.ttlv_put.specs.Write.{join}
 use Rattle.answer.specs.Respond.{headerItems, versionItems}
 use Rattle.answer_write.proofs.Compose.{then-long, then-word}
 use borrow.Author.Needs.{needs}

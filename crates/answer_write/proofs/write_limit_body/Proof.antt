@@ -3,7 +3,7 @@
 use native.Mathlib.Omega.{arith}
 use Rattle.ttlv.specs.Types.{longInteger, enumeration}
 use Rattle.payload.specs.Tags.{usageLimitsTotal, usageLimitsCount, usageLimitsUnit}
-use Rattle.ttlv_write.specs.Write.{join}
+use Rattle.ttlv_put.specs.Write.{join}
 use Rattle.answer_write.proofs.Compose.{puts-long, then-long, then-word}
 use borrow.Author.Needs.{needs}
 use Rattle.answer_write.proofs.write_limit_body.Statement.{statement}

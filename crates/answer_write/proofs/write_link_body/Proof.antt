@@ -3,7 +3,7 @@
 use native.Mathlib.Omega.{arith}
 use Rattle.ttlv.specs.Types.{enumeration}
 use Rattle.answer.specs.Tags.{linkType}
-use Rattle.ttlv_write.specs.Write.{join}
+use Rattle.ttlv_put.specs.Write.{join}
 use Rattle.answer_write.proofs.Compose.{puts-word, puts-then}
 use borrow.Author.Needs.{needs}
 use Rattle.answer_write.proofs.write_link_body.Statement.{statement}

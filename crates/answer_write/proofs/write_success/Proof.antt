@@ -4,7 +4,7 @@ use native.Mathlib.Omega.{arith}
 use mathlib.Core.Path.{refl}
 use Rattle.ttlv.specs.Types.{enumeration}
 use Rattle.answer.specs.Tags.{resultStatus}
-use Rattle.ttlv_write.proofs.Holds.{holds-then, holds-left}
+use Rattle.ttlv_put.proofs.Holds.{holds-then, holds-left}
 use Rattle.answer.specs.Respond.{success}
 use Rattle.answer_write.proofs.Compose.{puts-word, holds-structure}
 use borrow.Author.Needs.{needs}

@@ -8,7 +8,7 @@ use borrow.Author.Tests.{le-leb, lt-leb, not-true, not-false}
 use borrow.Author.Needs.{needs}
 use Rattle.octets.specs.Maybe.{isSome}
 use Rattle.ttlv.specs.Parse.{message}
-use Rattle.ttlv_write.proofs.Puts.{wrote-none}
+use Rattle.ttlv_put.proofs.Puts.{wrote-none}
 use Rattle.rewrite.proofs.Walk.{Mid, start, kept, length-left, left-fits, again, whole}
 use Rattle.rewrite.proofs.rewrite.Statement.{statement}
 use Rattle.rewrite.proofs.rewrite.Tie as tie

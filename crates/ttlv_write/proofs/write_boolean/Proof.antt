@@ -2,7 +2,7 @@
 -- Assumes nothing.
 use Prim.Native.Nat.{ℕ}
 use Rattle.octets.proofs.If.{ifb-true, ifb-false}
-use Rattle.ttlv_write.specs.Write.{bit}
+use Rattle.ttlv_write.specs.Writable.{bit}
 use borrow.Author.Needs.{needs}
 use Rattle.ttlv_write.proofs.write_boolean.Statement.{statement}
 use Rattle.ttlv_write.proofs.write_boolean.Tie as tie

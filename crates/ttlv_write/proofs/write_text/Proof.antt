@@ -3,7 +3,7 @@
 use mathlib.Core.Path.{sym, _∙_}
 use borrow.Author.Tests.{not-true, not-false}
 use Rattle.ttlv.specs.Types.{textString}
-use Rattle.ttlv_write.proofs.Puts.{wrote-right, wrote-wrong}
+use Rattle.ttlv_put.proofs.Puts.{wrote-right, wrote-wrong}
 use borrow.Author.Needs.{needs}
 use Rattle.ttlv_write.proofs.write_text.Statement.{statement}
 use Rattle.ttlv_write.proofs.write_text.Tie as tie

@@ -1,4 +1,4 @@
--- `ttlv_write::write_structure`. Each refusal by its test; else the head.
+-- `ttlv_put::write_structure`. Each refusal by its test; else the head.
 -- Assumes nothing.
 use Prim.Native.Nat.{_≤_, _^_}
 use native.Mathlib.Omega.{arith}
@@ -8,12 +8,12 @@ use lib.ListN.{length}
 use borrow.Author.Tests.{le-leb, lt-leb, lt-ltb, le-ltb, not-true, not-false}
 use Rattle.ttlv.specs.Types.{structure, lengthOk}
 use Rattle.ttlv.specs.Items.{head}
-use Rattle.ttlv_write.specs.Write.{tagOf, spelled, fits}
+use Rattle.ttlv_put.specs.Write.{tagOf, spelled, fits}
 use Rattle.ttlv.proofs.Sizes.{length-head}
-use Rattle.ttlv_write.proofs.Puts.{wrote-all, wrote-none}
+use Rattle.ttlv_put.proofs.Puts.{wrote-all, wrote-none}
 use borrow.Author.Needs.{needs}
-use Rattle.ttlv_write.proofs.write_structure.Statement.{statement}
-use Rattle.ttlv_write.proofs.write_structure.Tie as tie
+use Rattle.ttlv_put.proofs.write_structure.Statement.{statement}
+use Rattle.ttlv_put.proofs.write_structure.Tie as tie
 
 returns : tie.Need-returns
 returns c =

@@ -15,9 +15,9 @@ use Rattle.octets.proofs.Over.{length-over, over-front, lent, lent-then}
 use Rattle.ttlv.specs.Types.{structure, padded, lengthOk}
 use Rattle.ttlv.specs.Items.{Items, nil, group, head, encode}
 use Rattle.ttlv.proofs.Back.{eights}
-use Rattle.ttlv_write.specs.Write.{tagOf, item, numberItem, join, spelled, fits, valueFits, Wrote, WroteNumber, WroteValue, WroteHead, Holds}
+use Rattle.ttlv_put.specs.Write.{tagOf, item, numberItem, join, spelled, fits, valueFits, Wrote, WroteNumber, WroteValue, WroteHead, Holds}
 use Rattle.ttlv.proofs.Sizes.{length-head}
-use Rattle.ttlv_write.proofs.Sizes.{length-value, length-number, encode-join, encode-group}
+use Rattle.ttlv_put.proofs.Sizes.{length-value, length-number, encode-join, encode-group}
 
 -- ---- a write that fits
 

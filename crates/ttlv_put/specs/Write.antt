@@ -9,7 +9,7 @@ use lib.Dec.{leb, ltb}
 use Rattle.octets.specs.If.{ifb}
 use Rattle.octets.specs.Octets.{be, over}
 use Rattle.ttlv.specs.Types.{structure, padded, lengthOk}
-use Rattle.ttlv.specs.Items.{Items, nil, value, group, head, encode, wellFormed}
+use Rattle.ttlv.specs.Items.{Items, nil, value, group, head, encode}
 
 -- a tag by its last two bytes; the first is 42 hex
 abbrev pub tagOf : ℕ → ℕ
@@ -24,10 +24,6 @@ item tag kind v = value (tagOf tag) kind v nil
 -- an item whose value is a number: 4 bytes of an Integer, an Enumeration or an Interval, 8 of a Long Integer, a Boolean or a Date-Time
 abbrev pub numberItem : ℕ → ℕ → ℕ → ℕ → Items
 numberItem width tag kind bits = item tag kind (be width bits)
-
--- the value of a Boolean: 0 or 1
-unfoldable pub bit : Bool → ℕ
-bit b = ifb b 1 0
 
 -- items behind items
 unfoldable pub join : Items → Items → Items
@@ -48,10 +44,6 @@ spelled n = ltb n (256 ^ 4)
 -- a value of n bytes has a length that can be spelled, and fits with its head and its padding
 abbrev pub valueFits : List ℕ → ℕ → Bool
 valueFits room n = spelled n && fits room (8 + padded n)
-
--- what all these tests say: the item reads back, and the room has place for it
-abbrev pub writable : Items → List ℕ → Bool
-writable t room = wellFormed 1 t && fits room (length (encode t))
 
 -- ---- what a writer answers
 

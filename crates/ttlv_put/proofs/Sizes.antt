@@ -10,7 +10,7 @@ use Rattle.octets.proofs.Numbers.{length-be}
 use Rattle.ttlv.specs.Types.{structure, padded}
 use Rattle.ttlv.specs.Items.{Items, nil, value, group, head, encode}
 use Rattle.ttlv.proofs.Sizes.{size, size-nil, size-value, size-group}
-use Rattle.ttlv_write.specs.Write.{tagOf, numberItem, join}
+use Rattle.ttlv_put.specs.Write.{tagOf, numberItem, join}
 
 -- ---- sizes
 

@@ -1,4 +1,4 @@
--- `ttlv_write::write_number`. The head, the value and zeros up to eight, one behind the other.
+-- `ttlv_put::write_number`. The head, the value and zeros up to eight, one behind the other.
 -- Assumes nothing.
 use Prim.Native.Nat.{_≤_, _-_}
 use native.Mathlib.Omega.{arith}
@@ -7,11 +7,11 @@ use borrow.Author.Tests.{le-leb, lt-leb}
 use Rattle.octets.specs.Octets.{be}
 use Rattle.octets.proofs.Numbers.{length-be}
 use Rattle.ttlv.specs.Items.{encode}
-use Rattle.ttlv_write.specs.Write.{tagOf, numberItem}
-use Rattle.ttlv_write.proofs.Puts.{wrote-value, wrote-none}
+use Rattle.ttlv_put.specs.Write.{tagOf, numberItem}
+use Rattle.ttlv_put.proofs.Puts.{wrote-value, wrote-none}
 use borrow.Author.Needs.{needs}
-use Rattle.ttlv_write.proofs.write_number.Statement.{statement}
-use Rattle.ttlv_write.proofs.write_number.Tie as tie
+use Rattle.ttlv_put.proofs.write_number.Statement.{statement}
+use Rattle.ttlv_put.proofs.write_number.Tie as tie
 
 returns : tie.Need-returns
 returns c =

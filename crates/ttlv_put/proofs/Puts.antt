@@ -15,8 +15,8 @@ use Rattle.octets.proofs.Stores.{sets-append, sets-over}
 use Rattle.ttlv.specs.Types.{padded}
 use Rattle.ttlv.specs.Items.{nil, value, head, encode}
 use Rattle.ttlv.proofs.Sizes.{length-head}
-use Rattle.ttlv_write.proofs.Sizes.{length-value}
-use Rattle.ttlv_write.specs.Write.{item, Wrote, WroteValue}
+use Rattle.ttlv_put.proofs.Sizes.{length-value}
+use Rattle.ttlv_put.specs.Write.{item, Wrote, WroteValue}
 
 -- b is stored from the front on, and then d right behind it
 pub puts-then : (zs b d : List ℕ) {xs ys : List ℕ} (a : ℕ) → xs ≡ sets zs 0 b → length b ≡ a → ys ≡ sets xs a d → ys ≡ sets zs 0 (b ++ d)

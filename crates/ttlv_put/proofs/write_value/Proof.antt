@@ -1,4 +1,4 @@
--- `ttlv_write::write_value`. The head, the value and its padding, one behind the other.
+-- `ttlv_put::write_value`. The head, the value and its padding, one behind the other.
 -- Assumes nothing.
 use Prim.Native.Nat.{_+_, _≤_}
 use native.Mathlib.Omega.{arith}
@@ -8,11 +8,11 @@ use lib.ListN.{length}
 use borrow.Author.Tests.{le-leb, lt-leb, lt-ltb, le-ltb}
 use Rattle.ttlv.specs.Types.{padded}
 use Rattle.ttlv.specs.Items.{encode}
-use Rattle.ttlv_write.specs.Write.{tagOf, item, spelled, valueFits}
-use Rattle.ttlv_write.proofs.Puts.{wrote-value, wrote-none}
+use Rattle.ttlv_put.specs.Write.{tagOf, item, spelled, valueFits}
+use Rattle.ttlv_put.proofs.Puts.{wrote-value, wrote-none}
 use borrow.Author.Needs.{needs}
-use Rattle.ttlv_write.proofs.write_value.Statement.{statement}
-use Rattle.ttlv_write.proofs.write_value.Tie as tie
+use Rattle.ttlv_put.proofs.write_value.Statement.{statement}
+use Rattle.ttlv_put.proofs.write_value.Tie as tie
 
 returns : tie.Need-returns
 returns c =

@@ -1,11 +1,11 @@
--- `ttlv_write::put_head`. Three puts, one behind the other.
+-- `ttlv_put::put_head`. Three puts, one behind the other.
 -- Assumes nothing.
 use native.Mathlib.Omega.{arith}
-use Rattle.ttlv_write.specs.Write.{tagOf}
-use Rattle.ttlv_write.proofs.Puts.{head-puts}
+use Rattle.ttlv_put.specs.Write.{tagOf}
+use Rattle.ttlv_put.proofs.Puts.{head-puts}
 use borrow.Author.Needs.{needs}
-use Rattle.ttlv_write.proofs.put_head.Statement.{statement}
-use Rattle.ttlv_write.proofs.put_head.Tie as tie
+use Rattle.ttlv_put.proofs.put_head.Statement.{statement}
+use Rattle.ttlv_put.proofs.put_head.Tie as tie
 
 add-put : tie.Need-add-put
 add-put c = search needs

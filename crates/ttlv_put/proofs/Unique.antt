@@ -1,0 +1,24 @@
+-- No second outcome: what two calls with the same inputs ensure is the same, answer and room. Stated on the contracts as the checker reads them.
+-- Assumes nothing.
+use Prim.Native.Nat.{ℕ}
+use mathlib.Core.Path.{_≡_, sym, _∙_}
+use mathlib.Core.Bool.{Bool}
+use mathlib.Core.List.{List}
+use denote.Ref.{now}
+use Rattle.outcomes.specs.Outcomes.{OneOutcome}
+use Rattle.ttlv_put.specs.Write.{Wrote}
+use Rattle.ttlv_put.proofs.write_number.Reads as write-number
+use Rattle.ttlv_put.proofs.write_value.Reads as write-value
+use Rattle.ttlv_put.proofs.write_structure.Reads as write-structure
+
+pub wrote-unique : {ok : Bool} {size : ℕ} {b room : List ℕ} {after after′ : List ℕ} {r r′ : ℕ} → Wrote ok size b room after r → Wrote ok size b room after′ r′ → (r ≡ r′) × (after ≡ after′)
+wrote-unique p q = (p .answer ∙ sym (q .answer), p .bytes ∙ sym (q .bytes))
+
+pub write-number-unique : OneOutcome write-number.Post (λ k s. now (s .0))
+write-number-unique κs a r r′ s s′ p q = wrote-unique p q
+
+pub write-value-unique : OneOutcome write-value.Post (λ k s. now (s .0))
+write-value-unique κs a r r′ s s′ p q = wrote-unique p q
+
+pub write-structure-unique : OneOutcome write-structure.Post (λ k s. now (s .0))
+write-structure-unique κs a r r′ s s′ p q = wrote-unique p q
