@@ -110,7 +110,7 @@ fn put_born(t: &mut [u8], n: usize, i: usize, born: Record)
     ensures { λ _. ⌜ now (t .exit) ≡ bornAt n (now (t .entry)) born (At i) ⌝ }
 {
     let serial = born.serial;
-    records::store(t, n, i, born);
+    records_write::store(t, n, i, born);
     table::set_last_serial(t, serial);
 }
 
@@ -121,7 +121,7 @@ fn put_heir(t: &mut [u8], n: usize, i: usize, place: usize, heir: Record)
 {
     let old = records::load(t, n, i);
     let linked = rules::linked_to(heir.serial, old);
-    records::store(t, n, i, linked);
+    records_write::store(t, n, i, linked);
     put_born(t, n, place, heir);
 }
 
@@ -184,7 +184,7 @@ fn store_at(t: &mut [u8], n: usize, i: usize, holder: u32, changed: Record) -> P
     ensures { λ r. ⌜ leaves r (now (t .exit)) ≡ storing n holder (now (t .entry)) i changed ⌝ }
 {
     let serial = changed.serial;
-    records::store(t, n, i, changed);
+    records_write::store(t, n, i, changed);
     Performed {
         outcome: Outcome::Done { serial },
         holder,

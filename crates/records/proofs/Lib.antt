@@ -1,3 +1,3 @@
--- The uniqueness of what is read and stored; the laws of records and places are those of `table`.
+-- The uniqueness of what is read; the laws of records and places are those of `table`.
 -- Assumes nothing.
 pub mod Unique

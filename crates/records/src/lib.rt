@@ -1,12 +1,11 @@
-// The record at a place of the stored table: read whole or one link by itself, and stored.
+// The record at a place of the stored table, read whole or one link by itself.
 // It knows nothing of what may happen to a key. What the functions ask, the size of the table, was shown by the check of it; that a place is one of the table's, by the search that gave it.
 ghost use mathlib.Core.Path.{_≡_};
 ghost use Prim.Native.Nat.{_+_, _≤_, _<_};
 ghost use lib.ListN.{length};
-ghost use lib.Seq.{sets};
 ghost use Rattle.octets.specs.Octets.{part};
-ghost use Rattle.table.specs.Layout.{lineSize, bodySize, materialSize, sizeOf};
-ghost use Rattle.table.specs.Records.{line, body, placeAt, withPlace};
+ghost use Rattle.table.specs.Layout.{materialSize, sizeOf};
+ghost use Rattle.table.specs.Records.{placeAt};
 use table::Layout;
 use table::Record;
 
@@ -72,60 +71,4 @@ pub fn replacement(t: &[u8], n: usize, i: usize) -> u32
 {
     let at = Layout::line(i);
     octets::number_at(t, at + 12, 4) as u32
-}
-
-// Writes a line from `at` on; its caller shows that it lies in the table.
-fn put_line(
-    t: &mut [u8],
-    at: usize,
-    serial: u32,
-    state: u8,
-    unit: u8,
-    bits: u16,
-    replaced: u32,
-    replacement: u32,
-)
-    requires { ⌜ at + lineSize ≤ length (now t) ⌝ }
-    ensures { λ _. ⌜ now (t .exit) ≡ sets (now (t .entry)) at (line serial state unit bits replaced replacement) ⌝ }
-{
-    octets::put(t, at, 4, serial as u64);
-    octets::put(t, at + 4, 1, state as u64);
-    octets::put(t, at + 5, 1, unit as u64);
-    octets::put(t, at + 6, 2, bits as u64);
-    octets::put(t, at + 8, 4, replaced as u64);
-    octets::put(t, at + 12, 4, replacement as u64);
-}
-
-// Writes a body from `at` on; its caller shows that it lies in the table.
-fn put_body(t: &mut [u8], at: usize, total: u64, count: u64, mask: u32, material: [u8; 32])
-    requires { ⌜ at + bodySize ≤ length (now t) ⌝ }
-    ensures { λ _. ⌜ now (t .exit) ≡ sets (now (t .entry)) at (body total count mask material) ⌝ }
-{
-    octets::put(t, at, 8, total);
-    octets::put(t, at + 8, 8, count);
-    octets::put(t, at + 16, 4, mask as u64);
-    octets::put(t, at + Layout::ZEROS_IN, 4, 0);
-    octets::put_all(t, at + Layout::MATERIAL_IN, &material);
-}
-
-// Stores a record at place i.
-pub fn store(t: &mut [u8], n: usize, i: usize, r: Record)
-    requires { ⌜ (length (now t) ≡ sizeOf n) × (i < n) ⌝ }
-    ensures { λ _. ⌜ now (t .exit) ≡ withPlace n (now (t .entry)) i r ⌝ }
-{
-    let line_at = Layout::line(i);
-    let layout = Layout { places: n };
-    let body_at = layout.body(i);
-    let material = r.material;
-    put_line(
-        t,
-        line_at,
-        r.serial,
-        r.state,
-        r.unit,
-        r.bits,
-        r.replaced,
-        r.replacement,
-    );
-    put_body(t, body_at, r.total, r.count, r.mask, material);
 }

@@ -9,23 +9,18 @@ use borrow.Author.Needs.{needs}
 use Rattle.records.proofs.replacement.Statement.{statement}
 use Rattle.records.proofs.replacement.Tie as tie
 
--- src/lib.rt:73:9
 line-requires : tie.Need-line-requires
 line-requires c κs = search needs
 
--- src/lib.rt:74:26
 add-number-at : tie.Need-add-number-at
 add-number-at c = search needs
 
--- src/lib.rt:74:5
 number-at-requires : tie.Need-number-at-requires
 number-at-requires c κs = search needs
 
--- src/lib.rt:74:5
 cast-result : tie.Need-cast-result
 cast-result c = search needs
 
--- src/lib.rt:69:1
 returns : tie.Need-returns
 returns c =
     let a = c .before .before .before .args in

@@ -1,9 +1,9 @@
--- `records::put_line`. The six fields, written one after another, are the line.
+-- `records_write::put_line`. The six fields, written one after another, are the line.
 -- Assumes nothing.
 use Rattle.table.proofs.Lines.{line-chain}
 use borrow.Author.Needs.{needs}
-use Rattle.records.proofs.put_line.Statement.{statement}
-use Rattle.records.proofs.put_line.Tie as tie
+use Rattle.records_write.proofs.put_line.Statement.{statement}
+use Rattle.records_write.proofs.put_line.Tie as tie
 
 put-requires : tie.Need-put-requires
 put-requires c κs = search needs

@@ -1,9 +1,9 @@
--- `records::store`. The line and the body, each written at its offset.
+-- `records_write::store`. The line and the body, each written at its offset.
 -- Assumes nothing.
 use Rattle.table.specs.Records.{withPlace}
 use borrow.Author.Needs.{needs}
-use Rattle.records.proofs.store.Statement.{statement}
-use Rattle.records.proofs.store.Tie as tie
+use Rattle.records_write.proofs.store.Statement.{statement}
+use Rattle.records_write.proofs.store.Tie as tie
 
 line-requires : tie.Need-line-requires
 line-requires c κs = search needs

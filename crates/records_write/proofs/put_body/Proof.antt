@@ -1,9 +1,9 @@
--- `records::put_body`. The five fields, written one after another, are the body.
+-- `records_write::put_body`. The five fields, written one after another, are the body.
 -- Assumes nothing.
 use Rattle.table.proofs.Lines.{body-chain}
 use borrow.Author.Needs.{needs}
-use Rattle.records.proofs.put_body.Statement.{statement}
-use Rattle.records.proofs.put_body.Tie as tie
+use Rattle.records_write.proofs.put_body.Statement.{statement}
+use Rattle.records_write.proofs.put_body.Tie as tie
 
 put-requires : tie.Need-put-requires
 put-requires c κs = search needs

@@ -1,0 +1,3 @@
+-- The uniqueness of what is stored; the laws of records and places are those of `table`.
+-- Assumes nothing.
+pub mod Unique
