@@ -12,7 +12,8 @@ use Rattle.ttlv.specs.Types.{lengthOk, text, valueOk}
 use Rattle.identifier.specs.Identifier.{digits, identifier, fromDigitsAfter, serialOf}
 use Rattle.table.specs.Records.{line, body, recordOf, placeAt, withPlace, serialAt, stateAt, lastSerial, withLast, placesSaid, blank}
 use Rattle.table.specs.Search.{firstFrom, isNothing, orElse, find, freePlace, destroyedPlace, newPlace}
-use Rattle.soundness.specs.Sound.{sizeRight, countRight, leadRight, freeRight, zerosRight, distinctRight, issuedRight, stateRight, bitsRight, maskRight, limitRight, tailRight, wipedRight, replacedRight, replacementRight, ifStands, linksRight, breaksFree, breaksStanding, orLater, standingFault, placeFault, wholeFault, firstFault, sound}
+use Rattle.record_rules.specs.Rules.{stateRight, bitsRight, maskRight, limitRight, tailRight, wipedRight, replacedRight, replacementRight}
+use Rattle.soundness.specs.Sound.{sizeRight, countRight, leadRight, freeRight, zerosRight, distinctRight, issuedRight, ifStands, linksRight, breaksFree, breaksStanding, orLater, standingFault, placeFault, wholeFault, firstFault, sound}
 use Rattle.rules.specs.Changes.{isFull, bornAt, withBorn, withHeir}
 use Rattle.rules.specs.Records.{materialFrom, newRecord, heirOf, linkedTo, inState, movedTo, withCount}
 use Rattle.rules.specs.States.{canRevoke, canDestroy, activateTests, revokeTests, destroyTests, moveTests, revokedState, destroyedState, movedState, nextUnless, nextState, grantTests, leftUnless, granting}

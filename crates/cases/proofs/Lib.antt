@@ -1,3 +1,4 @@
 -- The worked cases hold.
 -- Assumes nothing.
 pub mod Cases
+pub mod Tables

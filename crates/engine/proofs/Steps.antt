@@ -21,7 +21,7 @@ use Rattle.table.proofs.Places.{serial-is}
 use Rattle.table.proofs.Finds.{find-below}
 use Rattle.values.specs.Values.{bitsOk, maskOk, unitOk, totalOk}
 use Rattle.octets.proofs.Bools.{and-i}
-use Rattle.soundness.proofs.SoundIs.{Unlimited, Limited, Fit}
+use Rattle.record_rules.proofs.Fit.{Unlimited, Limited, Fit}
 use Rattle.rules.specs.Numbers.{create, getAttributes}
 use Rattle.rules.specs.Records.{inState, movedTo, withCount}
 use Rattle.rules.specs.Changes.{serialMost, nextSerial}

@@ -15,7 +15,7 @@ use Rattle.table.specs.Layout.{materialSize}
 use Rattle.table.proofs.Lines.{InRange}
 use Rattle.values.specs.Values.{bitsOk, maskOk, unitOk, totalOk}
 use Rattle.octets.proofs.Bools.{and-l, and-r, and-i, or-cases}
-use Rattle.soundness.proofs.SoundIs.{Unlimited, Limited, Fit}
+use Rattle.record_rules.proofs.Fit.{Unlimited, Limited, Fit}
 use Rattle.rules.specs.declared.Attributes.{Attributes}
 use Rattle.rules.specs.Numbers.{preActive}
 use Rattle.rules.specs.Records.{materialFrom, newRecord, heirOf}

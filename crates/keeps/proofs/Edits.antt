@@ -9,7 +9,8 @@ use Rattle.table.specs.declared.Record.{Record}
 use Rattle.table.specs.Records.{placeAt, withPlace, serialAt, lastSerial}
 use Rattle.table.proofs.Lines.{InRange}
 use Rattle.table.proofs.Places.{serial-is}
-use Rattle.soundness.proofs.SoundIs.{Stands, Unlimited, Limited, Fit, Sound}
+use Rattle.record_rules.proofs.Fit.{Unlimited, Limited, Fit}
+use Rattle.soundness.proofs.SoundIs.{Stands, Sound}
 use Rattle.keeps.proofs.Stores.{stored, Mutual, LinkedAll, Bare, bare, linked, joined, bare-stored, linked-stored}
 
 -- links by the fields that they are made of

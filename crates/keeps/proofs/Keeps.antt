@@ -24,7 +24,8 @@ use Rattle.table.proofs.First.{on-found, isNothing-none}
 use Rattle.table.proofs.Finds.{find-nonzero, find-serial, new-below, new-at}
 use Rattle.table.proofs.Blank.{bytes-blank}
 use Rattle.soundness.specs.Sound.{sound}
-use Rattle.soundness.proofs.SoundIs.{Stands, Fit, Sound, sound-is, sound-of}
+use Rattle.record_rules.proofs.Fit.{Fit}
+use Rattle.soundness.proofs.SoundIs.{Stands, Sound, sound-is, sound-of}
 use Rattle.soundness.proofs.Blank.{blank-sound}
 use Rattle.rules.specs.declared.Attributes.{Attributes}
 use Rattle.rules.specs.declared.Next.the-variants.{To}

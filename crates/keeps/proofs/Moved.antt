@@ -15,7 +15,7 @@ use Rattle.table.specs.Layout.{materialSize}
 use Rattle.table.specs.Search.{isDestroyed}
 use Rattle.octets.proofs.Zeros.{zeros-pass, bytes-zeros, drop-zeros}
 use Rattle.table.proofs.Lines.{InRange}
-use Rattle.soundness.proofs.SoundIs.{Fit}
+use Rattle.record_rules.proofs.Fit.{Fit}
 use Rattle.rules.specs.Numbers.{destroy}
 use Rattle.rules.specs.Records.{inState, movedTo, withCount}
 use Rattle.rules.proofs.Moves.{Move, next-range, destroyed-by}

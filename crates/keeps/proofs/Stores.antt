@@ -16,7 +16,8 @@ use Rattle.table.proofs.Lines.{InRange}
 use Rattle.table.proofs.Places.{serial-is, length-with, place-same, line-other, body-other, zeros-other, zeros-with}
 use Rattle.table.proofs.Lead.{last-with, said-with, lead-with, length-last, last-last, said-last, lead-last, line-last, body-last, zeros-last, place-last}
 use Rattle.table.proofs.Blank.{zeros-test}
-use Rattle.soundness.proofs.SoundIs.{Stands, Fit, Empty, Sound}
+use Rattle.record_rules.proofs.Fit.{Fit}
+use Rattle.soundness.proofs.SoundIs.{Stands, Empty, Sound}
 
 -- ---- u is t with r at place i, and `last` as the last serial issued
 

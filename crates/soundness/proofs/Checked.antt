@@ -2,30 +2,31 @@
 -- Assumes nothing.
 use mathlib.Core.Path.{_≡_, refl, sym, ap, _∙_}
 use mathlib.Core.Logic.{⊎-elim}
-use Prim.Native.Nat.{ℕ, _+_, _/_, _≤_, _<_, max}
+use Prim.Native.Nat.{ℕ, _+_, _≤_, _<_, max}
 use native.Mathlib.Nat.{eq-or-lt-of-le, le-trans, le-max-left, le-max-right}
 use native.Mathlib.Omega.{arith}
 use native.Mathlib.Decide.{ℕ-discrete}
 use mathlib.Core.Bool.{Bool, true, false, _&&_, false≢true}
 use mathlib.Core.List.{List}
-use lib.ListN.{length, drop}
+use lib.ListN.{length}
 use lib.Dec.{eqb}
 use borrow.Author.Tests.{eq-eqb, ne-eqb, eqb-true}
-use Rattle.octets.specs.Octets.{part, isZero, allZero}
-use Rattle.octets.proofs.If.{ifb-true, ifb-false, on-bool}
+use Rattle.octets.specs.Octets.{part, allZero}
+use Rattle.octets.proofs.If.{ifb-true, ifb-false}
 use Rattle.table.specs.declared.Record.{Record}
 use Rattle.table.specs.declared.Found.{Found}
 use Rattle.table.specs.declared.Found.the-variants.{At, Nothing}
 use Rattle.table.specs.Layout.{lineOf, lineSize, sizeOf}
 use Rattle.table.specs.Records.{placeAt, serialAt, lastSerial, placesSaid}
-use Rattle.table.specs.Search.{find, isDestroyed}
+use Rattle.table.specs.Search.{find}
 use Rattle.table.proofs.Places.{serial-is}
 use Rattle.table.proofs.Finds.{find-is}
-use Rattle.soundness.specs.Sound.{sizeRight, countRight, leadRight, freeRight, zerosRight, tailRight, wipedRight, ifStands, namesReplacement, namesReplaced, linksRight, sound}
-use Rattle.soundness.specs.Checked.{wholeRight, valuesRight, namesRight, materialRight, zerosFrom, TopBelow, isAt, standingRight, placeRight}
-use Rattle.octets.proofs.All.{all-drop}
-use Rattle.octets.proofs.Bools.{and-l, and-r, and-i, and-true, and-implied, no-unless, not-both, facts, tests}
-use Rattle.soundness.proofs.SoundIs.{Sound, Stands, Right, fit-is, fit-of, Linked, Distinct, find-own, own-distinct, links-is, links-of, sound-is, sound-of}
+use Rattle.record_rules.specs.Checked.{valuesRight, namesRight, materialRight}
+use Rattle.record_rules.proofs.Fit.{Right, fit-is, fit-of}
+use Rattle.soundness.specs.Sound.{sizeRight, countRight, leadRight, freeRight, zerosRight, ifStands, namesReplacement, namesReplaced, linksRight, sound}
+use Rattle.soundness.specs.Checked.{wholeRight, TopBelow, isAt, standingRight, placeRight}
+use Rattle.octets.proofs.Bools.{and-l, and-r, and-i, no-unless, not-both, facts, tests}
+use Rattle.soundness.proofs.SoundIs.{Sound, Stands, Linked, Distinct, find-own, own-distinct, links-is, links-of, sound-is, sound-of}
 
 at-is : (i : ℕ) (f : Found) → isAt i f ≡ true → f ≡ At i
 unfolding isAt
@@ -160,16 +161,6 @@ pub standing-parts : (n : ℕ) (t : List ℕ) (i last : ℕ) (r : Record) {zeros
     → ((zeros && values && material && names) && own && (back && forth)) ≡ standingRight n t i r
 unfolding standingRight linksRight
 standing-parts n t i last r l z v m a o b f = rw (z, v, m, a, o, b, f, l)
-
--- the two rules of the material are one test, from where its zeros start
-pub material-zeros : (r : Record) → materialRight r ≡ allZero (drop (zerosFrom r) (r .material))
-unfolding materialRight tailRight wipedRight zerosFrom
-material-zeros r =
-    let m = r .material in
-    let k = r .bits / 8 in
-    on-bool (isDestroyed (r .state))
-    (λ d. ap (_&&_ (allZero (drop k m))) (ifb-true _ _ _ d) ∙ and-implied (allZero (drop k m)) (allZero m) (all-drop isZero m k) ∙ sym (ap (λ (from : ℕ). allZero (drop from m)) (ifb-true _ _ _ d)))
-    (λ d. ap (_&&_ (allZero (drop k m))) (ifb-false _ _ _ d) ∙ and-true (allZero (drop k m)) true refl ∙ sym (ap (λ (from : ℕ). allZero (drop from m)) (ifb-false _ _ _ d)))
 
 -- a serial above those of all lower places is found at its own
 pub top-own : (n : ℕ) (t : List ℕ) (i top serial : ℕ) → i < n → serial ≡ serialAt t i → TopBelow t i top → top < serial → isAt i (find n t serial) ≡ true

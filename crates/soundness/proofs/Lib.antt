@@ -5,5 +5,4 @@ pub mod Faults
 pub mod SoundIs
 pub mod Blank
 pub mod Checked
-pub mod Worked
 pub mod Unique

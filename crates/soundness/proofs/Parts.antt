@@ -14,7 +14,7 @@ use Rattle.table.specs.declared.Record.{Record}
 use Rattle.table.specs.Layout.{bodyOf, sizeOf, materialSize}
 use Rattle.table.specs.Records.{placeAt}
 use Rattle.table.proofs.Places.{place-fields}
-use Rattle.soundness.specs.Checked.{zerosFrom}
+use Rattle.record_rules.specs.Checked.{zerosFrom}
 
 -- what is left of m from k on, or from its end if k lies past it
 pub tail-lent : (m : List ℕ) (k len : ℕ) → length m ≡ 32 → len ≡ min k 32 → take (32 - len) (drop len m) ≡ drop k m

@@ -1,36 +1,21 @@
 -- What the check asks of the whole table and of one place after the other, each place once; that it asks what `sound` asks is a law.
 -- Assumes nothing.
-use Prim.Native.Nat.{ℕ, _/_, _≤_, _<_}
+use Prim.Native.Nat.{ℕ, _≤_, _<_}
 use mathlib.Core.Bool.{Bool, false, _&&_}
 use mathlib.Core.List.{List}
-use lib.Dec.{leb, eqb}
+use lib.Dec.{eqb}
 use Rattle.octets.specs.If.{ifb}
 use Rattle.table.specs.declared.Record.{Record}
 use Rattle.table.specs.declared.Found.{Found}
 use Rattle.table.specs.declared.Found.the-variants.{At, Nothing}
 use Rattle.table.specs.Records.{placeAt, serialAt, isFree, lastSerial}
-use Rattle.table.specs.Search.{find, isDestroyed}
-use Rattle.soundness.specs.Sound.{sizeRight, countRight, leadRight, freeRight, zerosRight, stateRight, bitsRight, maskRight, limitRight, tailRight, wipedRight, replacedRight, replacementRight, linksRight}
+use Rattle.table.specs.Search.{find}
+use Rattle.record_rules.specs.Checked.{valuesRight, materialRight, namesRight}
+use Rattle.soundness.specs.Sound.{sizeRight, countRight, leadRight, freeRight, zerosRight, linksRight}
 
 -- rules 1 to 3
 unfoldable pub wholeRight : ℕ → List ℕ → Bool
 wholeRight n t = sizeRight n t && countRight n t && leadRight n t
-
--- rules 8 to 11: the numbers of a record
-unfoldable pub valuesRight : Record → Bool
-valuesRight r = stateRight r && bitsRight r && maskRight r && limitRight r
-
--- rules 7 and 14 to 15: the serials that a record names, where `last` is the last issued
-unfoldable pub namesRight : ℕ → Record → Bool
-namesRight last r = leb (r .serial) last && replacedRight r && replacementRight last r
-
--- rules 12 and 13: the material
-unfoldable pub materialRight : Record → Bool
-materialRight r = tailRight r && wipedRight r
-
--- where the zeros in a record's material start, by those two rules: behind its length, or at the front if it is destroyed
-unfoldable pub zerosFrom : Record → ℕ
-zerosFrom r = ifb (isDestroyed (r .state)) 0 (r .bits / 8)
 
 -- no serial at the places below i is above `top`
 abbrev pub TopBelow : List ℕ → ℕ → ℕ → Type 0

@@ -1,43 +1,43 @@
 -- 01, "Sound": an ordered, numbered list of rules, each of the whole table or at a place. A table is sound if none breaks.
 -- Assumes nothing. Place rules are looked at where the whole-table rules hold; a free place answers to the free-place rule alone.
-use Prim.Native.Nat.{ℕ, suc, _+_, _/_}
-use mathlib.Core.Bool.{Bool, true, not, _&&_, _||_}
+use Prim.Native.Nat.{ℕ, suc, _+_}
+use mathlib.Core.Bool.{Bool, true, not, _&&_}
 use mathlib.Core.Option.{Option, none, some}
 use mathlib.Core.List.{List, [], _∷_}
-use lib.ListN.{length, drop}
-use lib.Dec.{leb, ltb, eqb}
+use lib.ListN.{length}
+use lib.Dec.{leb, eqb}
 use Rattle.octets.specs.If.{ifb}
 use Rattle.octets.specs.Maybe.{isSome}
 use Rattle.octets.specs.Octets.{part, allZero}
-use Rattle.values.specs.Values.{bitsOk, maskOk, unitOk, totalOk}
 use Rattle.table.specs.declared.Record.{Record}
 use Rattle.table.specs.declared.Found.{Found}
 use Rattle.table.specs.declared.Found.the-variants.{At, Nothing}
 use Rattle.table.specs.Layout.{lineSize, bodySize, lineOf, bodyOf, sizeOf}
 use Rattle.table.specs.Records.{placeAt, serialAt, isFree, zerosIn, lastSerial, placesSaid, leadZeros}
-use Rattle.table.specs.Search.{first, isNothing, find, isDestroyed}
+use Rattle.table.specs.Search.{first, isNothing, find}
+use Rattle.record_rules.specs.Rules.{stateRight, bitsRight, maskRight, limitRight, tailRight, wipedRight, replacedRight, replacementRight}
 
 -- ---- rules of the whole table
 
--- "size .. right"
+-- rule 1: "size .. right"
 unfoldable pub sizeRight : ℕ → List ℕ → Bool
 sizeRight n t = eqb (length t) (sizeOf n)
 
--- "place count"
+-- rule 2: "place count"
 unfoldable pub countRight : ℕ → List ℕ → Bool
 countRight n t = eqb (placesSaid t) n
 
--- "zeros (8)"
+-- rule 3: "zeros (8)"
 unfoldable pub leadRight : ℕ → List ℕ → Bool
 leadRight n t = allZero (leadZeros t)
 
 -- ---- rules at a place
 
--- "a free place zero in line and body"
+-- rule 4: "a free place zero in line and body"
 unfoldable pub freeRight : ℕ → List ℕ → ℕ → Bool
 freeRight n t i = allZero (part t (lineOf i) lineSize) && allZero (part t (bodyOf n i) bodySize)
 
--- "in every other body the zeros field zero"
+-- rule 5: "in every other body the zeros field zero"
 unfoldable pub zerosRight : ℕ → List ℕ → ℕ → Bool
 zerosRight n t i = allZero (part t (bodyOf n i + zerosIn) 4)
 
@@ -45,45 +45,15 @@ zerosRight n t i = allZero (part t (bodyOf n i + zerosIn) 4)
 abbrev pub isTwin : List ℕ → ℕ → ℕ → Bool
 isTwin t i j = not (eqb j i) && eqb (serialAt t j) (serialAt t i)
 
--- "serials distinct"
+-- rule 6: "serials distinct"
 unfoldable pub distinctRight : ℕ → List ℕ → ℕ → Bool
 distinctRight n t i = isNothing (first n (isTwin t i))
 
--- "and at most the last issued"
+-- rule 7: "and at most the last issued"
 unfoldable pub issuedRight : ℕ → List ℕ → ℕ → Bool
 issuedRight n t i = leb (serialAt t i) (lastSerial t)
 
--- "state 1 to 6"
-unfoldable pub stateRight : Record → Bool
-stateRight r = leb 1 (r .state) && leb (r .state) 6
-
-unfoldable pub bitsRight : Record → Bool
-bitsRight r = bitsOk (r .bits)
-
-unfoldable pub maskRight : Record → Bool
-maskRight r = maskOk (r .mask)
-
--- "unit 0 with total and count zero, or unit 1 or 2 with total 1 to 1,000,000,000,000 and count at most total"
-unfoldable pub limitRight : Record → Bool
-limitRight r =
-    ifb (eqb (r .unit) 0) (eqb (r .total) 0 && eqb (r .count) 0)
-    (unitOk (r .unit) && totalOk (r .total) && leb (r .count) (r .total))
-
--- "material zero past its length"
-unfoldable pub tailRight : Record → Bool
-tailRight r = allZero (drop (r .bits / 8) (r .material))
-
--- "and wholly zero in states 5 and 6"
-unfoldable pub wipedRight : Record → Bool
-wipedRight r = ifb (isDestroyed (r .state)) (allZero (r .material)) true
-
--- "A replaced serial is 0 or below its own"
-unfoldable pub replacedRight : Record → Bool
-replacedRight r = eqb (r .replaced) 0 || ltb (r .replaced) (r .serial)
-
--- "a replacement serial is 0 or above its own and at most the last issued"
-unfoldable pub replacementRight : ℕ → Record → Bool
-replacementRight last r = eqb (r .replacement) 0 || (ltb (r .serial) (r .replacement) && leb (r .replacement) last)
+-- rules 8 to 15 are of the record by itself and stand in record_rules (specs/Rules.antt): `stateRight` to `replacementRight`, in this order in the list below
 
 -- what a record that stands has to pass; where none stands there is nothing to pass
 unfoldable pub ifStands : (ℕ → Bool) → Found → Bool
@@ -98,7 +68,7 @@ namesReplacement n t serial j = eqb (placeAt n t j .replacement) serial
 abbrev pub namesReplaced : ℕ → List ℕ → ℕ → ℕ → Bool
 namesReplaced n t serial j = eqb (placeAt n t j .replaced) serial
 
--- "Where both ends of a link stand, each names the other"
+-- rule 16: "Where both ends of a link stand, each names the other"
 unfoldable pub linksRight : ℕ → List ℕ → Record → Bool
 linksRight n t r =
     ifStands (namesReplacement n t (r .serial)) (find n t (r .replaced))

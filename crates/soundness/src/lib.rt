@@ -1,49 +1,18 @@
-// The soundness check of a stored table.
+// The soundness check of a stored table. Its rules of a record by itself are those of record_rules.
 // It writes nothing, and takes a table of any size and any content.
 ghost use mathlib.Core.Path.{_≡_};
-ghost use Prim.Native.Nat.{_<_, min, max};
+ghost use Prim.Native.Nat.{_<_, max};
 ghost use lib.ListN.{length};
 ghost use lib.Dec.{eqb};
-ghost use Rattle.table.specs.Layout.{materialSize, sizeOf};
+ghost use Rattle.table.specs.Layout.{sizeOf};
 ghost use Rattle.table.specs.Records.{placeAt, serialAt, lastSerial};
 ghost use Rattle.table.specs.Search.{find};
-ghost use Rattle.soundness.specs.Sound.{limitRight, freeRight, zerosRight, ifStands, namesReplacement, namesReplaced, sound};
-ghost use Rattle.soundness.specs.Checked.{wholeRight, valuesRight, zerosFrom, materialRight, namesRight, isAt, TopBelow, standingRight, placeRight};
+ghost use Rattle.record_rules.specs.Checked.{materialRight};
+ghost use Rattle.soundness.specs.Sound.{freeRight, zerosRight, ifStands, namesReplacement, namesReplaced, sound};
+ghost use Rattle.soundness.specs.Checked.{wholeRight, isAt, TopBelow, standingRight, placeRight};
 use table::Found;
 use table::Layout;
 use table::Record;
-
-// ---- the rules of a record by itself
-
-// Rule 11: no limit and nothing counted, or a limit in range and no more left than it.
-fn limit_right(p: Record) -> bool
-    ensures { λ r. ⌜ r ≡ limitRight p ⌝ }
-{
-    if p.unit == 0 {
-        return (p.total == 0) & (p.count == 0);
-    }
-    values::unit_ok(p.unit as u64) & values::total_ok(p.total) & (p.count <= p.total)
-}
-
-// Rules 8 to 11: state, length in bits, mask and limit.
-fn values_right(p: Record) -> bool
-    ensures { λ r. ⌜ r ≡ valuesRight p ⌝ }
-{
-    (1 <= p.state)
-        & (p.state <= 6)
-        & values::bits_ok(p.bits as u64)
-        & values::mask_ok(p.mask as u64)
-        & limit_right(p)
-}
-
-// Rules 7, 14 and 15: the serial and those that it is linked to, where `last` is the last one issued.
-fn names_right(p: Record, last: u32) -> bool
-    ensures { λ r. ⌜ r ≡ namesRight last p ⌝ }
-{
-    let back = (p.replaced == 0) | (p.replaced < p.serial);
-    let forth = (p.replacement == 0) | ((p.serial < p.replacement) & (p.replacement <= last));
-    (p.serial <= last) & back & forth
-}
 
 // ---- the rules of the whole table
 
@@ -95,16 +64,6 @@ fn zeros_right(t: &[u8], n: usize, i: usize) -> bool
     octets::all_zero(&t[zeros..zeros + 4])
 }
 
-// Where the zeros in a record's material start: behind its length, or at the front if the record is destroyed.
-fn zeros_from(p: Record) -> usize
-    ensures { λ r. ⌜ r ≡ min (zerosFrom p) materialSize ⌝ }
-{
-    if table::is_destroyed(p.state) {
-        return 0;
-    }
-    octets::fewer((p.bits / 8) as usize, Layout::MATERIAL)
-}
-
 // Rules 12 and 13, of the record p that stands at place i: its material is looked at where it stands.
 fn material_right(t: &[u8], n: usize, i: usize, p: Record) -> bool
     requires { ⌜ (length (now t) ≡ sizeOf n) × ((i < n) × (p ≡ placeAt n (now t) i)) ⌝ }
@@ -112,7 +71,7 @@ fn material_right(t: &[u8], n: usize, i: usize, p: Record) -> bool
 {
     let layout = Layout { places: n };
     let start = layout.body(i) + Layout::MATERIAL_IN;
-    let from = start + zeros_from(p);
+    let from = start + record_rules::zeros_from(p);
     let end = start + Layout::MATERIAL;
     octets::all_zero(&t[from..end])
 }
@@ -159,9 +118,9 @@ fn standing_right(t: &[u8], n: usize, i: usize, last: u32, top: u32, p: Record) 
     ensures { λ r. ⌜ r ≡ standingRight n (now (t .entry)) i p ⌝ }
 {
     let alone = zeros_right(t, n, i)
-        & values_right(p)
+        & record_rules::values_right(p)
         & material_right(t, n, i, p)
-        & names_right(p, last);
+        & record_rules::names_right(p, last);
     let links = back_right(t, n, p.serial, p.replaced) & forth_right(t, n, p.serial, p.replacement);
     alone & own_place(t, n, i, top, p.serial) & links
 }

@@ -5,7 +5,7 @@ use mathlib.Core.Path.{sym, ap, _∙_}
 use borrow.Author.Needs.{needs}
 use Rattle.octets.specs.Octets.{allZero}
 use Rattle.soundness.proofs.Parts.{material-lent}
-use Rattle.soundness.proofs.Checked.{material-zeros}
+use Rattle.record_rules.proofs.Material.{material-zeros}
 use borrow.Author.Needs.{needs}
 use Rattle.soundness.proofs.material_right.Statement.{statement}
 use Rattle.soundness.proofs.material_right.Tie as tie

@@ -1,4 +1,4 @@
--- Worked cases, by computation: the blank table, tables with keys, and for each rule a table whose first fault it is.
+-- Worked cases of soundness, by computation: the blank table, tables with keys, and for each rule a table whose first fault it is.
 -- Assumes nothing.
 use mathlib.Core.Path.{_≡_, refl}
 use Prim.Native.Nat.{ℕ, _+_}
@@ -13,7 +13,8 @@ use Rattle.table.specs.declared.Record.{Record}
 use Rattle.table.specs.Layout.{bodyOf, placeCount}
 use Rattle.table.specs.Records.{line, body, recordOf, placeAt, withPlace, serialAt, lastSerial, withLast, placesSaid, zerosIn, blank}
 use Rattle.table.specs.Search.{firstFrom, isNothing, find}
-use Rattle.soundness.specs.Sound.{sizeRight, countRight, leadRight, freeRight, zerosRight, distinctRight, issuedRight, stateRight, bitsRight, maskRight, limitRight, tailRight, wipedRight, replacedRight, replacementRight, ifStands, linksRight, breaksFree, breaksStanding, whole, atPlace, orLater, standingFault, placeFault, wholeFault, firstFault, sound}
+use Rattle.record_rules.specs.Rules.{stateRight, bitsRight, maskRight, limitRight, tailRight, wipedRight, replacedRight, replacementRight}
+use Rattle.soundness.specs.Sound.{sizeRight, countRight, leadRight, freeRight, zerosRight, distinctRight, issuedRight, ifStands, linksRight, breaksFree, breaksStanding, whole, atPlace, orLater, standingFault, placeFault, wholeFault, firstFault, sound}
 
 -- a key of 128 bits with a limit of 100 objects
 abbrev key : ℕ → Record

@@ -1,11 +1,11 @@
--- `soundness::values_right`. The tests are the definition's, in its order.
+-- `record_rules::values_right`. The tests are the definition's, in its order.
 -- Assumes nothing.
 use borrow.Author.Needs.{needs}
-use Rattle.soundness.proofs.values_right.Statement.{statement}
-use Rattle.soundness.proofs.values_right.Tie as tie
+use Rattle.record_rules.proofs.values_right.Statement.{statement}
+use Rattle.record_rules.proofs.values_right.Tie as tie
 use Prim.Native.Nat.{_-_}
-use Rattle.soundness.specs.Sound.{stateRight, bitsRight, maskRight}
-use Rattle.soundness.specs.Checked.{valuesRight}
+use Rattle.record_rules.specs.Rules.{stateRight, bitsRight, maskRight}
+use Rattle.record_rules.specs.Checked.{valuesRight}
 
 cast-bits-ok : tie.Need-cast-bits-ok
 cast-bits-ok c = search needs

@@ -1,13 +1,13 @@
--- `soundness::zeros_from`. Each arm is the definition's, by its test on the state.
+-- `record_rules::zeros_from`. Each arm is the definition's, by its test on the state.
 -- Assumes nothing.
 use Prim.Native.Nat.{ℕ, min}
 use mathlib.Core.Path.{sym, ap, _∙_}
 use borrow.Author.Needs.{needs}
 use Rattle.octets.proofs.If.{ifb-true, ifb-false}
 use Rattle.table.specs.Layout.{materialSize}
-use Rattle.soundness.specs.Checked.{zerosFrom}
-use Rattle.soundness.proofs.zeros_from.Statement.{statement}
-use Rattle.soundness.proofs.zeros_from.Tie as tie
+use Rattle.record_rules.specs.Checked.{zerosFrom}
+use Rattle.record_rules.proofs.zeros_from.Statement.{statement}
+use Rattle.record_rules.proofs.zeros_from.Tie as tie
 
 is-destroyed-requires : tie.Need-is-destroyed-requires
 is-destroyed-requires c κs = search needs

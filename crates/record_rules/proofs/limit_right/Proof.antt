@@ -1,14 +1,14 @@
--- `soundness::limit_right`. Each arm is the definition's, by its test on the unit.
+-- `record_rules::limit_right`. Each arm is the definition's, by its test on the unit.
 -- Assumes nothing.
 use borrow.Author.Needs.{needs}
-use Rattle.soundness.proofs.limit_right.Statement.{statement}
-use Rattle.soundness.proofs.limit_right.Tie as tie
+use Rattle.record_rules.proofs.limit_right.Statement.{statement}
+use Rattle.record_rules.proofs.limit_right.Tie as tie
 use Prim.Native.Nat.{_-_}
 use borrow.Author.Tests.{eq-eqb, ne-eqb}
 use Rattle.octets.proofs.If.{ifb-true, ifb-false}
 use Rattle.octets.proofs.Bools.{and-cong}
 use mathlib.Core.Path.{refl, sym, _∙_}
-use Rattle.soundness.specs.Sound.{limitRight}
+use Rattle.record_rules.specs.Rules.{limitRight}
 
 returns : tie.Need-returns
 unfolding limitRight

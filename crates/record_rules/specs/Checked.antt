@@ -1,0 +1,25 @@
+-- What the check asks of a record by itself: rules 8 to 15, and 7, some at once.
+-- Assumes nothing.
+use Prim.Native.Nat.{ℕ, _/_}
+use mathlib.Core.Bool.{Bool, _&&_}
+use lib.Dec.{leb}
+use Rattle.octets.specs.If.{ifb}
+use Rattle.table.specs.declared.Record.{Record}
+use Rattle.table.specs.Search.{isDestroyed}
+use Rattle.record_rules.specs.Rules.{stateRight, bitsRight, maskRight, limitRight, tailRight, wipedRight, replacedRight, replacementRight}
+
+-- rules 8 to 11: the numbers of a record
+unfoldable pub valuesRight : Record → Bool
+valuesRight r = stateRight r && bitsRight r && maskRight r && limitRight r
+
+-- rules 7 and 14 to 15: the serials that a record names, where `last` is the last issued
+unfoldable pub namesRight : ℕ → Record → Bool
+namesRight last r = leb (r .serial) last && replacedRight r && replacementRight last r
+
+-- rules 12 and 13: the material
+unfoldable pub materialRight : Record → Bool
+materialRight r = tailRight r && wipedRight r
+
+-- where the zeros in a record's material start, by those two rules: behind its length, or at the front if it is destroyed
+unfoldable pub zerosFrom : Record → ℕ
+zerosFrom r = ifb (isDestroyed (r .state)) 0 (r .bits / 8)

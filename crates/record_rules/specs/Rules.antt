@@ -1,0 +1,45 @@
+-- 01, "Sound": those of its sixteen rules that a record answers to by itself, 8 to 15. The list of all, with the others, stands in soundness (specs/Sound.antt).
+-- Assumes nothing.
+use Prim.Native.Nat.{ℕ, _/_}
+use mathlib.Core.Bool.{Bool, true, _&&_, _||_}
+use lib.ListN.{drop}
+use lib.Dec.{leb, ltb, eqb}
+use Rattle.octets.specs.If.{ifb}
+use Rattle.octets.specs.Octets.{allZero}
+use Rattle.values.specs.Values.{bitsOk, maskOk, unitOk, totalOk}
+use Rattle.table.specs.declared.Record.{Record}
+use Rattle.table.specs.Search.{isDestroyed}
+
+-- rule 8: "state 1 to 6"
+unfoldable pub stateRight : Record → Bool
+stateRight r = leb 1 (r .state) && leb (r .state) 6
+
+-- rule 9: "length 128, 192 or 256"
+unfoldable pub bitsRight : Record → Bool
+bitsRight r = bitsOk (r .bits)
+
+-- rule 10: "mask at most 00FFFFFF hex"
+unfoldable pub maskRight : Record → Bool
+maskRight r = maskOk (r .mask)
+
+-- rule 11: "unit 0 with total and count zero, or unit 1 or 2 with total 1 to 1,000,000,000,000 and count at most total"
+unfoldable pub limitRight : Record → Bool
+limitRight r =
+    ifb (eqb (r .unit) 0) (eqb (r .total) 0 && eqb (r .count) 0)
+    (unitOk (r .unit) && totalOk (r .total) && leb (r .count) (r .total))
+
+-- rule 12: "material zero past its length"
+unfoldable pub tailRight : Record → Bool
+tailRight r = allZero (drop (r .bits / 8) (r .material))
+
+-- rule 13: "and wholly zero in states 5 and 6"
+unfoldable pub wipedRight : Record → Bool
+wipedRight r = ifb (isDestroyed (r .state)) (allZero (r .material)) true
+
+-- rule 14: "A replaced serial is 0 or below its own"
+unfoldable pub replacedRight : Record → Bool
+replacedRight r = eqb (r .replaced) 0 || ltb (r .replaced) (r .serial)
+
+-- rule 15: "a replacement serial is 0 or above its own and at most the last issued"
+unfoldable pub replacementRight : ℕ → Record → Bool
+replacementRight last r = eqb (r .replacement) 0 || (ltb (r .serial) (r .replacement) && leb (r .replacement) last)

@@ -1,0 +1,49 @@
+// The soundness rules of a record by itself, with no table around it.
+// They ask nothing: a record of any numbers and any material gets an answer.
+ghost use mathlib.Core.Path.{_≡_};
+ghost use Prim.Native.Nat.{min};
+ghost use Rattle.table.specs.Layout.{materialSize};
+ghost use Rattle.record_rules.specs.Rules.{limitRight};
+ghost use Rattle.record_rules.specs.Checked.{valuesRight, zerosFrom, namesRight};
+use table::Layout;
+use table::Record;
+
+// Rule 11: no limit and nothing counted, or a limit in range and no more left than it.
+fn limit_right(p: Record) -> bool
+    ensures { λ r. ⌜ r ≡ limitRight p ⌝ }
+{
+    if p.unit == 0 {
+        return (p.total == 0) & (p.count == 0);
+    }
+    values::unit_ok(p.unit as u64) & values::total_ok(p.total) & (p.count <= p.total)
+}
+
+// Rules 8 to 11: state, length in bits, mask and limit.
+pub fn values_right(p: Record) -> bool
+    ensures { λ r. ⌜ r ≡ valuesRight p ⌝ }
+{
+    (1 <= p.state)
+        & (p.state <= 6)
+        & values::bits_ok(p.bits as u64)
+        & values::mask_ok(p.mask as u64)
+        & limit_right(p)
+}
+
+// Rules 7, 14 and 15: the serial and those that it is linked to, where `last` is the last one issued.
+pub fn names_right(p: Record, last: u32) -> bool
+    ensures { λ r. ⌜ r ≡ namesRight last p ⌝ }
+{
+    let back = (p.replaced == 0) | (p.replaced < p.serial);
+    let forth = (p.replacement == 0) | ((p.serial < p.replacement) & (p.replacement <= last));
+    (p.serial <= last) & back & forth
+}
+
+// Where the zeros in a record's material start: behind its length, or at the front if the record is destroyed.
+pub fn zeros_from(p: Record) -> usize
+    ensures { λ r. ⌜ r ≡ min (zerosFrom p) materialSize ⌝ }
+{
+    if table::is_destroyed(p.state) {
+        return 0;
+    }
+    octets::fewer((p.bits / 8) as usize, Layout::MATERIAL)
+}
