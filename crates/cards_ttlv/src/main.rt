@@ -1,7 +1,6 @@
 // Runs TTLV cards: lines `name: hex` from standard input, the hex in groups of eight digits. A line for each says whether the bytes
 // read as one message and, if they do, whether they are written again the same. Assumes nothing; every function is proved safe and ends.
 // The first cards are the examples of KMIP 1.x, section 9.1.2, which 2.1 does not print; the rest follow from 01's rules.
-ghost use mathlib.Core.Path.{_≡_};
 ghost use Prim.Native.Nat.{_≤_, _<_};
 ghost use lib.ListN.{length};
 

@@ -1,7 +1,7 @@
 -- The fields of a run of items, first to last: what the layers above see of TTLV.
 -- Assumes nothing. A reader gives what stands first and the items behind it, or none if something else stands there.
 use Prim.Native.Nat.{ℕ}
-use mathlib.Core.Bool.{Bool, true, false, _&&_}
+use mathlib.Core.Bool.{Bool, false, _&&_}
 use mathlib.Core.Option.{Option, none, some}
 use mathlib.Core.List.{List}
 use lib.Dec.{eqb}

@@ -1,17 +1,14 @@
 -- Laws of digits in a row: a number and its digits, at every width.
 -- Assumes nothing.
 use mathlib.Core.Path.{_≡_, refl, _∙_}
-use Prim.Native.Nat.{ℕ, zero, suc, _+_, _-_, _*_, _/_, _%_, _^_, _≤_, _<_}
+use Prim.Native.Nat.{ℕ, zero, suc, _+_, _-_, _*_, _/_, _%_, _^_, _<_}
 use native.Mathlib.Nat.{pow-suc, pow-zero, div-add-mod', mul-one, mul-assoc, pow-succ', zero-add}
 use native.Mathlib.Omega.{arith}
-use mathlib.Core.Bool.{Bool, true, false, _&&_}
+use mathlib.Core.Bool.{Bool, true}
 use mathlib.Core.List.{List, [], _∷_, _++_, append-assoc, append-nil}
 use lib.ListN.{length, length-append}
-use lib.Dec.{leb, ltb}
-use borrow.Author.Tests.{leb-true, le-leb, lt-leb, lt-ltb, le-ltb, ltb-true, ltb-false}
 use Rattle.octets.specs.Octets.{all, Bytes}
 use Rattle.octets.proofs.Bools.{both}
-use Rattle.octets.proofs.If.{ifb-true, ifb-false, on-bool}
 use Rattle.hex.specs.Hex.{digit, isDigit, digitOf}
 use Rattle.hex.proofs.Digits.{character-spells, digit-spells}
 use Rattle.identifier.specs.Identifier.{digits, fromDigitsAfter}

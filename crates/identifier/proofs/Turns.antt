@@ -1,6 +1,6 @@
 -- What a turn of each loop over the digits of a text does: what is left decides.
 -- Assumes nothing.
-use mathlib.Core.Path.{_≡_, sym, _∙_}
+use mathlib.Core.Path.{_≡_, _∙_}
 use Prim.Native.Nat.{ℕ, zero, suc, _+_, _-_, _*_, _/_, _%_, _^_, _≤_, _<_}
 use native.Mathlib.Nat.{pow-suc, pow-le-pow-right, not-suc-le-zero}
 use native.Mathlib.Omega.{arith}
@@ -12,7 +12,7 @@ use lib.Seq.{drop-cons, getD-set-same, drop-set-lt}
 use borrow.Author.Tests.{eq-eqb}
 use Rattle.octets.specs.If.{ifb}
 use Rattle.octets.specs.Octets.{all}
-use Rattle.octets.proofs.If.{ifb-true, ifb-false, on-bool}
+use Rattle.octets.proofs.If.{ifb-true, ifb-false}
 use Rattle.octets.proofs.All.{all-go, all-stop, all-end}
 use Rattle.hex.specs.Hex.{digit, isDigit}
 use Rattle.hex.proofs.Digits.{Spells}
