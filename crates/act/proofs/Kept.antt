@@ -20,9 +20,9 @@ use Rattle.rules.specs.declared.Reason.{Reason}
 use Rattle.rules.specs.Numbers.{activate, revoke, destroy}
 use Rattle.rules.specs.Tests.{due}
 use Rattle.rules.specs.States.{movedState}
-use Rattle.rules.specs.Records.{newRecord, heirOf, linkedTo, inState, movedTo, withCount}
-use Rattle.rules.specs.Changes.{nextSerial, bornAt, withBorn, withHeir}
-use Rattle.rules.proofs.Material.{bytes-material}
+use Rattle.changes.specs.Records.{newRecord, heirOf, linkedTo, inState, movedTo, withCount}
+use Rattle.changes.specs.Changes.{nextSerial, bornAt, withBorn, withHeir}
+use Rattle.changes.proofs.Material.{bytes-material}
 use Rattle.octets.proofs.Zeros.{bytes-zeros}
 use Rattle.frame.specs.Frame.{Asked}
 use Rattle.payload.specs.declared.Command.{Command}

@@ -23,8 +23,8 @@ use Rattle.rules.specs.declared.Granted.{Granted}
 use Rattle.rules.specs.declared.Granted.the-variants.{Left, Denied}
 use Rattle.rules.specs.Tests.{Test, _⇒_, due}
 use Rattle.rules.specs.States.{moveTests, movedState, nextUnless, nextState, grantTests, leftUnless, granting}
-use Rattle.rules.specs.Records.{newRecord, heirOf, linkedTo, movedTo, withCount}
-use Rattle.rules.specs.Changes.{serialMost, isFull, nextSerial, bornAt, withBorn, withHeir}
+use Rattle.changes.specs.Records.{newRecord, heirOf, linkedTo, movedTo, withCount}
+use Rattle.changes.specs.Changes.{serialMost, isFull, nextSerial, bornAt, withBorn, withHeir}
 use Rattle.rules.proofs.Tests.{due-first, due-later, due-end}
 use Rattle.frame.specs.Frame.{Asked}
 use Rattle.payload.specs.declared.Target.{Target}

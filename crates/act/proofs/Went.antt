@@ -21,8 +21,8 @@ use Rattle.rules.specs.declared.Granted.the-variants.{Left}
 use Rattle.rules.specs.Numbers.{activate, revoke, destroy}
 use Rattle.rules.specs.Tests.{due}
 use Rattle.rules.specs.States.{activateTests, revokeTests, destroyTests, moveTests, movedState, nextUnless, nextState, grantTests, leftUnless, granting}
-use Rattle.rules.specs.Records.{movedTo, withCount}
-use Rattle.rules.specs.Changes.{isFull}
+use Rattle.changes.specs.Records.{movedTo, withCount}
+use Rattle.changes.specs.Changes.{isFull}
 use Rattle.frame.specs.Frame.{Asked}
 use Rattle.payload.specs.declared.Target.{Target}
 use Rattle.payload.specs.declared.Command.{Command}

@@ -18,8 +18,8 @@ use Rattle.rules.specs.declared.Attributes.{Attributes}
 use Rattle.rules.specs.Numbers.{activate, revoke, destroy}
 use Rattle.rules.specs.Tests.{Test, _⇒_, due}
 use Rattle.rules.specs.States.{activateTests, revokeTests, destroyTests, grantTests, movedState}
-use Rattle.rules.specs.Records.{newRecord, heirOf, movedTo, withCount}
-use Rattle.rules.specs.Changes.{isFull, nextSerial, withBorn, withHeir}
+use Rattle.changes.specs.Records.{newRecord, heirOf, movedTo, withCount}
+use Rattle.changes.specs.Changes.{isFull, nextSerial, withBorn, withHeir}
 use Rattle.frame.specs.Frame.{Asked}
 use Rattle.payload.specs.declared.Target.{Target}
 use Rattle.payload.specs.declared.Target.the-variants.{Placeholder, Serial}

@@ -13,8 +13,8 @@ use Rattle.rules.specs.declared.Reason.{Reason}
 use Rattle.rules.specs.declared.Reason.the-variants.{ServerLimitExceeded}
 use Rattle.rules.specs.Tests.{due}
 use Rattle.rules.specs.States.{moveTests}
-use Rattle.rules.specs.Records.{heirOf, linkedTo}
-use Rattle.rules.specs.Changes.{serialMost, nextSerial, bornAt}
+use Rattle.changes.specs.Records.{heirOf, linkedTo}
+use Rattle.changes.specs.Changes.{serialMost, nextSerial, bornAt}
 use Rattle.payload.specs.declared.Target.{Target}
 use Rattle.payload.specs.declared.Command.{Command}
 use Rattle.act.specs.declared.Outcome.the-variants.{Failed, Done, Showed}

@@ -7,7 +7,7 @@ ghost use lib.ListN.{length};
 ghost use Rattle.table.specs.Layout.{sizeOf};
 ghost use Rattle.table.specs.Records.{placeAt};
 ghost use Rattle.table.specs.declared.Found.the-variants.{At};
-ghost use Rattle.rules.specs.Changes.{bornAt};
+ghost use Rattle.changes.specs.Changes.{bornAt};
 ghost use Rattle.act.specs.Act.{sought, createPlan, rekeyPlan, allocationPlan, isFailed};
 ghost use Rattle.act.specs.Perform.{inPlaces, leaves, failed, showing, storing, roomFor, linkedAt, replacing, carriedOut, movePlan, deedPlan, aboutPlan, performing};
 use payload::Command;
@@ -120,7 +120,7 @@ fn put_heir(t: &mut [u8], n: usize, i: usize, place: usize, heir: Record)
     ensures { λ _. ⌜ now (t .exit) ≡ bornAt n (linkedAt n (now (t .entry)) i heir) heir (At place) ⌝ }
 {
     let old = records::load(t, n, i);
-    let linked = rules::linked_to(heir.serial, old);
+    let linked = changes::linked_to(heir.serial, old);
     records_write::store(t, n, i, linked);
     put_born(t, n, place, heir);
 }
@@ -133,7 +133,7 @@ fn create(t: &mut [u8], n: usize, wanted: Attributes, fresh: &[u8]) -> Performed
     match room(t, n) {
         Found::At(i) => {
             let serial = table::last_serial(t) + 1;
-            let born = rules::new_record(serial, wanted, fresh);
+            let born = changes::new_record(serial, wanted, fresh);
             put_born(t, n, i, born);
             Performed {
                 outcome: Outcome::Created { serial },
@@ -152,7 +152,7 @@ fn replace_at(t: &mut [u8], n: usize, i: usize, old: Record, fresh: &[u8]) -> Pe
     match room(t, n) {
         Found::At(place) => {
             let serial = table::last_serial(t) + 1;
-            let heir = rules::heir_of(serial, old, fresh);
+            let heir = changes::heir_of(serial, old, fresh);
             put_heir(t, n, i, place, heir);
             Performed {
                 outcome: Outcome::Done { serial },
@@ -199,7 +199,7 @@ fn allocate_at(t: &mut [u8], n: usize, i: usize, holder: u32, amount: u64) -> Pe
     let old = records::load(t, n, i);
     match rules::grant(old.state, old.unit, old.count, amount) {
         Granted::Left(count) => {
-            let granted = rules::with_count(count, old);
+            let granted = changes::with_count(count, old);
             store_at(t, n, i, holder, granted)
         }
         Granted::Denied(reason) => fail(reason),
@@ -214,7 +214,7 @@ fn move_at(t: &mut [u8], n: usize, i: usize, holder: u32, operation: u32, code: 
     let old = records::load(t, n, i);
     match rules::next_state(operation, code, old.state) {
         Next::To(state) => {
-            let moved = rules::moved_to(operation, state, old);
+            let moved = changes::moved_to(operation, state, old);
             store_at(t, n, i, holder, moved)
         }
         Next::Fails(reason) => fail(reason),

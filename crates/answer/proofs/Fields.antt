@@ -19,7 +19,7 @@ use Rattle.fields.specs.Fields.{startsWith, bytesOf, bodyOf, optional}
 use Rattle.octets.proofs.Bools.{both}
 use Rattle.identifier.specs.Identifier.{identifier, serialOf}
 use Rattle.identifier.proofs.Texts.{serial-back, serial-spells}
-use Rattle.rules.specs.Changes.{serialMost}
+use Rattle.changes.specs.Changes.{serialMost}
 use Rattle.answer.specs.Read.{spelled, fixed, serialIn, serialOk}
 use Rattle.answer.proofs.Tests.{same-is, same-self}
 use Rattle.octets.proofs.Maybe.{not-some, some-is, on-bind, on-test, if-some}

@@ -16,7 +16,7 @@ use Rattle.fields.specs.Fields.{startsWith, bodyOf}
 use Rattle.octets.proofs.Bools.{and-i}
 use Rattle.payload.specs.Tags.{usageLimits}
 use Rattle.answer.specs.Tags.{link, linkType, linkedObjectIdentifier, replacedObjectLink, replacementObjectLink}
-use Rattle.rules.specs.Changes.{serialMost}
+use Rattle.changes.specs.Changes.{serialMost}
 use Rattle.answer.specs.Respond.{word, named, linkItems}
 use Rattle.answer.specs.Read.{linkFirst, orNoLink, linkIn, linkOk, serialOk}
 use Rattle.octets.proofs.Maybe.{some-is, on-bind, on-test}

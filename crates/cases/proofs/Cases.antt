@@ -14,8 +14,8 @@ use Rattle.table.specs.Records.{line, body, recordOf, placeAt, withPlace, seria
 use Rattle.table.specs.Search.{firstFrom, isNothing, orElse, find, freePlace, destroyedPlace, newPlace}
 use Rattle.record_rules.specs.Rules.{stateRight, bitsRight, maskRight, limitRight, tailRight, wipedRight, replacedRight, replacementRight}
 use Rattle.soundness.specs.Sound.{sizeRight, countRight, leadRight, freeRight, zerosRight, distinctRight, issuedRight, ifStands, linksRight, breaksFree, breaksStanding, orLater, standingFault, placeFault, wholeFault, firstFault, sound}
-use Rattle.rules.specs.Changes.{isFull, bornAt, withBorn, withHeir}
-use Rattle.rules.specs.Records.{materialFrom, newRecord, heirOf, linkedTo, inState, movedTo, withCount}
+use Rattle.changes.specs.Changes.{isFull, bornAt, withBorn, withHeir}
+use Rattle.changes.specs.Records.{materialFrom, newRecord, heirOf, linkedTo, inState, movedTo, withCount}
 use Rattle.rules.specs.States.{canRevoke, canDestroy, activateTests, revokeTests, destroyTests, moveTests, revokedState, destroyedState, movedState, nextUnless, nextState, grantTests, leftUnless, granting}
 use Rattle.rules.specs.Tests.{due}
 use Rattle.frame.specs.Frame.{versionIn, headerIn, idOk, idBytes, itemIn, itemsIn, frameIn, optionOf, framing, framed}

@@ -20,11 +20,11 @@ use Rattle.table.proofs.Places.{serial-is}
 use Rattle.table.proofs.Finds.{find-below, find-serial, find-nonzero}
 use Rattle.rules.specs.declared.Reason.{Reason}
 use Rattle.rules.specs.declared.Attributes.{Attributes}
-use Rattle.rules.specs.Records.{newRecord, heirOf, linkedTo, inState, movedTo, withCount}
+use Rattle.changes.specs.Records.{newRecord, heirOf, linkedTo, inState, movedTo, withCount}
 use Rattle.rules.specs.declared.Next.the-variants.{To}
 use Rattle.rules.specs.declared.Granted.the-variants.{Left}
 use Rattle.rules.specs.States.{nextState, granting}
-use Rattle.rules.specs.Changes.{isFull, nextSerial, withBorn, withHeir}
+use Rattle.changes.specs.Changes.{isFull, nextSerial, withBorn, withHeir}
 use Rattle.rules.proofs.Grants.{grant-is}
 use Rattle.keeps.proofs.Stores.{Stored, other}
 use Rattle.keeps.proofs.Keeps.{Held, facts, found-stands}

@@ -21,7 +21,7 @@ use Rattle.table.proofs.Places.{serial-is}
 use Rattle.table.proofs.Finds.{find-below}
 use Rattle.rules.specs.declared.Reason.{Reason}
 use Rattle.rules.specs.Tests.{due}
-use Rattle.rules.specs.Records.{newRecord, heirOf, linkedTo, inState, movedTo, withCount}
+use Rattle.changes.specs.Records.{newRecord, heirOf, linkedTo, inState, movedTo, withCount}
 use Rattle.rules.proofs.States.{three}
 use Rattle.rules.proofs.Moves.{Move, activates, compromises, compromises-destroyed, deactivates, destroys, destroys-compromised, move}
 use Rattle.keeps.proofs.Stores.{other}

@@ -10,7 +10,7 @@ use Rattle.octets.specs.If.{ifb}
 use Rattle.octets.specs.Octets.{over}
 use Rattle.table.specs.Layout.{placeCount}
 use Rattle.table.specs.Records.{placeAt, withPlace}
-use Rattle.rules.specs.Records.{withCount}
+use Rattle.changes.specs.Records.{withCount}
 use Rattle.ttlv.specs.Items.{encode}
 use Rattle.frame.specs.Frame.{Frame, optionOf}
 use Rattle.answer.specs.Respond.{Answer, Response, respond}

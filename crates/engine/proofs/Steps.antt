@@ -23,8 +23,8 @@ use Rattle.values.specs.Values.{bitsOk, maskOk, unitOk, totalOk}
 use Rattle.octets.proofs.Bools.{and-i}
 use Rattle.record_rules.proofs.Fit.{Unlimited, Limited, Fit}
 use Rattle.rules.specs.Numbers.{create, getAttributes}
-use Rattle.rules.specs.Records.{inState, movedTo, withCount}
-use Rattle.rules.specs.Changes.{serialMost, nextSerial}
+use Rattle.changes.specs.Records.{inState, movedTo, withCount}
+use Rattle.changes.specs.Changes.{serialMost, nextSerial}
 use Rattle.rules.specs.declared.Attributes.{Attributes}
 use Rattle.keeps.proofs.Begun.{Allowed}
 use Rattle.keeps.proofs.Keeps.{Held, found-stands, range, fit, next-fits, keeps-moved, keeps-count, keeps-born, keeps-heir}

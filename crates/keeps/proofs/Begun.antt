@@ -18,8 +18,8 @@ use Rattle.octets.proofs.Bools.{and-l, and-r, and-i, or-cases}
 use Rattle.record_rules.proofs.Fit.{Unlimited, Limited, Fit}
 use Rattle.rules.specs.declared.Attributes.{Attributes}
 use Rattle.rules.specs.Numbers.{preActive}
-use Rattle.rules.specs.Records.{materialFrom, newRecord, heirOf}
-use Rattle.rules.proofs.Material.{length-material, bytes-material, material-tail}
+use Rattle.changes.specs.Records.{materialFrom, newRecord, heirOf}
+use Rattle.changes.proofs.Material.{length-material, bytes-material, material-tail}
 
 -- "Length, mask, total and unit (1 or 2) as a sound table allows", or no limit
 pub record Allowed (wanted : Attributes) : Type 0 where

@@ -12,7 +12,7 @@ use Rattle.table.proofs.Places.{serial-is, length-with, with-swap}
 use Rattle.table.proofs.Lead.{last-swap}
 use Rattle.record_rules.proofs.Fit.{Fit}
 use Rattle.soundness.proofs.SoundIs.{Stands, Sound}
-use Rattle.rules.specs.Records.{linkedTo}
+use Rattle.changes.specs.Records.{linkedTo}
 use Rattle.keeps.proofs.Stores.{Stored, stored, stored-last, Mutual, LinkedBut, LinkedAll, Bare, bare, linked, joined, other-serial, each-standing, bare-stored, linked-stored}
 use Rattle.keeps.proofs.Edits.{mutual-as, limit-as}
 

@@ -20,8 +20,8 @@ use Rattle.rules.specs.declared.Attributes.{Attributes}
 use Rattle.rules.specs.declared.Next.the-variants.{To}
 use Rattle.rules.specs.declared.Granted.the-variants.{Left}
 use Rattle.rules.specs.States.{nextState, granting}
-use Rattle.rules.specs.Records.{newRecord, heirOf, linkedTo, movedTo, withCount}
-use Rattle.rules.specs.Changes.{isFull, nextSerial, bornAt, withBorn, withHeir}
+use Rattle.changes.specs.Records.{newRecord, heirOf, linkedTo, movedTo, withCount}
+use Rattle.changes.specs.Changes.{isFull, nextSerial, bornAt, withBorn, withHeir}
 use Rattle.rules.proofs.Moves.{move}
 use Rattle.rules.proofs.Grants.{grant-is}
 use Rattle.keeps.proofs.Stores.{Stored, stored, stored-last, other}

@@ -17,7 +17,7 @@ use Rattle.octets.proofs.Zeros.{zeros-pass, bytes-zeros, drop-zeros}
 use Rattle.table.proofs.Lines.{InRange}
 use Rattle.record_rules.proofs.Fit.{Fit}
 use Rattle.rules.specs.Numbers.{destroy}
-use Rattle.rules.specs.Records.{inState, movedTo, withCount}
+use Rattle.changes.specs.Records.{inState, movedTo, withCount}
 use Rattle.rules.proofs.Moves.{Move, next-range, destroyed-by}
 use Rattle.keeps.proofs.Edits.{Stays, limit-as}
 

@@ -1,9 +1,8 @@
--- The laws of a record's life.
+-- The laws of tests, transitions and grants.
 -- Assumes nothing.
 pub mod Tests
 pub mod States
 pub mod Grants
-pub mod Material
 pub mod Unique
 pub mod Listed
 pub mod Moves

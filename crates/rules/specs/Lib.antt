@@ -1,7 +1,5 @@
--- The life of a record: numbers, tests, transitions, grants, beginnings and ends.
+-- What may happen to a record: numbers, tests, transitions, grants.
 -- Assumes nothing.
 pub mod Numbers
 pub mod Tests
 pub mod States
-pub mod Records
-pub mod Changes

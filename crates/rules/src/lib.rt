@@ -1,10 +1,8 @@
-// The life of one record, by value: which operation may move it, what it grants, how it begins, is replaced and is destroyed.
-// It knows nothing of TTLV. Records are those of the table crate.
+// What may happen to a record: which operation moves it from state to state, what it grants, and why an operation fails.
+// It asks nothing and knows nothing of TTLV; what becomes of the record is for changes.
 ghost use mathlib.Core.Path.{_≡_};
 ghost use Rattle.rules.specs.Numbers.{reasonNumber};
 ghost use Rattle.rules.specs.States.{nextState, granting};
-ghost use Rattle.rules.specs.Records.{materialFrom, newRecord, heirOf, linkedTo, movedTo, withCount};
-use table::Record;
 
 // Why an item fails. `reasonNumber` gives each its number.
 pub enum Reason {
@@ -46,7 +44,7 @@ pub const REVOKE: u32 = 0x13;
 pub const DESTROY: u32 = 0x14;
 
 // The states, as `Numbers` has them.
-const PRE_ACTIVE: u8 = 1;
+pub const PRE_ACTIVE: u8 = 1;
 
 const ACTIVE: u8 = 2;
 
@@ -119,83 +117,4 @@ pub fn grant(state: u8, unit: u8, count: u64, amount: u64) -> Granted
         return Granted::Denied(Reason::UsageLimitExceeded);
     }
     Granted::Left(count - amount)
-}
-
-// The material of a new key: the first bits/8 bytes of its part of the fresh strip, then zeros.
-pub fn material_from(fresh: &[u8], bits: u16) -> [u8; 32]
-    ensures { λ r. ⌜ r ≡ materialFrom bits (now (fresh .entry)) ⌝ }
-{
-    let there = octets::fewer(32, fresh.len());
-    let end = octets::fewer((bits / 8) as usize, there);
-    let mut material = [0u8; 32];
-    octets::put_all(&mut material, 0, &fresh[..end]);
-    material
-}
-
-// The record that Create makes.
-pub fn new_record(serial: u32, wanted: Attributes, fresh: &[u8]) -> Record
-    ensures { λ r. ⌜ r ≡ newRecord serial wanted (now (fresh .entry)) ⌝ }
-{
-    let material = material_from(fresh, wanted.bits);
-    Record {
-        serial,
-        state: PRE_ACTIVE,
-        unit: wanted.unit,
-        bits: wanted.bits,
-        replaced: 0,
-        replacement: 0,
-        total: wanted.total,
-        count: wanted.total,
-        mask: wanted.mask,
-        material,
-    }
-}
-
-// The record that Re-key makes of `old`, which it names.
-pub fn heir_of(serial: u32, old: Record, fresh: &[u8]) -> Record
-    ensures { λ r. ⌜ r ≡ heirOf serial old (now (fresh .entry)) ⌝ }
-{
-    let material = material_from(fresh, old.bits);
-    Record {
-        serial,
-        state: PRE_ACTIVE,
-        unit: old.unit,
-        bits: old.bits,
-        replaced: old.serial,
-        replacement: 0,
-        total: old.total,
-        count: old.total,
-        mask: old.mask,
-        material,
-    }
-}
-
-// The record that names its replacement.
-pub fn linked_to(serial: u32, old: Record) -> Record
-    ensures { λ r. ⌜ r ≡ linkedTo serial old ⌝ }
-{
-    let mut linked = old;
-    linked.replacement = serial;
-    linked
-}
-
-// The record in its next state; Destroy zeroes the material, and keeps total and count.
-pub fn moved_to(operation: u32, state: u8, old: Record) -> Record
-    ensures { λ r. ⌜ r ≡ movedTo operation state old ⌝ }
-{
-    let mut moved = old;
-    moved.state = state;
-    if operation == DESTROY {
-        moved.material = [0u8; 32];
-    }
-    moved
-}
-
-// The record with what a grant has left.
-pub fn with_count(count: u64, old: Record) -> Record
-    ensures { λ r. ⌜ r ≡ withCount count old ⌝ }
-{
-    let mut granted = old;
-    granted.count = count;
-    granted
 }

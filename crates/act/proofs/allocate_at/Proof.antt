@@ -3,7 +3,7 @@
 use mathlib.Core.Path.{sym, ap, _∙_}
 use mathlib.Core.List.{[]}
 use Rattle.table.specs.declared.Record.{Record}
-use Rattle.rules.specs.Records.{withCount}
+use Rattle.changes.specs.Records.{withCount}
 use Rattle.act.specs.declared.Performed.{Performed}
 use Rattle.act.specs.Act.{allocationPlan}
 use Rattle.act.specs.Perform.{leaves, carriedOut, inPlaces, storing}

@@ -9,8 +9,8 @@ use Rattle.table.specs.declared.Found.the-variants.{At}
 use Rattle.table.specs.Records.{lastSerial}
 use Rattle.table.proofs.Finds.{new-below}
 use Rattle.act.specs.declared.Performed.{Performed}
-use Rattle.rules.specs.Records.{newRecord}
-use Rattle.rules.specs.Changes.{nextSerial, bornAt}
+use Rattle.changes.specs.Records.{newRecord}
+use Rattle.changes.specs.Changes.{nextSerial, bornAt}
 use Rattle.act.specs.declared.Outcome.the-variants.{Created}
 use Rattle.act.specs.Perform.{leaves, roomFor}
 use Rattle.act.proofs.Plans.{room-serial, room-place, create-full, create-at}

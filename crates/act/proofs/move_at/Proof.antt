@@ -2,7 +2,7 @@
 -- Assumes nothing.
 use mathlib.Core.Path.{sym, ap, _∙_}
 use Rattle.table.specs.declared.Record.{Record}
-use Rattle.rules.specs.Records.{movedTo}
+use Rattle.changes.specs.Records.{movedTo}
 use Rattle.act.specs.declared.Performed.{Performed}
 use Rattle.act.specs.Perform.{leaves, carriedOut, storing, movePlan}
 use Rattle.act.proofs.Plans.{onNext, moved}

@@ -4,7 +4,7 @@ use mathlib.Core.Path.{ap, _∙_}
 use Prim.Native.Nat.{ℕ}
 use mathlib.Core.List.{List}
 use Rattle.table.specs.Records.{withLast}
-use Rattle.rules.specs.Changes.{bornAt}
+use Rattle.changes.specs.Changes.{bornAt}
 use borrow.Author.Needs.{needs}
 use Rattle.act.proofs.put_born.Statement.{statement}
 use Rattle.act.proofs.put_born.Tie as tie

@@ -5,8 +5,8 @@ use Prim.Native.Nat.{ℕ}
 use mathlib.Core.List.{List}
 use Rattle.table.specs.declared.Found.the-variants.{At}
 use Rattle.table.specs.Records.{withPlace}
-use Rattle.rules.specs.Records.{linkedTo}
-use Rattle.rules.specs.Changes.{bornAt}
+use Rattle.changes.specs.Records.{linkedTo}
+use Rattle.changes.specs.Changes.{bornAt}
 use Rattle.act.specs.Perform.{linkedAt}
 use borrow.Author.Needs.{needs}
 use Rattle.act.proofs.put_heir.Statement.{statement}

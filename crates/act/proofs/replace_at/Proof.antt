@@ -9,8 +9,8 @@ use Rattle.table.specs.declared.Found.the-variants.{At, Nothing}
 use Rattle.table.specs.Records.{lastSerial}
 use Rattle.table.proofs.Finds.{new-below}
 use Rattle.act.specs.declared.Performed.{Performed}
-use Rattle.rules.specs.Records.{heirOf}
-use Rattle.rules.specs.Changes.{nextSerial, bornAt}
+use Rattle.changes.specs.Records.{heirOf}
+use Rattle.changes.specs.Changes.{nextSerial, bornAt}
 use Rattle.act.specs.declared.Outcome.the-variants.{Done}
 use Rattle.act.specs.Perform.{leaves, roomFor, linkedAt, replacing}
 use Rattle.act.proofs.Plans.{room-serial, room-place}

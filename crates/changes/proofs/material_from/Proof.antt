@@ -5,9 +5,9 @@ use native.Mathlib.Omega.{arith}
 use lib.ListN.{length-take}
 use lib.Seq.{length-take-le}
 use borrow.Author.Needs.{needs}
-use Rattle.rules.proofs.Material.{material-stored}
-use Rattle.rules.proofs.material_from.Statement.{statement}
-use Rattle.rules.proofs.material_from.Tie as tie
+use Rattle.changes.proofs.Material.{material-stored}
+use Rattle.changes.proofs.material_from.Statement.{statement}
+use Rattle.changes.proofs.material_from.Tie as tie
 
 fewer-requires : tie.Need-fewer-requires
 fewer-requires c κs = search needs

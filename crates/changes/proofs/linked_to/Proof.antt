@@ -1,9 +1,9 @@
 -- `linked_to` meets its contract: only the replacement serial is another.
 -- Assumes nothing.
 use mathlib.Core.Path.{refl}
-use Rattle.rules.specs.Records.{linkedTo}
-use Rattle.rules.proofs.linked_to.Statement.{statement}
-use Rattle.rules.proofs.linked_to.Tie as tie
+use Rattle.changes.specs.Records.{linkedTo}
+use Rattle.changes.proofs.linked_to.Statement.{statement}
+use Rattle.changes.proofs.linked_to.Tie as tie
 
 returns : tie.Need-returns
 unfolding linkedTo

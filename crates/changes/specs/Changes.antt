@@ -9,7 +9,7 @@ use Rattle.table.specs.declared.Found.{Found}
 use Rattle.table.specs.declared.Found.the-variants.{At, Nothing}
 use Rattle.table.specs.Records.{placeAt, withPlace, lastSerial, withLast}
 use Rattle.table.specs.Search.{isNothing, newPlace}
-use Rattle.rules.specs.Records.{linkedTo}
+use Rattle.changes.specs.Records.{linkedTo}
 
 -- "the last serial is 4,294,967,295"
 abbrev pub serialMost : ℕ

@@ -1,9 +1,9 @@
 -- `heir_of` meets its contract: the material is that of `material_from`.
 -- Assumes nothing.
 use borrow.Author.Needs.{needs}
-use Rattle.rules.specs.Records.{heirOf}
-use Rattle.rules.proofs.heir_of.Statement.{statement}
-use Rattle.rules.proofs.heir_of.Tie as tie
+use Rattle.changes.specs.Records.{heirOf}
+use Rattle.changes.proofs.heir_of.Statement.{statement}
+use Rattle.changes.proofs.heir_of.Tie as tie
 
 material-from-requires : tie.Need-material-from-requires
 material-from-requires c κs = search needs

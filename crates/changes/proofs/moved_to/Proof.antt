@@ -2,10 +2,10 @@
 -- Assumes nothing.
 use mathlib.Core.Path.{sym}
 use native.Mathlib.Omega.{arith}
-use Rattle.rules.specs.Records.{inState}
-use Rattle.rules.proofs.Material.{moved-destroy, moved-other}
-use Rattle.rules.proofs.moved_to.Statement.{statement}
-use Rattle.rules.proofs.moved_to.Tie as tie
+use Rattle.changes.specs.Records.{inState}
+use Rattle.changes.proofs.Material.{moved-destroy, moved-other}
+use Rattle.changes.proofs.moved_to.Statement.{statement}
+use Rattle.changes.proofs.moved_to.Tie as tie
 
 returns : tie.Need-returns
 unfolding inState

@@ -16,8 +16,8 @@ use Rattle.octets.proofs.Stores.{take-there, sets-whole, sets-over}
 use Rattle.octets.proofs.Zeros.{zeros-pass, bytes-zeros, drop-zeros, part-zeros}
 use Rattle.table.specs.Layout.{materialSize}
 use Rattle.table.specs.declared.Record.{Record}
 use Rattle.rules.specs.Numbers.{destroy}
-use Rattle.rules.specs.Records.{materialFrom, inState, movedTo}
+use Rattle.changes.specs.Records.{materialFrom, inState, movedTo}
 
 abbrev pub zeros : ℕ → List ℕ
 zeros n = replicate n 0

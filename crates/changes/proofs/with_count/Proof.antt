@@ -1,9 +1,9 @@
 -- `with_count` meets its contract: only the count is another.
 -- Assumes nothing.
 use mathlib.Core.Path.{refl}
-use Rattle.rules.specs.Records.{withCount}
-use Rattle.rules.proofs.with_count.Statement.{statement}
-use Rattle.rules.proofs.with_count.Tie as tie
+use Rattle.changes.specs.Records.{withCount}
+use Rattle.changes.proofs.with_count.Statement.{statement}
+use Rattle.changes.proofs.with_count.Tie as tie
 
 returns : tie.Need-returns
 unfolding withCount

@@ -1,9 +1,9 @@
 -- `new_record` meets its contract: the material is that of `material_from`.
 -- Assumes nothing.
 use borrow.Author.Needs.{needs}
-use Rattle.rules.specs.Records.{newRecord}
-use Rattle.rules.proofs.new_record.Statement.{statement}
-use Rattle.rules.proofs.new_record.Tie as tie
+use Rattle.changes.specs.Records.{newRecord}
+use Rattle.changes.proofs.new_record.Statement.{statement}
+use Rattle.changes.proofs.new_record.Tie as tie
 
 material-from-requires : tie.Need-material-from-requires
 material-from-requires c κs = search needs
