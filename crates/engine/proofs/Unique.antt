@@ -6,11 +6,12 @@ use mathlib.Core.List.{List}
 use denote.Ref.{now}
 use borrow.Fn.Enter.{pair≡}
 use Rattle.outcomes.specs.Outcomes.{OneOutcome}
+use Rattle.engine.specs.declared.Served.{Served}
 use Rattle.engine.proofs.serve.Reads as reads
 
 -- the table and the output are what is left
 pub serve-unique : OneOutcome {X = λ k. List ℕ × List ℕ} reads.Post (λ k s. (now (s .1 .0), now (s .1 .1 .1 .1 .0)))
 serve-unique κs a r r′ s s′ p q =
-    let number : r .number ≡ r′ .number = p .number ∙ sym (q .number) in
-    let length : r .length ≡ r′ .length = p .length ∙ sym (q .length) in
-    (cc, pair≡ (p .table ∙ sym (q .table)) (p .output ∙ sym (q .output)))
+    let answer : _≡_ {A = Served} (record { number = r .number; length = r .length }) (record { number = r′ .number; length = r′ .length }) =
+    rw (p .number ∙ sym (q .number), p .length ∙ sym (q .length)) in
+    (answer, pair≡ (p .table ∙ sym (q .table)) (p .output ∙ sym (q .output)))
