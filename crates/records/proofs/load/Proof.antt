@@ -1,5 +1,12 @@
 -- `records::load`. The fields, read one by one, are the record at the place.
 -- Assumes nothing.
+use Prim.Native.Nat.{ℕ, _+_}
+use mathlib.Core.Path.{_≡_}
+use mathlib.Core.List.{List}
+use Rattle.octets.specs.Octets.{fromBe, part}
+use Rattle.table.specs.Layout.{lineOf, bodyOf, materialSize}
+use Rattle.table.specs.Records.{placeAt}
+use Rattle.table.specs.declared.Record.{Record}
 use Rattle.table.proofs.Places.{place-fields}
 use borrow.Author.Needs.{needs}
 use Rattle.records.proofs.load.Statement.{statement}
@@ -86,10 +93,27 @@ add-material-at c = search needs
 material-at-requires : tie.Need-material-at-requires
 material-at-requires c κs = search needs
 
+-- the fields, each read where it stands
+fields-read : (n : ℕ) (t : List ℕ) (i : ℕ) {l b serial state unit bits replaced replacement total count mask : ℕ} {material : List ℕ} → l ≡ lineOf i → b ≡ bodyOf n i
+    → serial ≡ fromBe (part t l 4)
+    → state ≡ fromBe (part t (l + 4) 1)
+    → unit ≡ fromBe (part t (l + 5) 1)
+    → bits ≡ fromBe (part t (l + 6) 2)
+    → replaced ≡ fromBe (part t (l + 8) 4)
+    → replacement ≡ fromBe (part t (l + 12) 4)
+    → total ≡ fromBe (part t b 8)
+    → count ≡ fromBe (part t (b + 8) 8)
+    → mask ≡ fromBe (part t (b + 16) 4)
+    → material ≡ part t (b + 24) materialSize
+    → _≡_ {A = Record} (record { serial = serial; state = state; unit = unit; bits = bits; replaced = replaced; replacement = replacement; total = total; count = count; mask = mask; material = material }) (placeAt n t i)
+fields-read n t i hl hb e₁ e₂ e₃ e₄ e₅ e₆ e₇ e₈ e₉ e₁₀ = rw (e₁, e₂, e₃, e₄, e₅, e₆, e₇, e₈, e₉, e₁₀, hl, hb) (place-fields n t i)
+
 returns : tie.Need-returns
 returns c =
     let a = c .before .before .before .before .before .before .before .before .before .before .before .before .before .args in
-    cc (place-fields (a .n) (a .t .now) (a .i))
+    let line = c .before .before .before .before .before .before .before .before .before .before .before .line in
+    let body = c .before .before .before .before .before .before .before .before .before .before .body in
+    fields-read (a .n) (a .t .now) (a .i) (line .ensures) (body .ensures) (c .before .before .before .before .before .before .before .before .before .number-at .ensures .0) (c .before .before .before .before .before .before .before .before .number-at2 .ensures .0) (c .before .before .before .before .before .before .before .number-at3 .ensures .0) (c .before .before .before .before .before .before .number-at4 .ensures .0) (c .before .before .before .before .before .number-at5 .ensures .0) (c .before .before .before .before .number-at6 .ensures .0) (c .before .before .before .number-at7 .ensures .0) (c .before .before .number-at8 .ensures .0) (c .before .number-at9 .ensures .0) (c .material-at .ensures)
 
 pub load-spec : {M : Type 1} → statement M
 load-spec =

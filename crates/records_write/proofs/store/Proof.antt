@@ -1,6 +1,12 @@
 -- `records_write::store`. The line and the body, each written at its offset.
 -- Assumes nothing.
-use Rattle.table.specs.Records.{withPlace}
+use Prim.Native.Nat.{ℕ}
+use mathlib.Core.Path.{_≡_}
+use mathlib.Core.List.{List}
+use lib.Seq.{sets}
+use Rattle.table.specs.Layout.{lineOf, bodyOf}
+use Rattle.table.specs.Records.{lineBytes, bodyBytes, withPlace}
+use Rattle.table.specs.declared.Record.{Record}
 use borrow.Author.Needs.{needs}
 use Rattle.records_write.proofs.store.Statement.{statement}
 use Rattle.records_write.proofs.store.Tie as tie
@@ -20,9 +26,18 @@ put-body-requires c κs = search needs
 same-length : tie.Need-same-length
 same-length c = search needs
 
-returns : tie.Need-returns
+-- the line, and then the body
+both-stored : (n : ℕ) (t : List ℕ) (i : ℕ) (r : Record) {l b : ℕ} {t₁ t₂ : List ℕ} → l ≡ lineOf i → b ≡ bodyOf n i → t₁ ≡ sets t l (lineBytes r) → t₂ ≡ sets t₁ b (bodyBytes r)
+    → t₂ ≡ withPlace n t i r
 unfolding withPlace
-returns c = cc
+both-stored n t i r hl hb e₁ e₂ = rw (e₂, e₁, hl, hb)
+
+returns : tie.Need-returns
+returns c =
+    let a = c .before .before .before .before .before .before .before .before .before .before .before .before .args in
+    let line = c .before .before .before .before .before .before .before .before .before .before .line in
+    let body = c .before .before .before .before .before .before .before .before .before .body in
+    both-stored (a .n) (a .t .now) (a .i) (a .r) (line .ensures) (body .ensures) (c .before .before .before .before .before .before .put-line .ensures) (c .before .before .put-body .ensures)
 
 pub store-spec : {M : Type 1} → statement M
 store-spec =
