@@ -12,7 +12,7 @@ use borrow.Author.Tests.{eqb-true, leb-true, ltb-true, eq-eqb, le-leb}
 use Rattle.octets.specs.If.{ifb}
 use Rattle.octets.specs.Maybe.{_>>=_, _>>_}
 use Rattle.octets.specs.Octets.{all}
-use Rattle.ttlv.specs.Types.{integer, enumeration, byteString, dateTime}
+use Rattle.ttlv_types.specs.Types.{integer, enumeration, byteString, dateTime}
 use Rattle.ttlv.specs.Items.{Items, nil, value, group, ended}
 use Rattle.fields.specs.Fields.{startsWith, bytesOf, bodyOf, optional}
 use Rattle.octets.proofs.Bools.{both, and-i}

@@ -13,7 +13,7 @@ use Rattle.octets.specs.Maybe.{_>>=_, _>>_}
 use Rattle.octets.specs.Octets.{be, fromBe}
 use Rattle.octets.proofs.If.{on-if}
 use Rattle.octets.proofs.Numbers.{fromBe-be}
-use Rattle.ttlv.specs.Types.{textString}
+use Rattle.ttlv_types.specs.Types.{textString}
 use Rattle.ttlv.specs.Items.{Items, nil, value, group, ended}
 use Rattle.fields.specs.Fields.{startsWith, bytesOf, bodyOf, optional}
 use Rattle.octets.proofs.Bools.{both}

@@ -7,7 +7,7 @@ use mathlib.Core.Bool.{true}
 use mathlib.Core.List.{List, [], _∷_, _++_, append-assoc, append-nil}
 use lib.ListN.{length, length-append}
 use Rattle.octets.proofs.Numbers.{length-be}
-use Rattle.ttlv.specs.Types.{structure}
+use Rattle.ttlv_types.specs.Types.{structure}
 use Rattle.ttlv.specs.Items.{Items, nil, group, head, encode}
 use Rattle.answer.specs.Tags.{responseHeader}
 use Rattle.answer.specs.Respond.{Answer, Response, batchItems, versionItems, headerItems, respond}

@@ -10,7 +10,7 @@ use borrow.Author.Tests.{eqb-true, not-true, leb-true}
 use Rattle.octets.specs.If.{ifb}
 use Rattle.octets.specs.Maybe.{_>>=_, _>>_}
 use Rattle.octets.proofs.If.{ifb-true, ifb-false, on-bool}
-use Rattle.ttlv.specs.Types.{longInteger, enumeration}
+use Rattle.ttlv_types.specs.Types.{longInteger, enumeration}
 use Rattle.ttlv.specs.Items.{Items, nil, group, ended}
 use Rattle.fields.specs.Fields.{startsWith, bodyOf, optional}
 use Rattle.octets.proofs.Bools.{both}

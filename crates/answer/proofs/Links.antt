@@ -10,7 +10,7 @@ use borrow.Author.Tests.{eqb-true, eqb-false, le-leb}
 use Rattle.octets.specs.If.{ifb}
 use Rattle.octets.specs.Maybe.{_>>=_, _>>_}
 use Rattle.octets.proofs.If.{ifb-true, ifb-false, on-if, on-bool}
-use Rattle.ttlv.specs.Types.{enumeration}
+use Rattle.ttlv_types.specs.Types.{enumeration}
 use Rattle.ttlv.specs.Items.{Items, nil, group, ended}
 use Rattle.fields.specs.Fields.{startsWith, bodyOf}
 use Rattle.octets.proofs.Bools.{and-i}

@@ -9,7 +9,7 @@ use lib.Dec.{leb, eqb}
 use borrow.Author.Tests.{eqb-true, leb-true}
 use Rattle.octets.specs.If.{ifb}
 use Rattle.octets.specs.Maybe.{_>>=_, _>>_}
-use Rattle.ttlv.specs.Types.{integer, enumeration}
+use Rattle.ttlv_types.specs.Types.{integer, enumeration}
 use Rattle.ttlv.specs.Items.{Items, nil, group, ended}
 use Rattle.fields.specs.Fields.{startsWith, bodyOf}
 use Rattle.octets.proofs.Bools.{both}

@@ -12,7 +12,7 @@ use Rattle.octets.specs.If.{ifb}
 use Rattle.octets.specs.Octets.{be, all}
 use Rattle.octets.proofs.If.{on-if}
 use Rattle.octets.proofs.Numbers.{length-be}
-use Rattle.ttlv.specs.Types.{structure, tagLead, integer, longInteger, enumeration, textString, byteString, dateTime, lengthOk, text, valueOk}
+use Rattle.ttlv_types.specs.Types.{structure, tagLead, integer, longInteger, enumeration, textString, byteString, dateTime, lengthOk, text, valueOk}
 use Rattle.ttlv.specs.Items.{Items, nil, value, group, tagOk, itemOk, wellFormed}
 use Rattle.ttlv.specs.Parse.{depthMost}
 use Rattle.octets.proofs.Bools.{both, and-i}

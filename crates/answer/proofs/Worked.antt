@@ -10,7 +10,7 @@ use Rattle.answer.specs.Respond.{Answer, Response}
 use Rattle.octets.specs.If.{ifb}
 use Rattle.octets.specs.Maybe.{_>>=_, _>>_, isSome}
 use Rattle.octets.specs.Octets.{be, fromBeAfter, fromBe, all, same}
-use Rattle.ttlv.specs.Types.{lengthOk, text, valueOk}
+use Rattle.ttlv_types.specs.Types.{lengthOk, text, valueOk}
 use Rattle.ttlv.specs.Items.{encode, itemOk, wellFormed, ended}
 use Rattle.ttlv.specs.Parse.{headed, firstOf, putValue, putGroup, more, walk, parse, isOne, message}
 use Rattle.fields.specs.Fields.{startsWith, bytesOf, bodyOf, numberOf, optional}

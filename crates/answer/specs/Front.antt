@@ -2,7 +2,7 @@
 -- Assumes nothing.
 use Prim.Native.Nat.{ℕ, _+_, _*_}
 use mathlib.Core.List.{List, _++_}
-use Rattle.ttlv.specs.Types.{structure}
+use Rattle.ttlv_types.specs.Types.{structure}
 use Rattle.ttlv.specs.Items.{nil, group, head, encode}
 use Rattle.frame.specs.Frame.{batchMost}
 use Rattle.answer.specs.Tags.{responseHeader, responseMessage}

@@ -13,7 +13,7 @@ use Rattle.octets.specs.Octets.{be}
 use Rattle.octets.proofs.Numbers.{length-be}
 use Rattle.octets.proofs.If.{ifb-true, ifb-false}
 use Rattle.octets.proofs.Over.{lent-length}
-use Rattle.ttlv.specs.Types.{structure, enumeration, padded, lengthOk}
+use Rattle.ttlv_types.specs.Types.{structure, enumeration, padded, lengthOk}
 use Rattle.ttlv.specs.Items.{Items, nil, value, group, head, encode}
 use Rattle.ttlv.proofs.Back.{eights}
 use Rattle.ttlv_put.specs.Write.{tagOf, join, spelled, fits, Wrote, WroteValue, WroteHead, Holds}

@@ -7,7 +7,7 @@ use mathlib.Core.Bool.{true}
 use lib.ListN.{length, take}
 use mathlib.Core.List.{List, [], _∷_}
 use lib.Dec.{eqb}
-use Rattle.ttlv.specs.Types.{longInteger, enumeration, textString, byteString, text}
+use Rattle.ttlv_types.specs.Types.{longInteger, enumeration, textString, byteString, text}
 use Rattle.ttlv.specs.Items.{Items, nil, value, group}
 use Rattle.ttlv_put.specs.Write.{tagOf, join, WroteValue}
 use Rattle.identifier.specs.Identifier.{identifier}

@@ -3,7 +3,7 @@
 use Prim.Native.Nat.{ℕ, _≤_}
 use mathlib.Core.List.{List, _++_}
 use lib.ListN.{take}
-use Rattle.ttlv.specs.Types.{structure, enumeration}
+use Rattle.ttlv_types.specs.Types.{structure, enumeration}
 use Rattle.ttlv.specs.Items.{Items, nil, head, encode}
 use Rattle.ttlv_put.specs.Write.{Holds}
 use Rattle.frame.specs.declared.ItemId.{ItemId}

@@ -4,7 +4,7 @@ ghost use mathlib.Core.Path.{_≡_};
 ghost use Prim.Native.Nat.{_+_, _*_, _%_, _≤_};
 ghost use lib.ListN.{length, take};
 ghost use Rattle.octets.specs.Octets.{over};
-ghost use Rattle.ttlv.specs.Types.{integer, longInteger, enumeration};
+ghost use Rattle.ttlv_types.specs.Types.{integer, longInteger, enumeration};
 ghost use Rattle.ttlv.specs.Items.{nil, group};
 ghost use Rattle.ttlv_put.specs.Write.{tagOf, Holds};
 ghost use Rattle.frame.specs.Tags.{batchItem, protocolVersionMajor, protocolVersionMinor};

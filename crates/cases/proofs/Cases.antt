@@ -8,7 +8,7 @@ use Rattle.octets.specs.Octets.{be, fromBeAfter, fromBe, all, same}
 use Rattle.fields.specs.Fields.{startsWith, bytesOf, bodyOf, numberOf, optional}
 use Rattle.ttlv.specs.Items.{encode, itemOk, wellFormed, ended}
 use Rattle.ttlv.specs.Parse.{headed, firstOf, putValue, putGroup, more, walk, parse, isOne, message}
-use Rattle.ttlv.specs.Types.{lengthOk, text, valueOk}
+use Rattle.ttlv_types.specs.Types.{lengthOk, text, valueOk}
 use Rattle.identifier.specs.Identifier.{digits, identifier, fromDigitsAfter, serialOf}
 use Rattle.table.specs.Records.{line, body, recordOf, placeAt, withPlace, serialAt, stateAt, lastSerial, withLast, placesSaid, blank}
 use Rattle.table.specs.Search.{firstFrom, isNothing, orElse, find, freePlace, destroyedPlace, newPlace}

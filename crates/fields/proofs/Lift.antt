@@ -15,7 +15,7 @@ use Rattle.octets.specs.Octets.{fromBe, part, Bytes}
 use Rattle.octets.proofs.If.{ifb-true, ifb-false, on-bool}
 use Rattle.octets.proofs.Numbers.{fromBe-lt, bytes-take, bytes-drop}
 use Rattle.octets.proofs.Stores.{length-part}
-use Rattle.ttlv.specs.Types.{isWord, isLong, lengthOk}
+use Rattle.ttlv_types.specs.Types.{isWord, isLong, lengthOk}
 use Rattle.ttlv.specs.Items.{Items, nil, value, group, ended}
 use Rattle.ttlv.specs.Parse.{firstOf}
 use Rattle.ttlv.specs.Tree.{isRun, treeOf}

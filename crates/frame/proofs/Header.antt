@@ -10,7 +10,7 @@ use lib.ListN.{length}
 use Rattle.octets.specs.Maybe.{_>>=_, _>>_}
 use Rattle.octets.specs.Octets.{part}
 use Rattle.octets.proofs.If.{ifb-true, ifb-false, on-bool}
-use Rattle.ttlv.specs.Types.{integer, enumeration}
+use Rattle.ttlv_types.specs.Types.{integer, enumeration}
 use Rattle.ttlv.specs.Items.{Items}
 use Rattle.ttlv.specs.Tree.{isRun, treeOf}
 use Rattle.fields.specs.Fields.{numberOf, optional}

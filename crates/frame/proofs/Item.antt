@@ -15,7 +15,7 @@ use Rattle.octets.specs.Maybe.{_>>=_, _>>_, isSome}
 use Rattle.octets.specs.Octets.{part, Bytes}
 use Rattle.octets.proofs.If.{ifb-true, ifb-false, on-bool}
 use Rattle.octets.proofs.Stores.{length-part, sets-over}
-use Rattle.ttlv.specs.Types.{enumeration, byteString}
+use Rattle.ttlv_types.specs.Types.{enumeration, byteString}
 use Rattle.ttlv.specs.Items.{Items}
 use Rattle.ttlv.specs.Tree.{isRun, treeOf}
 use Rattle.fields.specs.Fields.{bytesOf, optional}

@@ -7,7 +7,7 @@ use mathlib.Core.List.{List, [], _++_}
 use lib.ListN.{length, drop, replicate}
 use lib.Dec.{leb}
 use Rattle.octets.specs.If.{ifb}
-use Rattle.ttlv.specs.Types.{enumeration, byteString}
+use Rattle.ttlv_types.specs.Types.{enumeration, byteString}
 use Rattle.ttlv.specs.Tree.{treeOf}
 use Rattle.fields.specs.Found.{startsAt, bytesAt, numberAt, bodyAt}
 use Rattle.fields.specs.declared.BytesField.{BytesField}

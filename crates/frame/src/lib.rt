@@ -127,7 +127,7 @@ fn read_version(s: &[u8]) -> VersionRead
     let NumberField::Number { value: major, next } = fields::number_field(
         s,
         PROTOCOL_VERSION_MAJOR,
-        ttlv::INTEGER,
+        ttlv_types::INTEGER,
     ) else {
         return VersionRead::NoVersion;
     };
@@ -135,7 +135,7 @@ fn read_version(s: &[u8]) -> VersionRead
     let NumberField::Number {
         value: minor,
         next: end,
-    } = fields::number_field(t, PROTOCOL_VERSION_MINOR, ttlv::INTEGER)
+    } = fields::number_field(t, PROTOCOL_VERSION_MINOR, ttlv_types::INTEGER)
     else {
         return VersionRead::NoVersion;
     };
@@ -152,7 +152,7 @@ fn read_option(s: &[u8]) -> NumberField
     let NumberField::Number { value, next } = fields::number_field(
         s,
         BATCH_ERROR_CONTINUATION_OPTION,
-        ttlv::ENUMERATION,
+        ttlv_types::ENUMERATION,
     ) else {
         if fields::starts_with(s, BATCH_ERROR_CONTINUATION_OPTION) {
             return NumberField::NoNumber;
@@ -188,7 +188,7 @@ fn read_header(s: &[u8]) -> HeaderRead
     let NumberField::Number {
         value: count,
         next: end,
-    } = fields::number_field(u, BATCH_COUNT, ttlv::INTEGER)
+    } = fields::number_field(u, BATCH_COUNT, ttlv_types::INTEGER)
     else {
         return HeaderRead::NoHeader;
     };
@@ -210,7 +210,7 @@ fn read_id(s: &[u8]) -> BytesField
     let BytesField::Span { len, next } = fields::bytes_field(
         s,
         UNIQUE_BATCH_ITEM_ID,
-        ttlv::BYTE_STRING,
+        ttlv_types::BYTE_STRING,
     ) else {
         if fields::starts_with(s, UNIQUE_BATCH_ITEM_ID) {
             return BytesField::NoSpan;
@@ -234,7 +234,7 @@ fn find_item(body: &[u8]) -> ItemRead
     let NumberField::Number {
         value: operation,
         next,
-    } = fields::number_field(body, OPERATION, ttlv::ENUMERATION)
+    } = fields::number_field(body, OPERATION, ttlv_types::ENUMERATION)
     else {
         return ItemRead::NoItem;
     };

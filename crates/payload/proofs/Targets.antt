@@ -12,7 +12,7 @@ use borrow.Author.Tests.{leb-true}
 use Rattle.octets.specs.Maybe.{_>>=_, _>>_}
 use Rattle.octets.specs.Octets.{part}
 use Rattle.octets.proofs.If.{ifb-true, ifb-false, on-bool}
-use Rattle.ttlv.specs.Types.{longInteger, enumeration, textString}
+use Rattle.ttlv_types.specs.Types.{longInteger, enumeration, textString}
 use Rattle.ttlv.specs.Items.{Items, ended}
 use Rattle.ttlv.specs.Tree.{isRun, treeOf}
 use Rattle.fields.specs.Fields.{bytesOf, numberOf}

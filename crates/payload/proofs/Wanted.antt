@@ -12,7 +12,7 @@ use borrow.Author.Tests.{eq-eqb, ne-eqb, eqb-true, leb-true}
 use Rattle.octets.specs.Maybe.{_>>=_, _>>_}
 use Rattle.octets.specs.Octets.{part}
 use Rattle.octets.proofs.If.{ifb-true, on-bool}
-use Rattle.ttlv.specs.Types.{integer, longInteger, enumeration}
+use Rattle.ttlv_types.specs.Types.{integer, longInteger, enumeration}
 use Rattle.ttlv.specs.Items.{Items, ended}
 use Rattle.ttlv.specs.Parse.{firstOf}
 use Rattle.ttlv.specs.Tree.{isRun, treeOf}

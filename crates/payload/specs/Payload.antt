@@ -7,7 +7,7 @@ use mathlib.Core.List.{List}
 use lib.Dec.{leb, ltb, eqb}
 use Rattle.octets.specs.If.{ifb}
 use Rattle.octets.specs.Maybe.{_>>=_, _>>_}
-use Rattle.ttlv.specs.Types.{integer, longInteger, enumeration, textString}
+use Rattle.ttlv_types.specs.Types.{integer, longInteger, enumeration, textString}
 use Rattle.ttlv.specs.Items.{Items, ended}
 use Rattle.fields.specs.Fields.{bytesOf, bodyOf, numberOf, optional}
 use Rattle.payload.specs.Tags.{attributes, cryptographicAlgorithm, cryptographicLength, cryptographicUsageMask, objectType, revocationReason, revocationReasonCode, uniqueIdentifier, usageLimits, usageLimitsCount, usageLimitsTotal, usageLimitsUnit, symmetricKey, aes}

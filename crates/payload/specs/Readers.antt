@@ -8,7 +8,7 @@ use lib.Dec.{eqb}
 use Rattle.octets.specs.If.{ifb}
 use Rattle.octets.specs.Maybe.{_>>=_, _>>_}
 use Rattle.octets.specs.Octets.{part}
-use Rattle.ttlv.specs.Types.{integer, textString}
+use Rattle.ttlv_types.specs.Types.{integer, textString}
 use Rattle.ttlv.specs.Items.{Items, ended}
 use Rattle.fields.specs.Fields.{numberOf, optional}
 use Rattle.fields.specs.Found.{startsAt, bytesAt, numberAt, bodyAt}

@@ -128,7 +128,7 @@ fn read_target(s: &[u8]) -> TargetRead
     let BytesField::Span { len, next } = fields::bytes_field(
         s,
         UNIQUE_IDENTIFIER,
-        ttlv::TEXT_STRING,
+        ttlv_types::TEXT_STRING,
     ) else {
         return TargetRead::NoTarget;
     };
@@ -149,7 +149,7 @@ fn read_limit(s: &[u8]) -> LimitRead
     let NumberField::Number { value: total, next } = fields::number_field(
         s,
         USAGE_LIMITS_TOTAL,
-        ttlv::LONG_INTEGER,
+        ttlv_types::LONG_INTEGER,
     ) else {
         return LimitRead::NoLimit;
     };
@@ -159,7 +159,7 @@ fn read_limit(s: &[u8]) -> LimitRead
     let NumberField::Number {
         value: unit,
         next: _,
-    } = only_number(&s[next..], USAGE_LIMITS_UNIT, ttlv::ENUMERATION)
+    } = only_number(&s[next..], USAGE_LIMITS_UNIT, ttlv_types::ENUMERATION)
     else {
         return LimitRead::NoLimit;
     };
@@ -194,7 +194,7 @@ fn read_masked(s: &[u8], bits: u16) -> AttributesRead
     let NumberField::Number { value: mask, next } = fields::number_field(
         s,
         CRYPTOGRAPHIC_USAGE_MASK,
-        ttlv::INTEGER,
+        ttlv_types::INTEGER,
     ) else {
         return AttributesRead::NoAttributes;
     };
@@ -222,7 +222,7 @@ fn read_attributes(s: &[u8]) -> AttributesRead
     let NumberField::Number {
         value: algorithm,
         next,
-    } = fields::number_field(s, CRYPTOGRAPHIC_ALGORITHM, ttlv::ENUMERATION)
+    } = fields::number_field(s, CRYPTOGRAPHIC_ALGORITHM, ttlv_types::ENUMERATION)
     else {
         return AttributesRead::NoAttributes;
     };
@@ -233,7 +233,7 @@ fn read_attributes(s: &[u8]) -> AttributesRead
     let NumberField::Number {
         value: bits,
         next: after,
-    } = fields::number_field(t, CRYPTOGRAPHIC_LENGTH, ttlv::INTEGER)
+    } = fields::number_field(t, CRYPTOGRAPHIC_LENGTH, ttlv_types::INTEGER)
     else {
         return AttributesRead::NoAttributes;
     };
@@ -251,7 +251,7 @@ fn read_create(s: &[u8]) -> Command
     let NumberField::Number { value: kind, next } = fields::number_field(
         s,
         OBJECT_TYPE,
-        ttlv::ENUMERATION,
+        ttlv_types::ENUMERATION,
     ) else {
         return Command::Invalid;
     };
@@ -320,7 +320,7 @@ fn read_allocation(s: &[u8]) -> Command
     let NumberField::Number {
         value: amount,
         next: _,
-    } = only_number(&s[next..], USAGE_LIMITS_COUNT, ttlv::LONG_INTEGER)
+    } = only_number(&s[next..], USAGE_LIMITS_COUNT, ttlv_types::LONG_INTEGER)
     else {
         return Command::Invalid;
     };
@@ -352,7 +352,7 @@ fn read_revoke(s: &[u8]) -> Command
     let NumberField::Number {
         value: code,
         next: _,
-    } = only_number(&t[8..end], REVOCATION_REASON_CODE, ttlv::ENUMERATION)
+    } = only_number(&t[8..end], REVOCATION_REASON_CODE, ttlv_types::ENUMERATION)
     else {
         return Command::Invalid;
     };

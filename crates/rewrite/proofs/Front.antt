@@ -10,7 +10,7 @@ use lib.Seq.{take-at, drop-at}
 use Rattle.octets.specs.Octets.{part, Bytes}
 use Rattle.octets.proofs.Numbers.{bytes-take, bytes-drop}
 use Rattle.octets.proofs.Stores.{length-part}
-use Rattle.ttlv.specs.Types.{structure, tagLead}
+use Rattle.ttlv_types.specs.Types.{structure, tagLead}
 use Rattle.ttlv.specs.Items.{Items, nil, value, group, head, encode, wellFormed}
 use Rattle.ttlv.specs.Parse.{firstOf, depthMost}
 use Rattle.ttlv.specs.Tree.{isRun, treeOf}

@@ -5,7 +5,7 @@ ghost use mathlib.Core.Path.{_≡_};
 ghost use mathlib.Core.Bool.{true};
 ghost use Prim.Native.Nat.{_≤_, _<_};
 ghost use lib.ListN.{length};
-ghost use Rattle.ttlv.specs.Types.{structure, boolean, isWord, isLong, lengthOk, valueOk};
+ghost use Rattle.ttlv_types.specs.Types.{structure, boolean, isWord, isLong, lengthOk, valueOk};
 ghost use Rattle.ttlv.specs.Tree.{isRun};
 ghost use Rattle.ttlv_put.specs.Write.{WroteNumber, WroteValue};
 ghost use Rattle.rewrite.specs.Again.{Again, Rewrote};
@@ -15,10 +15,10 @@ fn rewrite_word(out: &mut [u8], tag: u16, kind: u8, bits: u32) -> usize
     requires { ⌜ isWord kind ≡ true ⌝ }
     ensures { λ r. ⌜ WroteNumber 4 tag kind bits (now (out .entry)) (now (out .exit)) r ⌝ }
 {
-    if kind == ttlv::INTEGER {
+    if kind == ttlv_types::INTEGER {
         return ttlv_write::write_integer(out, tag, bits);
     }
-    if kind == ttlv::ENUMERATION {
+    if kind == ttlv_types::ENUMERATION {
         return ttlv_write::write_enumeration(out, tag, bits);
     }
     ttlv_write::write_interval(out, tag, bits)
@@ -29,13 +29,13 @@ fn rewrite_long(out: &mut [u8], tag: u16, kind: u8, bits: u64) -> usize
     requires { ⌜ (isLong kind ≡ true) × (kind ≡ boolean → bits ≤ 1) ⌝ }
     ensures { λ r. ⌜ WroteNumber 8 tag kind bits (now (out .entry)) (now (out .exit)) r ⌝ }
 {
-    if kind == ttlv::BOOLEAN {
+    if kind == ttlv_types::BOOLEAN {
         return ttlv_write::write_boolean(out, tag, bits == 1);
     }
-    if kind == ttlv::LONG_INTEGER {
+    if kind == ttlv_types::LONG_INTEGER {
         return ttlv_write::write_long(out, tag, bits);
     }
-    if kind == ttlv::DATE_TIME {
+    if kind == ttlv_types::DATE_TIME {
         return ttlv_write::write_date_time(out, tag, bits);
     }
     ttlv_write::write_date_time_extended(out, tag, bits)
@@ -46,13 +46,13 @@ fn rewrite_value(out: &mut [u8], tag: u16, kind: u8, v: &[u8]) -> usize
     requires { ⌜ (kind ≡ structure → ⊥) × (lengthOk kind (length (now v)) ≡ true) × (valueOk kind (now v) ≡ true) ⌝ }
     ensures { λ r. ⌜ WroteValue true tag kind (now (v .entry)) (now (out .entry)) (now (out .exit)) r ⌝ }
 {
-    if kind == ttlv::TEXT_STRING {
+    if kind == ttlv_types::TEXT_STRING {
         return ttlv_write::write_text(out, tag, v);
     }
-    if kind == ttlv::BYTE_STRING {
+    if kind == ttlv_types::BYTE_STRING {
         return ttlv_write::write_bytes(out, tag, v);
     }
-    if kind == ttlv::BIG_INTEGER {
+    if kind == ttlv_types::BIG_INTEGER {
         return ttlv_write::write_big_integer(out, tag, v);
     }
     if v.len() == 4 {

@@ -63,15 +63,15 @@ fn print_signed(bits: u64, half: u64)
 
 // A number by its type.
 fn print_number(kind: u8, bits: u64) {
-    if kind == ttlv::INTEGER {
+    if kind == ttlv_types::INTEGER {
         print_signed(bits % 0x100000000, 0x80000000);
         return;
     }
-    if kind == ttlv::ENUMERATION {
+    if kind == ttlv_types::ENUMERATION {
         io::print_decimal(1, bits);
         return;
     }
-    if kind == ttlv::INTERVAL {
+    if kind == ttlv_types::INTERVAL {
         io::print_decimal(1, bits);
         return;
     }
@@ -80,15 +80,15 @@ fn print_number(kind: u8, bits: u64) {
 
 // A value by its type: text as text, bytes in hex, numbers in decimal.
 fn print_plain(kind: u8, v: &[u8]) {
-    if kind == ttlv::TEXT_STRING {
+    if kind == ttlv_types::TEXT_STRING {
         io::write_all(1, v);
         return;
     }
-    if kind == ttlv::BYTE_STRING {
+    if kind == ttlv_types::BYTE_STRING {
         printlib::bytes(v);
         return;
     }
-    if kind == ttlv::BIG_INTEGER {
+    if kind == ttlv_types::BIG_INTEGER {
         printlib::bytes(v);
         return;
     }
@@ -109,7 +109,7 @@ fn print_group(loud: bool, depth: usize, tag: u32, len: usize) {
     if !loud {
         return;
     }
-    print_head(depth, tag, ttlv::STRUCTURE, len);
+    print_head(depth, tag, ttlv_types::STRUCTURE, len);
     io::write_all(1, b"\n");
 }
 

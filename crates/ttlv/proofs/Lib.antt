@@ -13,7 +13,6 @@ pub mod Tree
 pub mod Message
 pub mod Step
 pub mod One
-pub mod Small
 pub mod Padding
 pub mod Unique
 pub mod Eight

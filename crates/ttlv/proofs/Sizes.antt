@@ -6,7 +6,7 @@ use native.Mathlib.Omega.{arith}
 use mathlib.Core.List.{List}
 use lib.ListN.{length, length-append, length-replicate}
 use Rattle.octets.proofs.Numbers.{length-be}
-use Rattle.ttlv.specs.Types.{padded}
+use Rattle.ttlv_types.specs.Types.{padded}
 use Rattle.ttlv.specs.Items.{Items, nil, value, group, head, encode}
 
 -- the bytes of some items

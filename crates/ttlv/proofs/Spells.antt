@@ -13,7 +13,7 @@ use borrow.Author.Tests.{eqb-true}
 use Rattle.octets.specs.Octets.{be, fromBe, part, all, allZero, Bytes}
 use Rattle.octets.proofs.Numbers.{be-part, bytes-take, bytes-drop}
 use Rattle.octets.proofs.Stores.{length-part}
-use Rattle.ttlv.specs.Types.{structure, padded}
+use Rattle.ttlv_types.specs.Types.{structure, padded}
 use Rattle.ttlv.specs.Items.{Items, nil, head, padding, encode}
 use Rattle.ttlv.specs.Parse.{firstOf, more, walk, parse}
 use Rattle.ttlv.specs.declared.First.{First}

@@ -12,7 +12,7 @@ use lib.Dec.{eqb}
 use borrow.Author.Tests.{ne-eqb}
 use Rattle.octets.specs.Maybe.{isSome}
 use Rattle.octets.specs.Octets.{part}
-use Rattle.ttlv.specs.Types.{lengthOk, valueOk}
+use Rattle.ttlv_types.specs.Types.{lengthOk, valueOk}
 use Rattle.ttlv.specs.Items.{Items}
 use Rattle.ttlv.specs.Parse.{firstOf, more, parse}
 use Rattle.ttlv.specs.declared.First.{First}

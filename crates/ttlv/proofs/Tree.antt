@@ -9,7 +9,7 @@ use mathlib.Core.List.{List, []}
 use lib.ListN.{length, drop}
 use Rattle.octets.specs.Maybe.{isSome}
 use Rattle.octets.specs.Octets.{part}
-use Rattle.ttlv.specs.Types.{padded, lengthOk, valueOk}
+use Rattle.ttlv_types.specs.Types.{padded, lengthOk, valueOk}
 use Rattle.ttlv.specs.Items.{Items, nil, value, group}
 use Rattle.ttlv.specs.Parse.{firstOf, more, parse, depthMost}
 use Rattle.ttlv.specs.Tree.{isRun, orNone, treeOf}

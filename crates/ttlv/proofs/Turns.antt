@@ -10,7 +10,7 @@ use lib.ListN.{length, drop, length-drop}
 use borrow.Author.Tests.{eqb-true}
 use Rattle.octets.specs.If.{ifb}
 use Rattle.octets.specs.Octets.{part}
-use Rattle.ttlv.specs.Types.{structure, padded, lengthOk}
+use Rattle.ttlv_types.specs.Types.{structure, padded, lengthOk}
 use Rattle.ttlv.specs.Items.{Items}
 use Rattle.ttlv.specs.Parse.{firstOf, putValue, putGroup, more, walk, parse}
 use Rattle.ttlv.specs.declared.First.{First}

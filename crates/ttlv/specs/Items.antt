@@ -6,7 +6,7 @@ use mathlib.Core.List.{List, [], _∷_, _++_}
 use lib.ListN.{length, replicate}
 use lib.Dec.{ltb, eqb}
 use Rattle.octets.specs.Octets.{be}
-use Rattle.ttlv.specs.Types.{structure, tagLead, padded, lengthOk, valueOk}
+use Rattle.ttlv_types.specs.Types.{structure, tagLead, padded, lengthOk, valueOk}
 
 -- a run of items: none; or an item with its tag, type and value, and the rest; or a structure with its tag and its own run, and the rest
 pub data Items : Type 0 where

@@ -3,34 +3,9 @@
 ghost use mathlib.Core.Path.{_≡_};
 ghost use Prim.Native.Nat.{_+_, _-_, _^_, _≤_, _<_};
 ghost use lib.ListN.{length};
-ghost use lib.Dec.{leb};
 ghost use Rattle.octets.specs.Maybe.{isSome};
-ghost use Rattle.octets.specs.Octets.{fromBe, part, allZero};
-ghost use Rattle.ttlv.specs.Types.{isWord, isLong, text, lengthOk, valueOk};
+ghost use Rattle.octets.specs.Octets.{part, allZero};
 ghost use Rattle.ttlv.specs.Parse.{headed, firstOf, parse, message};
-
-// The types.
-pub const STRUCTURE: u8 = 0x01;
-
-pub const INTEGER: u8 = 0x02;
-
-pub const LONG_INTEGER: u8 = 0x03;
-
-pub const BIG_INTEGER: u8 = 0x04;
-
-pub const ENUMERATION: u8 = 0x05;
-
-pub const BOOLEAN: u8 = 0x06;
-
-pub const TEXT_STRING: u8 = 0x07;
-
-pub const BYTE_STRING: u8 = 0x08;
-
-pub const DATE_TIME: u8 = 0x09;
-
-pub const INTERVAL: u8 = 0x0A;
-
-pub const DATE_TIME_EXTENDED: u8 = 0x0B;
 
 // The first byte of every tag.
 const TAG_LEAD: u8 = 0x42;
@@ -58,84 +33,6 @@ pub enum First {
     },
 }
 
-// Whether the bytes of a whole Text String are text.
-pub fn text_ok(s: &[u8]) -> bool
-    ensures { λ r. ⌜ r ≡ text (now (s .entry)) ⌝ }
-{
-    let mut i: usize = 0;
-    while i < s.len() {
-        let b = s[i];
-        if b < 0x20 {
-            return false;
-        }
-        if 0x7E < b {
-            return false;
-        }
-        i += 1;
-    }
-    true
-}
-
-// Whether values of a type have 4 bytes.
-fn is_word(kind: u8) -> bool
-    ensures { λ r. ⌜ r ≡ isWord kind ⌝ }
-{
-    kind == INTEGER || kind == ENUMERATION || kind == INTERVAL
-}
-
-// Whether values of a type have 8 bytes.
-fn is_long(kind: u8) -> bool
-    ensures { λ r. ⌜ r ≡ isLong kind ⌝ }
-{
-    kind == LONG_INTEGER || kind == BOOLEAN || kind == DATE_TIME || kind == DATE_TIME_EXTENDED
-}
-
-// Whether a type allows a length.
-pub fn length_ok(kind: u8, n: usize) -> bool
-    ensures { λ r. ⌜ r ≡ lengthOk kind n ⌝ }
-{
-    if is_word(kind) {
-        return n == 4;
-    }
-    if is_long(kind) {
-        return n == 8;
-    }
-    if kind == STRUCTURE {
-        return n % 8 == 0;
-    }
-    if kind == BIG_INTEGER {
-        return 8 <= n && n % 8 == 0;
-    }
-    kind == TEXT_STRING || kind == BYTE_STRING
-}
-
-// Whether bytes spell 0 or 1, however many they are.
-fn at_most_one(v: &[u8]) -> bool
-    ensures { λ r. ⌜ r ≡ leb (fromBe (now (v .entry))) 1 ⌝ }
-{
-    if v.len() == 0 {
-        return true;
-    }
-    let last = v.len() - 1;
-    if !octets::all_zero(&v[..last]) {
-        return false;
-    }
-    v[last] <= 1
-}
-
-// Whether a type allows a value.
-pub fn value_ok(kind: u8, v: &[u8]) -> bool
-    ensures { λ r. ⌜ r ≡ valueOk kind (now (v .entry)) ⌝ }
-{
-    if kind == BOOLEAN {
-        return at_most_one(v);
-    }
-    if kind == TEXT_STRING {
-        return text_ok(v);
-    }
-    true
-}
-
 // Whether the padding from stop to next is zeros, by the eight bytes that end with it: the bytes in front of it are shifted out. `head_first` shows the bounds.
 fn padding_clear(s: &[u8], stop: usize, next: usize) -> bool
     requires { ⌜ (stop ≤ next) × (next < stop + 8) × (8 ≤ next) × (next ≤ length (now s)) ⌝ }
@@ -154,18 +51,18 @@ fn head_first(s: &[u8], tag: u32, kind: u8, n: usize) -> First
     requires { ⌜ (8 ≤ length (now s)) × (n < 256 ^ 4) ⌝ }
     ensures { λ r. ⌜ r ≡ headed (now (s .entry)) tag kind n ⌝ }
 {
-    if !length_ok(kind, n) {
+    if !ttlv_types::length_ok(kind, n) {
         return First::Bad;
     }
     let next = 8 + (n + 7) / 8 * 8;
     if s.len() < next {
         return First::Bad;
     }
-    if kind == STRUCTURE {
+    if kind == ttlv_types::STRUCTURE {
         return First::Group { tag, next };
     }
     let stop = 8 + n;
-    if !value_ok(kind, &s[8..stop]) {
+    if !ttlv_types::value_ok(kind, &s[8..stop]) {
         return First::Bad;
     }
     if !padding_clear(s, stop, next) {

@@ -12,7 +12,7 @@ use Rattle.octets.specs.Octets.{over}
 use Rattle.octets.specs.If.{ifb}
 use Rattle.octets.proofs.If.{ifb-true}
 use Rattle.octets.proofs.Over.{length-over, over-front, lent, lent-then}
-use Rattle.ttlv.specs.Types.{structure, padded, lengthOk}
+use Rattle.ttlv_types.specs.Types.{structure, padded, lengthOk}
 use Rattle.ttlv.specs.Items.{Items, nil, group, head, encode}
 use Rattle.ttlv.proofs.Back.{eights}
 use Rattle.ttlv_put.specs.Write.{tagOf, item, numberItem, join, spelled, fits, valueFits, Wrote, WroteNumber, WroteValue, WroteHead, Holds}

@@ -12,7 +12,7 @@ use Rattle.octets.specs.Octets.{be, over}
 use Rattle.octets.proofs.If.{ifb-true, ifb-false}
 use Rattle.octets.proofs.Numbers.{length-be, be-zero}
 use Rattle.octets.proofs.Stores.{sets-append, sets-over}
-use Rattle.ttlv.specs.Types.{padded}
+use Rattle.ttlv_types.specs.Types.{padded}
 use Rattle.ttlv.specs.Items.{nil, value, head, encode}
 use Rattle.ttlv.proofs.Sizes.{length-head}
 use Rattle.ttlv_put.proofs.Sizes.{length-value}

@@ -7,7 +7,7 @@ use mathlib.Core.List.{List, [], _++_, append-assoc, append-nil}
 use lib.ListN.{length, length-append}
 use Rattle.octets.specs.Octets.{be}
 use Rattle.octets.proofs.Numbers.{length-be}
-use Rattle.ttlv.specs.Types.{structure, padded}
+use Rattle.ttlv_types.specs.Types.{structure, padded}
 use Rattle.ttlv.specs.Items.{Items, nil, value, group, head, encode}
 use Rattle.ttlv.proofs.Sizes.{size, size-nil, size-value, size-group}
 use Rattle.ttlv_put.specs.Write.{tagOf, numberItem, join}

@@ -8,7 +8,7 @@ use lib.ListN.{length}
 use lib.Dec.{leb, ltb}
 use Rattle.octets.specs.If.{ifb}
 use Rattle.octets.specs.Octets.{be, over}
-use Rattle.ttlv.specs.Types.{structure, padded, lengthOk}
+use Rattle.ttlv_types.specs.Types.{structure, padded, lengthOk}
 use Rattle.ttlv.specs.Items.{Items, nil, value, group, head, encode}
 
 -- a tag by its last two bytes; the first is 42 hex

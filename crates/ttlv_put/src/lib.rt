@@ -61,12 +61,12 @@ pub fn write_structure(out: &mut [u8], tag: u16, len: usize) -> usize
     if len > 0xFFFFFFFF {
         return 0;
     }
-    if !ttlv::length_ok(ttlv::STRUCTURE, len) {
+    if !ttlv_types::length_ok(ttlv_types::STRUCTURE, len) {
         return 0;
     }
     if out.len() < 8 {
         return 0;
     }
-    put_head(out, tag, ttlv::STRUCTURE, len);
+    put_head(out, tag, ttlv_types::STRUCTURE, len);
     8
 }

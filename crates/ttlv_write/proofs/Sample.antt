@@ -7,7 +7,7 @@ use mathlib.Core.List.{List, append-assoc}
 use lib.ListN.{length}
 use borrow.Rule.Slice.PartMut.{putMid, midOf}
 use Rattle.octets.proofs.Over.{lent-length}
-use Rattle.ttlv.specs.Types.{structure, integer}
+use Rattle.ttlv_types.specs.Types.{structure, integer}
 use Rattle.ttlv.specs.Items.{Items, nil, group, encode}
 use Rattle.ttlv_put.specs.Write.{tagOf, numberItem, join, WroteNumber, WroteHead, Holds}
 use Rattle.ttlv.proofs.Sizes.{length-head}

@@ -14,7 +14,7 @@ use Rattle.octets.specs.If.{ifb}
 use Rattle.octets.specs.Octets.{be, fromBe, fromBeAfter}
 use Rattle.octets.proofs.If.{ifb-false, on-bool}
 use Rattle.octets.proofs.Numbers.{length-be}
-use Rattle.ttlv.specs.Types.{structure, integer, longInteger, bigInteger, enumeration, boolean, textString, byteString, dateTime, interval, dateTimeExtended, padded, lengthOk, valueOk, text}
+use Rattle.ttlv_types.specs.Types.{structure, integer, longInteger, bigInteger, enumeration, boolean, textString, byteString, dateTime, interval, dateTimeExtended, padded, lengthOk, valueOk, text}
 use Rattle.ttlv.specs.Items.{Items, nil, group, encode, tagOk, itemOk, wellFormed}
 use Rattle.ttlv.specs.Parse.{parse}
 use Rattle.ttlv.proofs.Back.{parse-back}

@@ -1,7 +1,7 @@
 -- `answer_write::write_always`. The four numbers, one behind another.
 -- Assumes nothing.
 use native.Mathlib.Omega.{arith}
-use Rattle.ttlv.specs.Types.{integer, enumeration}
+use Rattle.ttlv_types.specs.Types.{integer, enumeration}
 use Rattle.payload.specs.Tags.{cryptographicAlgorithm, cryptographicLength, cryptographicUsageMask, aes}
 use Rattle.answer.specs.Tags.{stateTag}
 use Rattle.ttlv_put.specs.Write.{join}

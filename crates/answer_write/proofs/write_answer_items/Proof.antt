@@ -1,7 +1,7 @@
 -- `answer_write::write_answer_items`. The operation, then the ID, then the outcome.
 -- Assumes nothing.
 use native.Mathlib.Omega.{arith}
-use Rattle.ttlv.specs.Types.{enumeration}
+use Rattle.ttlv_types.specs.Types.{enumeration}
 use Rattle.frame.specs.Tags.{operationTag}
 use lib.ListN.{take}
 use Rattle.ttlv_put.specs.Write.{join}

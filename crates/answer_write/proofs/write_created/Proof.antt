@@ -1,7 +1,7 @@
 -- `answer_write::write_created`. The Object Type, and the name behind it.
 -- Assumes nothing.
 use native.Mathlib.Omega.{arith}
-use Rattle.ttlv.specs.Types.{enumeration}
+use Rattle.ttlv_types.specs.Types.{enumeration}
 use Rattle.payload.specs.Tags.{objectType, symmetricKey}
 use Rattle.ttlv_put.specs.Write.{join}
 use Rattle.answer_write.proofs.Compose.{puts-word, puts-then}

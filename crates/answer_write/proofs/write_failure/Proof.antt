@@ -2,7 +2,7 @@
 -- Assumes nothing.
 use native.Mathlib.Omega.{arith}
 use mathlib.Core.Path.{_≡_}
-use Rattle.ttlv.specs.Types.{enumeration}
+use Rattle.ttlv_types.specs.Types.{enumeration}
 use Rattle.rules.specs.Numbers.{reasonNumber}
 use Rattle.answer.specs.Tags.{resultStatus, resultReason}
 use Rattle.ttlv_put.specs.Write.{join}

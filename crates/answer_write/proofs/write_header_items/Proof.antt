@@ -1,7 +1,7 @@
 -- `answer_write::write_header_items`. The version, then Time Stamp, then Batch Count.
 -- Assumes nothing.
 use native.Mathlib.Omega.{arith}
-use Rattle.ttlv.specs.Types.{integer, dateTime}
+use Rattle.ttlv_types.specs.Types.{integer, dateTime}
 use Rattle.frame.specs.Tags.{batchCount}
 use Rattle.answer.specs.Tags.{timeStamp}
 use Rattle.ttlv_put.specs.Write.{join}

@@ -1,7 +1,7 @@
 -- `answer_write::write_limit_body`. The three numbers, one behind another.
 -- Assumes nothing.
 use native.Mathlib.Omega.{arith}
-use Rattle.ttlv.specs.Types.{longInteger, enumeration}
+use Rattle.ttlv_types.specs.Types.{longInteger, enumeration}
 use Rattle.payload.specs.Tags.{usageLimitsTotal, usageLimitsCount, usageLimitsUnit}
 use Rattle.ttlv_put.specs.Write.{join}
 use Rattle.answer_write.proofs.Compose.{puts-long, then-long, then-word}

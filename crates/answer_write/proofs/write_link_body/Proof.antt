@@ -1,7 +1,7 @@
 -- `answer_write::write_link_body`. The type, and the name behind it.
 -- Assumes nothing.
 use native.Mathlib.Omega.{arith}
-use Rattle.ttlv.specs.Types.{enumeration}
+use Rattle.ttlv_types.specs.Types.{enumeration}
 use Rattle.answer.specs.Tags.{linkType}
 use Rattle.ttlv_put.specs.Write.{join}
 use Rattle.answer_write.proofs.Compose.{puts-word, puts-then}

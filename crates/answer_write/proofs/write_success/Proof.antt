@@ -2,7 +2,7 @@
 -- Assumes nothing.
 use native.Mathlib.Omega.{arith}
 use mathlib.Core.Path.{refl}
-use Rattle.ttlv.specs.Types.{enumeration}
+use Rattle.ttlv_types.specs.Types.{enumeration}
 use Rattle.answer.specs.Tags.{resultStatus}
 use Rattle.ttlv_put.proofs.Holds.{holds-then, holds-left}
 use Rattle.answer.specs.Respond.{success}

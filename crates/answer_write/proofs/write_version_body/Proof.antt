@@ -1,7 +1,7 @@
 -- `answer_write::write_version_body`. The two numbers, one behind the other.
 -- Assumes nothing.
 use native.Mathlib.Omega.{arith}
-use Rattle.ttlv.specs.Types.{integer}
+use Rattle.ttlv_types.specs.Types.{integer}
 use Rattle.frame.specs.Tags.{protocolVersionMajor, protocolVersionMinor}
 use Rattle.ttlv_put.specs.Write.{join}
 use Rattle.answer_write.proofs.Compose.{puts-word, then-word}

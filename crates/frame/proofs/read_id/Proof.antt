@@ -4,7 +4,7 @@ use mathlib.Core.Path.{sym, ap, _∙_}
 use lib.Dec.{leb}
 use borrow.Author.Tests.{le-leb, lt-leb}
 use Rattle.octets.proofs.If.{ifb-true, ifb-false}
-use Rattle.ttlv.specs.Types.{byteString}
+use Rattle.ttlv_types.specs.Types.{byteString}
 use Rattle.octets.proofs.Bools.{and-i, and-no, and-second}
 use Rattle.fields.proofs.Found.{bytes-starts}
 use Rattle.frame.specs.Tags.{uniqueBatchItemId}

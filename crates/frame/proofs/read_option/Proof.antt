@@ -2,7 +2,7 @@
 -- Assumes nothing.
 use mathlib.Core.Path.{sym, _∙_}
 use Rattle.octets.proofs.If.{ifb-true, ifb-false}
-use Rattle.ttlv.specs.Types.{enumeration}
+use Rattle.ttlv_types.specs.Types.{enumeration}
 use Rattle.fields.proofs.Found.{number-starts}
 use Rattle.frame.specs.Tags.{batchErrorContinuationOption}
 use Rattle.frame.specs.Readers.{optionAt}

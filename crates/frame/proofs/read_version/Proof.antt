@@ -3,7 +3,7 @@
 use mathlib.Core.Path.{sym, ap, _∙_}
 use Prim.Native.Nat.{_-_}
 use native.Mathlib.Omega.{arith}
-use Rattle.ttlv.specs.Types.{integer}
+use Rattle.ttlv_types.specs.Types.{integer}
 use Rattle.frame.specs.Tags.{protocolVersionMajor}
 use Rattle.fields.proofs.Found.{number-ends}
 use Rattle.frame.specs.Readers.{versionRead}

@@ -1,7 +1,7 @@
 -- `rewrite::rewrite_long`. Each type by its arm.
 -- Assumes nothing.
 use mathlib.Core.Path.{_≡_}
-use Rattle.ttlv.specs.Types.{dateTimeExtended}
+use Rattle.ttlv_types.specs.Types.{dateTimeExtended}
 use Rattle.rewrite.proofs.Values.{is-extended, bit-back}
 use borrow.Author.Needs.{needs}
 use Rattle.rewrite.proofs.rewrite_long.Statement.{statement}

@@ -1,7 +1,7 @@
 -- `rewrite::rewrite_word`. Each type by its arm.
 -- Assumes nothing.
 use mathlib.Core.Path.{_≡_}
-use Rattle.ttlv.specs.Types.{interval}
+use Rattle.ttlv_types.specs.Types.{interval}
 use Rattle.rewrite.proofs.Values.{is-interval}
 use borrow.Author.Needs.{needs}
 use Rattle.rewrite.proofs.rewrite_word.Statement.{statement}

@@ -6,7 +6,7 @@ use Prim.Native.Nat.{ℕ, _+_, _-_}
 use native.Mathlib.Omega.{arith}
 use borrow.Author.Tests.{not-true, not-false}
 use Rattle.octets.specs.Octets.{part, allZero}
-use Rattle.ttlv.specs.Types.{padded, lengthOk, valueOk}
+use Rattle.ttlv_types.specs.Types.{padded, lengthOk, valueOk}
 use Rattle.ttlv.specs.declared.First.the-variants.{Group}
 use Rattle.ttlv.proofs.View.{no-length, no-room, group-headed, no-value, no-zeros, value-headed}
 use Rattle.ttlv.proofs.Turns.{whole}

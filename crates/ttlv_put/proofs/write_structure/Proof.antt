@@ -6,7 +6,7 @@ use mathlib.Core.Path.{_≡_, sym, _∙_}
 use mathlib.Core.Bool.{true, false, _&&_}
 use lib.ListN.{length}
 use borrow.Author.Tests.{le-leb, lt-leb, lt-ltb, le-ltb, not-true, not-false}
-use Rattle.ttlv.specs.Types.{structure, lengthOk}
+use Rattle.ttlv_types.specs.Types.{structure, lengthOk}
 use Rattle.ttlv.specs.Items.{head}
 use Rattle.ttlv_put.specs.Write.{tagOf, spelled, fits}
 use Rattle.ttlv.proofs.Sizes.{length-head}

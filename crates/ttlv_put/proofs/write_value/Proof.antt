@@ -6,7 +6,7 @@ use mathlib.Core.Path.{_≡_, refl}
 use mathlib.Core.Bool.{true, false}
 use lib.ListN.{length}
 use borrow.Author.Tests.{le-leb, lt-leb, lt-ltb, le-ltb}
-use Rattle.ttlv.specs.Types.{padded}
+use Rattle.ttlv_types.specs.Types.{padded}
 use Rattle.ttlv.specs.Items.{encode}
 use Rattle.ttlv_put.specs.Write.{tagOf, item, spelled, valueFits}
 use Rattle.ttlv_put.proofs.Puts.{wrote-value, wrote-none}

@@ -2,7 +2,7 @@
 -- Assumes nothing.
 use mathlib.Core.Path.{sym, _∙_}
 use borrow.Author.Tests.{not-true, not-false}
-use Rattle.ttlv.specs.Types.{bigInteger}
+use Rattle.ttlv_types.specs.Types.{bigInteger}
 use Rattle.ttlv_put.proofs.Puts.{wrote-right, wrote-wrong}
 use borrow.Author.Needs.{needs}
 use Rattle.ttlv_write.proofs.write_big_integer.Statement.{statement}

@@ -1,4 +1,4 @@
--- `ttlv::at_most_one`. All but the last byte are zero, and the last is 0 or 1.
+-- `ttlv_types::at_most_one`. All but the last byte are zero, and the last is 0 or 1.
 -- Assumes nothing.
 use mathlib.Core.Path.{sym, _∙_}
 use Prim.Native.Nat.{_<_}
@@ -6,10 +6,10 @@ use native.Mathlib.Omega.{arith}
 use lib.ListN.{length}
 use lib.Seq.{length-take-le}
 use borrow.Author.Tests.{not-true, not-false}
-use Rattle.ttlv.proofs.Small.{small-none, small-no, small-last}
+use Rattle.ttlv_types.proofs.Small.{small-none, small-no, small-last}
 use borrow.Author.Needs.{needs}
-use Rattle.ttlv.proofs.at_most_one.Statement.{statement}
-use Rattle.ttlv.proofs.at_most_one.Tie as tie
+use Rattle.ttlv_types.proofs.at_most_one.Statement.{statement}
+use Rattle.ttlv_types.proofs.at_most_one.Tie as tie
 
 returns : tie.Need-returns
 returns c = sym (small-none (c .before .before .args .v .now) (c .if1 .taken))

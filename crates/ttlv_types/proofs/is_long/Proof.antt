@@ -1,14 +1,14 @@
--- `ttlv::is_long`. The first test that holds decides, and else the last.
+-- `ttlv_types::is_long`. The first test that holds decides, and else the last.
 -- Assumes nothing.
 use mathlib.Core.Path.{_≡_, refl, sym, _∙_}
 use mathlib.Core.Bool.{_||_}
 use mathlib.Core.Logic.{⊎-elim}
 use lib.Dec.{eqb}
 use borrow.Author.Tests.{eq-eqb, ne-eqb}
-use Rattle.ttlv.specs.Types.{longInteger, boolean, dateTime, dateTimeExtended}
+use Rattle.ttlv_types.specs.Types.{longInteger, boolean, dateTime, dateTimeExtended}
 use Rattle.octets.proofs.Bools.{or-first, or-second}
-use Rattle.ttlv.proofs.is_long.Statement.{statement}
-use Rattle.ttlv.proofs.is_long.Tie as tie
+use Rattle.ttlv_types.proofs.is_long.Statement.{statement}
+use Rattle.ttlv_types.proofs.is_long.Tie as tie
 
 returns : tie.Need-returns
 returns c =

@@ -4,14 +4,13 @@ use mathlib.Core.Path.{_≡_, sym, ap, _∙_}
 use Prim.Native.Nat.{ℕ, _+_, _-_, _*_, _<_}
 use native.Mathlib.Omega.{arith}
 use mathlib.Core.Bool.{true, false}
-use mathlib.Core.List.{List}
-use lib.ListN.{length, take, getD}
+use mathlib.Core.List.{List, []}
+use lib.ListN.{length, take, getD, drop-of-length-le}
 use lib.Seq.{take-all}
 use lib.Dec.{leb}
 use borrow.Author.Tests.{eqb-true, eqb-false, lt-leb}
 use Rattle.octets.specs.Octets.{fromBe, fromBeAfter, allZero}
 use Rattle.octets.proofs.Numbers.{fromBe-more, zero-spelled}
-use Rattle.ttlv.proofs.View.{empty}
 
 module _ (v : List ℕ) where
   -- the last byte on its own
@@ -22,7 +21,7 @@ module _ (v : List ℕ) where
 
   pub small-none : length v ≡ 0 → leb (fromBe v) 1 ≡ true
   unfolding fromBe fromBeAfter
-  small-none h = rw (empty v h)
+  small-none h = let none : v ≡ [] = drop-of-length-le v {i = 0} (omega arith) in rw none
 
   pub small-no : 0 < length v → allZero (take (length v - 1) v) ≡ false → leb (fromBe v) 1 ≡ false
   small-no h z =

@@ -1,4 +1,4 @@
--- `ttlv::text_ok`. What is left decides. Of all code and proofs only this knows that text goes byte by byte.
+-- `ttlv_types::text_ok`. What is left decides. Of all code and proofs only this knows that text goes byte by byte.
 -- Assumes nothing.
 use mathlib.Core.Path.{_≡_, sym, _∙_}
 use Prim.Native.Nat.{ℕ, _-_, _≤_, _<_}
@@ -8,12 +8,12 @@ use lib.ListN.{length, drop}
 use lib.Dec.{leb}
 use borrow.Author.Tests.{lt-leb, le-leb}
 use Rattle.octets.specs.Octets.{all}
-use Rattle.ttlv.specs.Types.{isTextByte, text}
+use Rattle.ttlv_types.specs.Types.{isTextByte, text}
 use Rattle.octets.proofs.Bools.{and-i, and-second, and-no}
 use Rattle.octets.proofs.All.{all-go, all-stop, all-end}
 use borrow.Author.Needs.{needs}
-use Rattle.ttlv.proofs.text_ok.Statement.{statement}
-use Rattle.ttlv.proofs.text_ok.Tie as tie
+use Rattle.ttlv_types.proofs.text_ok.Statement.{statement}
+use Rattle.ttlv_types.proofs.text_ok.Tie as tie
 
 below-text : (x : ℕ) → x < 0x20 → isTextByte x ≡ false
 below-text x h = and-no (leb 0x20 x) (leb x 0x7E) (lt-leb 0x20 x h)

@@ -1,4 +1,4 @@
--- `ttlv::length_ok`. Each test of the code is one of the definition's, in the same order.
+-- `ttlv_types::length_ok`. Each test of the code is one of the definition's, in the same order.
 -- Assumes nothing.
 use mathlib.Core.Path.{_≡_, refl, sym, _∙_}
 use mathlib.Core.Bool.{true, false, _&&_, _||_}
@@ -6,11 +6,11 @@ use Prim.Native.Nat.{ℕ, _%_}
 use lib.Dec.{eqb, leb}
 use borrow.Author.Tests.{eq-eqb, ne-eqb, le-leb, lt-leb}
 use Rattle.octets.proofs.If.{ifb-true, ifb-false}
-use Rattle.ttlv.specs.Types.{structure, bigInteger, textString, byteString, isWord, isLong, lengthOk}
+use Rattle.ttlv_types.specs.Types.{structure, bigInteger, textString, byteString, isWord, isLong, lengthOk}
 use Rattle.octets.proofs.Bools.{and-second, and-no, or-first, or-second}
 use borrow.Author.Needs.{needs}
-use Rattle.ttlv.proofs.length_ok.Statement.{statement}
-use Rattle.ttlv.proofs.length_ok.Tie as tie
+use Rattle.ttlv_types.proofs.length_ok.Statement.{statement}
+use Rattle.ttlv_types.proofs.length_ok.Tie as tie
 
 -- the definition, test by test
 module _ (kind n : ℕ) where

@@ -1,12 +1,12 @@
--- `ttlv::value_ok`. Each test of the code is one of the definition's, in the same order.
+-- `ttlv_types::value_ok`. Each test of the code is one of the definition's, in the same order.
 -- Assumes nothing.
 use mathlib.Core.Path.{sym, _∙_}
 use borrow.Author.Tests.{eq-eqb, ne-eqb}
 use Rattle.octets.proofs.If.{ifb-true, ifb-false}
-use Rattle.ttlv.specs.Types.{boolean, textString, valueOk}
+use Rattle.ttlv_types.specs.Types.{boolean, textString, valueOk}
 use borrow.Author.Needs.{needs}
-use Rattle.ttlv.proofs.value_ok.Statement.{statement}
-use Rattle.ttlv.proofs.value_ok.Tie as tie
+use Rattle.ttlv_types.proofs.value_ok.Statement.{statement}
+use Rattle.ttlv_types.proofs.value_ok.Tie as tie
 
 at-most-one-requires : tie.Need-at-most-one-requires
 at-most-one-requires c κs = search needs

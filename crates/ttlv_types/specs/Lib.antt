@@ -1,0 +1,3 @@
+-- The types of TTLV.
+-- Assumes nothing.
+pub mod Types
