@@ -8,11 +8,11 @@ use lib.ListN.{length}
 use Rattle.octets.specs.Octets.{Bytes, part}
 use Rattle.octets.proofs.If.{on-if}
 use Rattle.table.specs.declared.Record.{Record}
-use Rattle.table.specs.declared.Found.{Found}
-use Rattle.table.specs.declared.Found.the-variants.{At, Nothing}
+use Rattle.search.specs.declared.Found.{Found}
+use Rattle.search.specs.declared.Found.the-variants.{At, Nothing}
 use Rattle.table.specs.Layout.{bodyOf, bodySize, materialSize}
 use Rattle.table.specs.Records.{recordOf, placeAt, withPlace}
-use Rattle.table.specs.Search.{find, newPlace}
+use Rattle.search.specs.Search.{find, newPlace}
 use Rattle.table.proofs.Lines.{bytes-part}
 use Rattle.table.proofs.Places.{length-with, bytes-with}
 use Rattle.table.proofs.Lead.{length-last, bytes-last}

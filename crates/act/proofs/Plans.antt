@@ -9,11 +9,11 @@ use lib.Dec.{eqb}
 use borrow.Author.Tests.{eq-eqb, ne-eqb, eqb-false}
 use Rattle.octets.proofs.If.{on-bool, ifb-true, ifb-false}
 use Rattle.table.specs.declared.Record.{Record}
-use Rattle.table.specs.declared.Found.{Found}
-use Rattle.table.specs.declared.Found.the-variants.{At, Nothing}
+use Rattle.search.specs.declared.Found.{Found}
+use Rattle.search.specs.declared.Found.the-variants.{At, Nothing}
 use Rattle.table.specs.Records.{placeAt, withPlace, lastSerial}
-use Rattle.table.specs.Search.{isNothing, find, isDestroyed, newPlace}
-use Rattle.table.proofs.First.{At-not, isNothing-at, isNothing-none}
+use Rattle.search.specs.Search.{isNothing, find, isDestroyed, newPlace}
+use Rattle.search.proofs.First.{At-not, isNothing-at, isNothing-none}
 use Rattle.rules.specs.declared.Reason.{Reason}
 use Rattle.rules.specs.declared.Reason.the-variants.{ObjectNotFound, ObjectDestroyed, PermissionDenied, ServerLimitExceeded}
 use Rattle.rules.specs.declared.Attributes.{Attributes}

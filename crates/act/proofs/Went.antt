@@ -9,10 +9,10 @@ use borrow.Author.Tests.{eqb-true, not-false}
 use Rattle.octets.specs.If.{ifb}
 use Rattle.octets.proofs.If.{on-if}
 use Rattle.table.specs.declared.Record.{Record}
-use Rattle.table.specs.declared.Found.{Found}
-use Rattle.table.specs.declared.Found.the-variants.{At, Nothing}
+use Rattle.search.specs.declared.Found.{Found}
+use Rattle.search.specs.declared.Found.the-variants.{At, Nothing}
 use Rattle.table.specs.Records.{placeAt}
-use Rattle.table.specs.Search.{find, isDestroyed}
+use Rattle.search.specs.Search.{find, isDestroyed}
 use Rattle.rules.specs.declared.Reason.{Reason}
 use Rattle.rules.specs.declared.Reason.the-variants.{OperationNotSupported, InvalidField, ObjectNotFound, ObjectDestroyed, PermissionDenied, ServerLimitExceeded}
 use Rattle.rules.specs.declared.Attributes.{Attributes}

@@ -5,10 +5,10 @@ use mathlib.Core.List.{List, []}
 use lib.Dec.{eqb}
 use Rattle.octets.specs.If.{ifb}
 use Rattle.table.specs.declared.Record.{Record}
-use Rattle.table.specs.declared.Found.{Found}
-use Rattle.table.specs.declared.Found.the-variants.{At, Nothing}
+use Rattle.search.specs.declared.Found.{Found}
+use Rattle.search.specs.declared.Found.the-variants.{At, Nothing}
 use Rattle.table.specs.Records.{placeAt, withPlace, lastSerial}
-use Rattle.table.specs.Search.{newPlace}
+use Rattle.search.specs.Search.{newPlace}
 use Rattle.rules.specs.declared.Reason.{Reason}
 use Rattle.rules.specs.declared.Reason.the-variants.{ServerLimitExceeded}
 use Rattle.rules.specs.Tests.{due}

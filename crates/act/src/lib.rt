@@ -6,7 +6,7 @@ ghost use Prim.Native.Nat.{_<_};
 ghost use lib.ListN.{length};
 ghost use Rattle.table.specs.Layout.{sizeOf};
 ghost use Rattle.table.specs.Records.{placeAt};
-ghost use Rattle.table.specs.declared.Found.the-variants.{At};
+ghost use Rattle.search.specs.declared.Found.the-variants.{At};
 ghost use Rattle.changes.specs.Changes.{bornAt};
 ghost use Rattle.act.specs.Act.{sought, createPlan, rekeyPlan, allocationPlan, isFailed};
 ghost use Rattle.act.specs.Perform.{inPlaces, leaves, failed, showing, storing, roomFor, linkedAt, replacing, carriedOut, movePlan, deedPlan, aboutPlan, performing};
@@ -16,7 +16,7 @@ use rules::Attributes;
 use rules::Granted;
 use rules::Next;
 use rules::Reason;
-use table::Found;
+use search::Found;
 use table::Record;
 
 // What Get Attributes shows of a record. Unit 0 is no usage limit; a link serial 0 is no link.
@@ -101,7 +101,7 @@ fn room(t: &[u8], n: usize) -> Found
     if table::last_serial(t) == SERIAL_MOST {
         return Found::Nothing;
     }
-    table::new_place(t, n)
+    search::new_place(t, n)
 }
 
 // Stores a new record at place i; its serial is the last issued from then on.
@@ -169,7 +169,7 @@ fn rekey_at(t: &mut [u8], n: usize, i: usize, fresh: &[u8]) -> Performed
     ensures { λ r. ⌜ leaves r (now (t .exit)) ≡ carriedOut (now (t .entry)) (rekeyPlan (inPlaces n (now (fresh .entry))) 0 (now (t .entry)) i (placeAt n (now (t .entry)) i)) ⌝ }
 {
     let old = records::load(t, n, i);
-    if table::is_destroyed(old.state) {
+    if search::is_destroyed(old.state) {
         return fail(Reason::ObjectDestroyed);
     }
     if old.replacement != 0 {
@@ -271,7 +271,7 @@ fn act_on(
     ensures { λ r. ⌜ leaves r (now (t .exit)) ≡ carriedOut (now (t .entry)) (aboutPlan (inPlaces n (now (fresh .entry))) holder (now (t .entry)) deed target) ⌝ }
 {
     let serial = sought(holder, target);
-    match table::find(t, n, serial) {
+    match search::find(t, n, serial) {
         Found::At(i) => act_at(t, n, i, holder, deed, fresh),
         Found::Nothing => fail(Reason::ObjectNotFound),
     }

@@ -11,7 +11,7 @@ use Rattle.ttlv.specs.Parse.{headed, firstOf, putValue, putGroup, more, walk, p
 use Rattle.ttlv_types.specs.Types.{lengthOk, text, valueOk}
 use Rattle.identifier.specs.Identifier.{digits, identifier, fromDigitsAfter, serialOf}
 use Rattle.table.specs.Records.{line, body, recordOf, placeAt, withPlace, serialAt, stateAt, lastSerial, withLast, placesSaid, blank}
-use Rattle.table.specs.Search.{firstFrom, isNothing, orElse, find, freePlace, destroyedPlace, newPlace}
+use Rattle.search.specs.Search.{firstFrom, isNothing, orElse, find, freePlace, destroyedPlace, newPlace}
 use Rattle.record_rules.specs.Rules.{stateRight, bitsRight, maskRight, limitRight, tailRight, wipedRight, replacedRight, replacementRight}
 use Rattle.soundness.specs.Sound.{sizeRight, countRight, leadRight, freeRight, zerosRight, distinctRight, issuedRight, ifStands, linksRight, breaksFree, breaksStanding, orLater, standingFault, placeFault, wholeFault, firstFault, sound}
 use Rattle.changes.specs.Changes.{isFull, bornAt, withBorn, withHeir}

@@ -5,10 +5,10 @@ use mathlib.Core.Bool.{Bool, _||_}
 use mathlib.Core.List.{List}
 use lib.Dec.{eqb}
 use Rattle.table.specs.declared.Record.{Record}
-use Rattle.table.specs.declared.Found.{Found}
-use Rattle.table.specs.declared.Found.the-variants.{At, Nothing}
+use Rattle.search.specs.declared.Found.{Found}
+use Rattle.search.specs.declared.Found.the-variants.{At, Nothing}
 use Rattle.table.specs.Records.{placeAt, withPlace, lastSerial, withLast}
-use Rattle.table.specs.Search.{isNothing, newPlace}
+use Rattle.search.specs.Search.{isNothing, newPlace}
 use Rattle.changes.specs.Records.{linkedTo}
 
 -- "the last serial is 4,294,967,295"

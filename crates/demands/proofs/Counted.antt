@@ -13,11 +13,11 @@ use Rattle.octets.specs.If.{ifb}
 use Rattle.octets.specs.Octets.{Bytes}
 use Rattle.octets.proofs.If.{ifb-true, ifb-false}
 use Rattle.table.specs.declared.Record.{Record}
-use Rattle.table.specs.declared.Found.the-variants.{At}
+use Rattle.search.specs.declared.Found.the-variants.{At}
 use Rattle.table.specs.Records.{placeAt, lastSerial}
-use Rattle.table.specs.Search.{find, isDestroyed}
+use Rattle.search.specs.Search.{find, isDestroyed}
 use Rattle.table.proofs.Places.{serial-is}
-use Rattle.table.proofs.Finds.{find-below, find-serial, find-nonzero}
+use Rattle.search.proofs.Finds.{find-below, find-serial, find-nonzero}
 use Rattle.rules.specs.declared.Reason.{Reason}
 use Rattle.rules.specs.declared.Attributes.{Attributes}
 use Rattle.changes.specs.Records.{newRecord, heirOf, linkedTo, inState, movedTo, withCount}

@@ -10,11 +10,11 @@ use mathlib.Core.List.{List, _∷_}
 use borrow.Author.Tests.{eq-eqb, ne-eqb}
 use Rattle.octets.proofs.If.{ifb-true, ifb-false}
 use Rattle.table.specs.declared.Record.{Record}
-use Rattle.table.specs.declared.Found.the-variants.{At}
+use Rattle.search.specs.declared.Found.the-variants.{At}
 use Rattle.table.specs.Records.{placeAt, lastSerial}
-use Rattle.table.specs.Search.{find}
+use Rattle.search.specs.Search.{find}
 use Rattle.table.proofs.Places.{serial-is}
-use Rattle.table.proofs.Finds.{find-below, find-serial, find-nonzero}
+use Rattle.search.proofs.Finds.{find-below, find-serial, find-nonzero}
 use Rattle.keeps.proofs.Keeps.{Held, facts}
 use Rattle.payload.specs.declared.Command.{Command}
 use Rattle.payload.specs.declared.Command.the-variants.{Unsupported, Invalid, Create, Rekey, GetUsageAllocation, Activate, Revoke, Destroy, GetAttributes}

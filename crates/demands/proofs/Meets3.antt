@@ -13,7 +13,7 @@ use borrow.Author.Tests.{eqb-true}
 use Rattle.octets.specs.Maybe.{_>>=_}
 use Rattle.table.specs.Layout.{placeCount, materialSize}
 use Rattle.table.specs.Records.{placeAt, serialAt, lastSerial}
-use Rattle.table.specs.Search.{isDestroyed}
+use Rattle.search.specs.Search.{isDestroyed}
 use Rattle.table.proofs.Places.{serial-is, place-range}
 use Rattle.table.proofs.Blank.{zero-place}
 use Rattle.octets.proofs.Zeros.{pass-zeros}

@@ -12,13 +12,13 @@ use lib.ListN.{length}
 use borrow.Author.Tests.{eq-eqb}
 use Rattle.octets.specs.Octets.{Bytes}
 use Rattle.table.specs.declared.Record.{Record}
-use Rattle.table.specs.declared.Found.{Found}
-use Rattle.table.specs.declared.Found.the-variants.{At}
+use Rattle.search.specs.declared.Found.{Found}
+use Rattle.search.specs.declared.Found.the-variants.{At}
 use Rattle.table.specs.Layout.{placeCount, materialSize}
 use Rattle.table.specs.Records.{placeAt, serialAt, lastSerial}
-use Rattle.table.specs.Search.{find, newPlace}
+use Rattle.search.specs.Search.{find, newPlace}
 use Rattle.table.proofs.Places.{serial-is}
-use Rattle.table.proofs.Finds.{find-below}
+use Rattle.search.proofs.Finds.{find-below}
 use Rattle.rules.specs.declared.Reason.{Reason}
 use Rattle.rules.specs.Tests.{due}
 use Rattle.changes.specs.Records.{newRecord, heirOf, linkedTo, inState, movedTo, withCount}

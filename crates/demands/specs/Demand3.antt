@@ -7,11 +7,11 @@ use mathlib.Core.Option.{some}
 use mathlib.Core.List.{List, [], _∷_}
 use lib.ListN.{replicate}
 use lib.Dec.{eqb}
-use Rattle.table.specs.declared.Found.{Found}
-use Rattle.table.specs.declared.Found.the-variants.{At, Nothing}
+use Rattle.search.specs.declared.Found.{Found}
+use Rattle.search.specs.declared.Found.the-variants.{At, Nothing}
 use Rattle.table.specs.Layout.{placeCount, materialSize}
 use Rattle.table.specs.Records.{placeAt, serialAt, blank}
-use Rattle.table.specs.Search.{find, newPlace, isDestroyed}
+use Rattle.search.specs.Search.{find, newPlace, isDestroyed}
 use Rattle.soundness.specs.Sound.{sound}
 use Rattle.rules.specs.Numbers.{activate, revoke, destroy}
 use Rattle.rules.specs.States.{isCompromise}

@@ -12,13 +12,13 @@ use borrow.Author.Tests.{le-leb, lt-ltb, eq-eqb, ne-eqb}
 use Rattle.octets.specs.If.{ifb}
 use Rattle.octets.specs.Octets.{Bytes}
 use Rattle.table.specs.declared.Record.{Record}
-use Rattle.table.specs.declared.Found.the-variants.{At}
+use Rattle.search.specs.declared.Found.the-variants.{At}
 use Rattle.table.specs.Layout.{materialSize}
 use Rattle.table.specs.Records.{placeAt, lastSerial}
-use Rattle.table.specs.Search.{find}
+use Rattle.search.specs.Search.{find}
 use Rattle.table.proofs.Lines.{InRange}
 use Rattle.table.proofs.Places.{serial-is}
-use Rattle.table.proofs.Finds.{find-below}
+use Rattle.search.proofs.Finds.{find-below}
 use Rattle.values.specs.Values.{bitsOk, maskOk, unitOk, totalOk}
 use Rattle.octets.proofs.Bools.{and-i}
 use Rattle.record_rules.proofs.Fit.{Unlimited, Limited, Fit}

@@ -13,15 +13,15 @@ use Rattle.octets.proofs.Bools.{or-not-l, or-not-r}
 use Rattle.octets.proofs.Numbers.{fromBe-lt}
 use Rattle.octets.proofs.Stores.{length-part}
 use Rattle.table.specs.declared.Record.{Record}
-use Rattle.table.specs.declared.Found.the-variants.{At}
+use Rattle.search.specs.declared.Found.the-variants.{At}
 use Rattle.table.specs.Layout.{materialSize}
 use Rattle.table.specs.Records.{placeAt, withPlace, serialAt, stateAt, lastSerial, blank}
-use Rattle.table.specs.Search.{isNothing, find, isDestroyed, newPlace}
+use Rattle.search.specs.Search.{isNothing, find, isDestroyed, newPlace}
 use Rattle.table.proofs.Lines.{InRange, bytes-part}
 use Rattle.table.proofs.Places.{serial-is, state-is, place-range, bytes-with}
 use Rattle.table.proofs.Lead.{bytes-last}
-use Rattle.table.proofs.First.{on-found, isNothing-none}
-use Rattle.table.proofs.Finds.{find-nonzero, find-serial, new-below, new-at}
+use Rattle.search.proofs.First.{on-found, isNothing-none}
+use Rattle.search.proofs.Finds.{find-nonzero, find-serial, new-below, new-at}
 use Rattle.table.proofs.Blank.{bytes-blank}
 use Rattle.soundness.specs.Sound.{sound}
 use Rattle.record_rules.proofs.Fit.{Fit}

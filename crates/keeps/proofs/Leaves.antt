@@ -8,13 +8,13 @@ use mathlib.Core.List.{List}
 use lib.ListN.{length}
 use Rattle.octets.specs.Octets.{Bytes}
 use Rattle.table.specs.declared.Record.{Record}
-use Rattle.table.specs.declared.Found.the-variants.{At}
+use Rattle.search.specs.declared.Found.the-variants.{At}
 use Rattle.table.specs.Layout.{sizeOf}
 use Rattle.table.specs.Records.{placeAt, withPlace, lastSerial}
-use Rattle.table.specs.Search.{isDestroyed, newPlace}
+use Rattle.search.specs.Search.{isDestroyed, newPlace}
 use Rattle.table.proofs.Lines.{InRange}
 use Rattle.table.proofs.Places.{length-with}
-use Rattle.table.proofs.Finds.{new-below}
+use Rattle.search.proofs.Finds.{new-below}
 use Rattle.soundness.proofs.SoundIs.{Stands}
 use Rattle.rules.specs.declared.Attributes.{Attributes}
 use Rattle.rules.specs.declared.Next.the-variants.{To}

@@ -12,7 +12,7 @@ use Rattle.octets.specs.Octets.{Bytes, allZero}
 use Rattle.octets.proofs.If.{on-if}
 use Rattle.table.specs.declared.Record.{Record}
 use Rattle.table.specs.Layout.{materialSize}
-use Rattle.table.specs.Search.{isDestroyed}
+use Rattle.search.specs.Search.{isDestroyed}
 use Rattle.octets.proofs.Zeros.{zeros-pass, bytes-zeros, drop-zeros}
 use Rattle.table.proofs.Lines.{InRange}
 use Rattle.record_rules.proofs.Fit.{Fit}

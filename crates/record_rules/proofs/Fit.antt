@@ -12,7 +12,7 @@ use Rattle.octets.proofs.If.{ifb-true, ifb-false, on-bool}
 use Rattle.octets.proofs.Bools.{and-l, and-r, and-i, or-cases, or-l, or-r, facts, tests}
 use Rattle.values.specs.Values.{bitsOk, unitOk, totalOk}
 use Rattle.table.specs.declared.Record.{Record}
-use Rattle.table.specs.Search.{isDestroyed}
+use Rattle.search.specs.Search.{isDestroyed}
 use Rattle.record_rules.specs.Rules.{stateRight, bitsRight, maskRight, limitRight, tailRight, wipedRight, replacedRight, replacementRight}
 
 -- ---- the facts

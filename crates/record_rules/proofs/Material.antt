@@ -9,7 +9,7 @@ use Rattle.octets.proofs.If.{ifb-true, ifb-false, on-bool}
 use Rattle.octets.proofs.All.{all-drop}
 use Rattle.octets.proofs.Bools.{and-true, and-implied}
 use Rattle.table.specs.declared.Record.{Record}
-use Rattle.table.specs.Search.{isDestroyed}
+use Rattle.search.specs.Search.{isDestroyed}
 use Rattle.record_rules.specs.Rules.{tailRight, wipedRight}
 use Rattle.record_rules.specs.Checked.{materialRight, zerosFrom}
 

@@ -5,7 +5,7 @@ use mathlib.Core.Bool.{Bool, _&&_}
 use lib.Dec.{leb}
 use Rattle.octets.specs.If.{ifb}
 use Rattle.table.specs.declared.Record.{Record}
-use Rattle.table.specs.Search.{isDestroyed}
+use Rattle.search.specs.Search.{isDestroyed}
 use Rattle.record_rules.specs.Rules.{stateRight, bitsRight, maskRight, limitRight, tailRight, wipedRight, replacedRight, replacementRight}
 
 -- rules 8 to 11: the numbers of a record

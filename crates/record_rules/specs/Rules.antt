@@ -8,7 +8,7 @@ use Rattle.octets.specs.If.{ifb}
 use Rattle.octets.specs.Octets.{allZero}
 use Rattle.values.specs.Values.{bitsOk, maskOk, unitOk, totalOk}
 use Rattle.table.specs.declared.Record.{Record}
-use Rattle.table.specs.Search.{isDestroyed}
+use Rattle.search.specs.Search.{isDestroyed}
 
 -- rule 8: "state 1 to 6"
 unfoldable pub stateRight : Record → Bool

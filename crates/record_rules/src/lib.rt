@@ -42,7 +42,7 @@ pub fn names_right(p: Record, last: u32) -> bool
 pub fn zeros_from(p: Record) -> usize
     ensures { λ r. ⌜ r ≡ min (zerosFrom p) materialSize ⌝ }
 {
-    if table::is_destroyed(p.state) {
+    if search::is_destroyed(p.state) {
         return 0;
     }
     octets::fewer((p.bits / 8) as usize, Layout::MATERIAL)

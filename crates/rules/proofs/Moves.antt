@@ -9,7 +9,7 @@ use mathlib.Core.Logic.{_⊎_, inl, inr}
 use lib.Dec.{eqb}
 use borrow.Author.Tests.{eqb-true, eqb-false}
 use Rattle.octets.proofs.If.{on-bool}
-use Rattle.table.specs.Search.{isDestroyed}
+use Rattle.search.specs.Search.{isDestroyed}
 use Rattle.rules.specs.declared.Reason.{Reason}
 use Rattle.rules.specs.declared.Next.{Next}
 use Rattle.rules.specs.declared.Next.the-variants.{To, Fails}

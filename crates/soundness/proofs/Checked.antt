@@ -14,13 +14,13 @@ use borrow.Author.Tests.{eq-eqb, ne-eqb, eqb-true}
 use Rattle.octets.specs.Octets.{part, allZero}
 use Rattle.octets.proofs.If.{ifb-true, ifb-false}
 use Rattle.table.specs.declared.Record.{Record}
-use Rattle.table.specs.declared.Found.{Found}
-use Rattle.table.specs.declared.Found.the-variants.{At, Nothing}
+use Rattle.search.specs.declared.Found.{Found}
+use Rattle.search.specs.declared.Found.the-variants.{At, Nothing}
 use Rattle.table.specs.Layout.{lineOf, lineSize, sizeOf}
 use Rattle.table.specs.Records.{placeAt, serialAt, lastSerial, placesSaid}
-use Rattle.table.specs.Search.{find}
+use Rattle.search.specs.Search.{find}
 use Rattle.table.proofs.Places.{serial-is}
-use Rattle.table.proofs.Finds.{find-is}
+use Rattle.search.proofs.Finds.{find-is}
 use Rattle.record_rules.specs.Checked.{valuesRight, namesRight, materialRight}
 use Rattle.record_rules.proofs.Fit.{Right, fit-is, fit-of}
 use Rattle.soundness.specs.Sound.{sizeRight, countRight, leadRight, freeRight, zerosRight, ifStands, namesReplacement, namesReplaced, linksRight, sound}

@@ -10,11 +10,11 @@ use mathlib.Core.List.{List, [], _∷_, map}
 use lib.ListN.{length, getD}
 use Rattle.octets.proofs.If.{ifb-true, on-if}
 use Rattle.octets.proofs.Bools.{not-both}
-use Rattle.table.specs.declared.Found.{Found}
-use Rattle.table.specs.declared.Found.the-variants.{At, Nothing}
-use Rattle.table.specs.Search.{first}
+use Rattle.search.specs.declared.Found.{Found}
+use Rattle.search.specs.declared.Found.the-variants.{At, Nothing}
+use Rattle.search.specs.Search.{first}
 use Rattle.soundness.specs.Sound.{Fault, whole, atPlace, wholeRules, standingRules, breaksFree, breaksStanding, orLater, standingFault, placeFault, wholeFault, firstFault}
-use Rattle.table.proofs.First.{found-below, found-test, found-lowest, none-fails, fails-none}
+use Rattle.search.proofs.First.{found-below, found-test, found-lowest, none-fails, fails-none}
 
 -- ---- the place rules as one list of tests, each of which passes where its rule is broken
 

@@ -13,14 +13,14 @@ use borrow.Author.Tests.{eq-eqb, ne-eqb, le-leb, eqb-true, eqb-false, leb-true, 
 use Rattle.octets.specs.Maybe.{isSome}
 use Rattle.octets.specs.Octets.{part, allZero}
 use Rattle.table.specs.declared.Record.{Record}
-use Rattle.table.specs.declared.Found.{Found}
-use Rattle.table.specs.declared.Found.the-variants.{At, Nothing}
+use Rattle.search.specs.declared.Found.{Found}
+use Rattle.search.specs.declared.Found.the-variants.{At, Nothing}
 use Rattle.table.specs.Layout.{lineSize, bodySize, lineOf, bodyOf, sizeOf}
 use Rattle.table.specs.Records.{placeAt, serialAt, isFree, zerosIn, lastSerial, placesSaid, leadZeros}
-use Rattle.table.specs.Search.{isNothing, find}
-use Rattle.table.proofs.First.{isNothing-is, none-fails, fails-none}
+use Rattle.search.specs.Search.{isNothing, find}
+use Rattle.search.proofs.First.{isNothing-is, none-fails, fails-none}
 use Rattle.table.proofs.Places.{serial-is}
-use Rattle.table.proofs.Finds.{find-nonzero, find-below, find-serial, find-only}
+use Rattle.search.proofs.Finds.{find-nonzero, find-below, find-serial, find-only}
 use Rattle.record_rules.specs.Rules.{stateRight, bitsRight, maskRight, limitRight, tailRight, wipedRight, replacedRight, replacementRight}
 use Rattle.record_rules.proofs.Fit.{Fit, Right, fit-is, fit-of}
 use Rattle.soundness.specs.Sound.{Fault, standingRules, sizeRight, countRight, leadRight, freeRight, zerosRight, isTwin, distinctRight, issuedRight, ifStands, namesReplaced, namesReplacement, linksRight, breaksFree, breaksStanding, firstFault, sound}

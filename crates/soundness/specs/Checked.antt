@@ -6,10 +6,10 @@ use mathlib.Core.List.{List}
 use lib.Dec.{eqb}
 use Rattle.octets.specs.If.{ifb}
 use Rattle.table.specs.declared.Record.{Record}
-use Rattle.table.specs.declared.Found.{Found}
-use Rattle.table.specs.declared.Found.the-variants.{At, Nothing}
+use Rattle.search.specs.declared.Found.{Found}
+use Rattle.search.specs.declared.Found.the-variants.{At, Nothing}
 use Rattle.table.specs.Records.{placeAt, serialAt, isFree, lastSerial}
-use Rattle.table.specs.Search.{find}
+use Rattle.search.specs.Search.{find}
 use Rattle.record_rules.specs.Checked.{valuesRight, materialRight, namesRight}
 use Rattle.soundness.specs.Sound.{sizeRight, countRight, leadRight, freeRight, zerosRight, linksRight}
 

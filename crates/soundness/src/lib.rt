@@ -6,11 +6,11 @@ ghost use lib.ListN.{length};
 ghost use lib.Dec.{eqb};
 ghost use Rattle.table.specs.Layout.{sizeOf};
 ghost use Rattle.table.specs.Records.{placeAt, serialAt, lastSerial};
-ghost use Rattle.table.specs.Search.{find};
+ghost use Rattle.search.specs.Search.{find};
 ghost use Rattle.record_rules.specs.Checked.{materialRight};
 ghost use Rattle.soundness.specs.Sound.{freeRight, zerosRight, ifStands, namesReplacement, namesReplaced, sound};
 ghost use Rattle.soundness.specs.Checked.{wholeRight, isAt, TopBelow, standingRight, placeRight};
-use table::Found;
+use search::Found;
 use table::Layout;
 use table::Record;
 
@@ -84,7 +84,7 @@ fn own_place(t: &[u8], n: usize, i: usize, top: u32, serial: u32) -> bool
     if top < serial {
         return true;
     }
-    match table::find(t, n, serial) {
+    match search::find(t, n, serial) {
         Found::At(j) => j == i,
         Found::Nothing => false,
     }
@@ -95,7 +95,7 @@ fn back_right(t: &[u8], n: usize, serial: u32, replaced: u32) -> bool
     requires { ⌜ length (now t) ≡ sizeOf n ⌝ }
     ensures { λ r. ⌜ r ≡ ifStands (namesReplacement n (now (t .entry)) serial) (find n (now (t .entry)) replaced) ⌝ }
 {
-    match table::find(t, n, replaced) {
+    match search::find(t, n, replaced) {
         Found::At(j) => { records::replacement(t, n, j) == serial }
         Found::Nothing => true,
     }
@@ -106,7 +106,7 @@ fn forth_right(t: &[u8], n: usize, serial: u32, replacement: u32) -> bool
     requires { ⌜ length (now t) ≡ sizeOf n ⌝ }
     ensures { λ r. ⌜ r ≡ ifStands (namesReplaced n (now (t .entry)) serial) (find n (now (t .entry)) replacement) ⌝ }
 {
-    match table::find(t, n, replacement) {
+    match search::find(t, n, replacement) {
         Found::At(j) => { records::replaced(t, n, j) == serial }
         Found::Nothing => true,
     }

@@ -3,7 +3,6 @@
 use mathlib.Core.Path.{_≡_, refl, sym, ap, ap₂, _∙_}
 use Prim.Native.Nat.{ℕ, _+_, _-_, _^_, _≤_, _<_}
 use native.Mathlib.Omega.{arith}
-use native.Mathlib.Decide.{ℕ-discrete}
 use mathlib.Core.Bool.{true}
 use mathlib.Core.List.{List}
 use lib.ListN.{length, take, drop, replicate, length-append, length-replicate}
@@ -11,14 +10,11 @@ use lib.Seq.{drop-drop}
 use Rattle.octets.specs.Octets.{be, part, allZero, Bytes}
 use Rattle.octets.proofs.Numbers.{length-be, be-zero, fromBe-be, be-bytes, bytes-append}
 use Rattle.table.specs.declared.Record.{Record}
-use Rattle.table.specs.declared.Found.the-variants.{Nothing}
 use Rattle.table.specs.Layout.{lineSize, bodySize, materialSize, lineOf, bodyOf, sizeOf}
 use Rattle.table.specs.Records.{line, body, lineBytes, bodyBytes, recordOf, placeAt, serialAt, zerosIn, lastSerial, placesSaid, leadZeros, blank}
-use Rattle.table.specs.Search.{find}
 use Rattle.octets.proofs.Zeros.{zeros-pass, pass-zeros, part-zeros, bytes-zeros}
 use Rattle.table.proofs.Lines.{InRange, recordOf-bytes}
 use Rattle.table.proofs.Places.{length-line-at, length-body-at, line-is, body-is, serial-is}
-use Rattle.table.proofs.Finds.{find-zero, none-find}
 
 -- ---- the record of zeros
 
@@ -132,10 +128,3 @@ module _ (n i : ℕ) (lo : i < n) where
 
   pub serial-blank : serialAt (blank n) i ≡ 0
   serial-blank = serial-is n (blank n) i ∙ ap (λ (r : Record). r .serial) place-blank
-
--- no record is found in it
-pub find-blank : (n s : ℕ) → find n (blank n) s ≡ Nothing
-find-blank n s = elim (ℕ-discrete s 0) [
-  | yes z ↦ ap (find n (blank n)) z ∙ find-zero n (blank n)
-  | no z ↦ none-find n (blank n) s (λ j h e. z (sym e ∙ serial-blank n j h))
-]

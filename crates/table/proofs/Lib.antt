@@ -1,9 +1,7 @@
--- The laws of the stored table: the bytes of a record, places and stores, the lead, searches, the blank table.
+-- The laws of the stored table: the bytes of a record, places and stores, the lead, the blank table.
 -- Assumes nothing.
 pub mod Lines
 pub mod Places
 pub mod Lead
-pub mod First
-pub mod Finds
 pub mod Blank
 pub mod Unique

@@ -10,9 +10,6 @@ use Rattle.table.proofs.last_serial.Reads as last-serial-reads
 use Rattle.table.proofs.set_last_serial.Reads as set-last-serial-reads
 use Rattle.table.proofs.places_said.Reads as places-said-reads
 use Rattle.table.proofs.serial_at.Reads as serial-at-reads
-use Rattle.table.proofs.is_destroyed.Reads as is-destroyed-reads
-use Rattle.table.proofs.find.Reads as find-reads
-use Rattle.table.proofs.new_place.Reads as new-place-reads
 
 pub line-unique : OneAnswer line-reads.Post
 line-unique κs a r r′ s s′ p q = p ∙ sym q
@@ -34,12 +31,3 @@ places-said-unique κs a r r′ s s′ p q = p ∙ sym q
 
 pub serial-at-unique : OneAnswer serial-at-reads.Post
 serial-at-unique κs a r r′ s s′ p q = p ∙ sym q
-
-pub is-destroyed-unique : OneAnswer is-destroyed-reads.Post
-is-destroyed-unique κs a r r′ s s′ p q = p ∙ sym q
-
-pub find-unique : OneAnswer find-reads.Post
-find-unique κs a r r′ s s′ p q = p ∙ sym q
-
-pub new-place-unique : OneAnswer new-place-reads.Post
-new-place-unique κs a r r′ s s′ p q = p ∙ sym q

@@ -1,5 +1,4 @@
--- The stored table: layout, records, searches.
+-- The stored table: layout, records.
 -- Assumes nothing.
 pub mod Layout
 pub mod Records
-pub mod Search

@@ -1,9 +1,9 @@
 -- `act_on` meets its contract: the record is looked for once.
 -- Assumes nothing.
 use mathlib.Core.Path.{_≡_, sym, ap, _∙_}
-use Rattle.table.specs.declared.Found.the-variants.{At, Nothing}
-use Rattle.table.specs.Search.{find}
-use Rattle.table.proofs.Finds.{find-below}
+use Rattle.search.specs.declared.Found.the-variants.{At, Nothing}
+use Rattle.search.specs.Search.{find}
+use Rattle.search.proofs.Finds.{find-below}
 use Rattle.act.specs.declared.Performed.{Performed}
 use Rattle.act.specs.Act.{sought}
 use Rattle.act.specs.Perform.{leaves}

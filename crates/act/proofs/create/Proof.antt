@@ -5,9 +5,9 @@ use Prim.Native.Nat.{ℕ, _+_}
 use mathlib.Core.List.{List}
 use native.Mathlib.Omega.{arith}
 use Rattle.table.specs.declared.Record.{Record}
-use Rattle.table.specs.declared.Found.the-variants.{At}
+use Rattle.search.specs.declared.Found.the-variants.{At}
 use Rattle.table.specs.Records.{lastSerial}
-use Rattle.table.proofs.Finds.{new-below}
+use Rattle.search.proofs.Finds.{new-below}
 use Rattle.act.specs.declared.Performed.{Performed}
 use Rattle.changes.specs.Records.{newRecord}
 use Rattle.changes.specs.Changes.{nextSerial, bornAt}

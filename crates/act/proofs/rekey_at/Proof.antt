@@ -4,7 +4,7 @@ use mathlib.Core.Path.{_≡_, sym, ap, _∙_}
 use mathlib.Core.Bool.{false}
 use Rattle.table.specs.declared.Record.{Record}
 use Rattle.table.specs.Records.{placeAt}
-use Rattle.table.specs.Search.{isDestroyed}
+use Rattle.search.specs.Search.{isDestroyed}
 use Rattle.act.specs.declared.Performed.{Performed}
 use Rattle.act.specs.Perform.{leaves, roomFor, replacing}
 use Rattle.act.proofs.Plans.{rekey-destroyed, rekey-twice, rekey-first}

@@ -4,9 +4,9 @@ use Prim.Native.Nat.{ℕ, _-_}
 use mathlib.Core.Path.{_≡_, sym, ap, _∙_}
 use lib.Dec.{eqb}
 use borrow.Author.Needs.{needs}
-use Rattle.table.specs.declared.Found.the-variants.{At}
-use Rattle.table.specs.Search.{find}
-use Rattle.table.proofs.Finds.{find-below}
+use Rattle.search.specs.declared.Found.the-variants.{At}
+use Rattle.search.specs.Search.{find}
+use Rattle.search.proofs.Finds.{find-below}
 use Rattle.soundness.specs.Sound.{ifStands, namesReplacement}
 use Rattle.soundness.proofs.back_right.Statement.{statement}
 use Rattle.soundness.proofs.back_right.Tie as tie

@@ -11,16 +11,17 @@ use lib.ListN.{length}
 use lib.Dec.{eqb}
 use borrow.Author.Tests.{eq-eqb, ne-eqb, eqb-true, eqb-false}
 use Rattle.octets.proofs.If.{ifb-true, ifb-false, on-bool}
 use Rattle.table.specs.declared.Record.{Record}
-use Rattle.table.specs.declared.Found.{Found}
-use Rattle.table.specs.declared.Found.the-variants.{At, Nothing}
+use Rattle.search.specs.declared.Found.{Found}
+use Rattle.search.specs.declared.Found.the-variants.{At, Nothing}
 use Rattle.table.specs.Layout.{sizeOf}
-use Rattle.table.specs.Records.{withPlace, withLast, serialAt, stateAt, isFree}
-use Rattle.table.specs.Search.{first, hasSerial, isNothing, find, orElse, isDestroyed, freePlace, destroyedPlace, newPlace}
+use Rattle.table.specs.Records.{withPlace, withLast, serialAt, stateAt, isFree, blank}
+use Rattle.search.specs.Search.{first, hasSerial, isNothing, find, orElse, isDestroyed, freePlace, destroyedPlace, newPlace}
 use Rattle.table.proofs.Lines.{InRange}
 use Rattle.table.proofs.Places.{serial-same, serial-other, serial-with}
 use Rattle.table.proofs.Lead.{serial-last}
-use Rattle.table.proofs.First.{At-not, on-found, isNothing-none, found-below, found-test, found-lowest, found-is, none-fails, fails-none, first-cong}
+use Rattle.table.proofs.Blank.{serial-blank}
+use Rattle.search.proofs.First.{At-not, on-found, isNothing-none, found-below, found-test, found-lowest, found-is, none-fails, fails-none, first-cong}
 
 -- ---- a record by its serial
 
@@ -79,6 +80,13 @@ find-cong n t u s h =
 
 pub find-last : (n : ℕ) (t : List ℕ) (last s : ℕ) → find n (withLast t last) s ≡ find n t s
 find-last n t last s = find-cong n (withLast t last) t s (λ ne j h. ap (λ (x : ℕ). eqb x s) (serial-last t last j))
+
+-- no record is found in the blank table
+pub find-blank : (n s : ℕ) → find n (blank n) s ≡ Nothing
+find-blank n s = elim (ℕ-discrete s 0) [
+  | yes z ↦ ap (find n (blank n)) z ∙ find-zero n (blank n)
+  | no z ↦ none-find n (blank n) s (λ j h e. z (sym e ∙ serial-blank n j h))
+]
 
 -- ---- a record by its serial, after a store
 

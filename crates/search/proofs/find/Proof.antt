@@ -1,13 +1,13 @@
--- `table::find`. Zero is not looked for.
+-- `search::find`. Zero is not looked for.
 -- Assumes nothing.
 use mathlib.Core.Path.{sym, _∙_}
 use borrow.Author.Tests.{eq-eqb}
 use Rattle.octets.proofs.If.{ifb-true}
-use Rattle.table.proofs.Finds.{find-first}
-use Rattle.table.specs.Search.{find}
+use Rattle.search.proofs.Finds.{find-first}
+use Rattle.search.specs.Search.{find}
 use borrow.Author.Needs.{needs}
-use Rattle.table.proofs.find.Statement.{statement}
-use Rattle.table.proofs.find.Tie as tie
+use Rattle.search.proofs.find.Statement.{statement}
+use Rattle.search.proofs.find.Tie as tie
 
 returns : tie.Need-returns
 unfolding find

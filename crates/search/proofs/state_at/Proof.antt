@@ -1,9 +1,9 @@
--- `table::state_at`. The state is the second field of the line.
+-- `search::state_at`. The state is the second field of the line.
 -- Assumes nothing.
 use Rattle.table.specs.Records.{stateAt}
 use borrow.Author.Needs.{needs}
-use Rattle.table.proofs.state_at.Statement.{statement}
-use Rattle.table.proofs.state_at.Tie as tie
+use Rattle.search.proofs.state_at.Statement.{statement}
+use Rattle.search.proofs.state_at.Tie as tie
 
 line-requires : tie.Need-line-requires
 line-requires c κs = search needs

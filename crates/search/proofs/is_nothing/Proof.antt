@@ -1,10 +1,10 @@
--- `table::is_nothing`. The two answers.
+-- `search::is_nothing`. The two answers.
 -- Assumes nothing.
 use mathlib.Core.Path.{sym}
-use Rattle.table.proofs.First.{isNothing-at, isNothing-none}
+use Rattle.search.proofs.First.{isNothing-at, isNothing-none}
 use borrow.Author.Needs.{needs}
-use Rattle.table.proofs.is_nothing.Statement.{statement}
-use Rattle.table.proofs.is_nothing.Tie as tie
+use Rattle.search.proofs.is_nothing.Statement.{statement}
+use Rattle.search.proofs.is_nothing.Tie as tie
 
 enum-told : tie.Need-enum-told
 enum-told c = search needs

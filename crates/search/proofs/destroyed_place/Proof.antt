@@ -1,14 +1,14 @@
--- `table::destroyed_place`. What is left of the search gives the whole.
+-- `search::destroyed_place`. What is left of the search gives the whole.
 -- Assumes nothing.
 use Prim.Native.Nat.{_-_, _≤_}
 use mathlib.Core.Path.{_≡_, sym, ap, _∙_}
 use native.Mathlib.Omega.{arith}
 use borrow.Author.Needs.{needs}
 use Rattle.table.specs.Records.{stateAt}
-use Rattle.table.specs.Search.{first, isDestroyed, destroyedPlace}
-use Rattle.table.proofs.First.{left, left-start, left-end, left-yes, left-no}
-use Rattle.table.proofs.destroyed_place.Statement.{statement}
-use Rattle.table.proofs.destroyed_place.Tie as tie
+use Rattle.search.specs.Search.{first, isDestroyed, destroyedPlace}
+use Rattle.search.proofs.First.{left, left-start, left-end, left-yes, left-no}
+use Rattle.search.proofs.destroyed_place.Statement.{statement}
+use Rattle.search.proofs.destroyed_place.Tie as tie
 
 abbrev Inv-loop : tie.InvT-loop
 Inv-loop t n place₀ place = (place ≤ n) × (left n (λ k. isDestroyed (stateAt t k)) place ≡ first n (λ k. isDestroyed (stateAt t k)))

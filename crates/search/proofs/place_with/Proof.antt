@@ -1,14 +1,14 @@
--- `table::place_with`. What is left of the search gives the whole.
+-- `search::place_with`. What is left of the search gives the whole.
 -- Assumes nothing.
 use Prim.Native.Nat.{_-_, _≤_}
 use mathlib.Core.Path.{_≡_, sym, _∙_}
 use native.Mathlib.Omega.{arith}
 use borrow.Author.Needs.{needs}
 use borrow.Author.Tests.{eq-eqb, ne-eqb}
-use Rattle.table.specs.Search.{first, hasSerial}
-use Rattle.table.proofs.First.{left, left-start, left-end, left-yes, left-no}
-use Rattle.table.proofs.place_with.Statement.{statement}
-use Rattle.table.proofs.place_with.Tie as tie
+use Rattle.search.specs.Search.{first, hasSerial}
+use Rattle.search.proofs.First.{left, left-start, left-end, left-yes, left-no}
+use Rattle.search.proofs.place_with.Statement.{statement}
+use Rattle.search.proofs.place_with.Tie as tie
 
 abbrev Inv-loop : tie.InvT-loop
 Inv-loop t n serial i₀ i = (i ≤ n) × (left n (hasSerial t serial) i ≡ first n (hasSerial t serial))

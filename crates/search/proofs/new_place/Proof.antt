@@ -1,13 +1,13 @@
--- `table::new_place`. A destroyed place is looked for only where none is free.
+-- `search::new_place`. A destroyed place is looked for only where none is free.
 -- Assumes nothing.
 use mathlib.Core.Path.{sym, ap, _∙_}
 use borrow.Author.Tests.{not-true, not-false}
-use Rattle.table.specs.Search.{isNothing}
-use Rattle.table.proofs.First.{isNothing-is}
-use Rattle.table.proofs.Finds.{new-if-free, new-destroyed}
+use Rattle.search.specs.Search.{isNothing}
+use Rattle.search.proofs.First.{isNothing-is}
+use Rattle.search.proofs.Finds.{new-if-free, new-destroyed}
 use borrow.Author.Needs.{needs}
-use Rattle.table.proofs.new_place.Statement.{statement}
-use Rattle.table.proofs.new_place.Tie as tie
+use Rattle.search.proofs.new_place.Statement.{statement}
+use Rattle.search.proofs.new_place.Tie as tie
 
 free-place-requires : tie.Need-free-place-requires
 free-place-requires c κs = search needs

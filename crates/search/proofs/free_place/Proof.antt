@@ -1,9 +1,9 @@
--- `table::free_place`. A free place is one whose serial is zero.
+-- `search::free_place`. A free place is one whose serial is zero.
 -- Assumes nothing.
-use Rattle.table.specs.Search.{freePlace}
+use Rattle.search.specs.Search.{freePlace}
 use borrow.Author.Needs.{needs}
-use Rattle.table.proofs.free_place.Statement.{statement}
-use Rattle.table.proofs.free_place.Tie as tie
+use Rattle.search.proofs.free_place.Statement.{statement}
+use Rattle.search.proofs.free_place.Tie as tie
 
 place-with-requires : tie.Need-place-with-requires
 place-with-requires c κs = search needs

@@ -1,0 +1,3 @@
+-- Searches of the stored table.
+-- Assumes nothing.
+pub mod Search
