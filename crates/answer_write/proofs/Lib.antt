@@ -1,5 +1,5 @@
 -- How the writers of answers compose.
 -- Assumes nothing.
-pub mod Compose
+pub mod Success
 pub mod Parts
 pub mod Unique

@@ -1,3 +1,3 @@
--- What a writer of answers leaves in its room.
+-- What a writer of answers deals in.
 -- Assumes nothing.
-pub mod Puts
+pub mod Answers

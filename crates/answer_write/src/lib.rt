@@ -4,17 +4,18 @@ ghost use mathlib.Core.Path.{_≡_};
 ghost use Prim.Native.Nat.{_+_, _*_, _%_, _≤_};
 ghost use lib.ListN.{length, take};
 ghost use Rattle.octets.specs.Octets.{over};
-ghost use Rattle.ttlv_types.specs.Types.{integer, longInteger, enumeration};
+ghost use Rattle.ttlv_types.specs.Types.{integer, enumeration};
 ghost use Rattle.ttlv.specs.Items.{nil, group};
-ghost use Rattle.ttlv_put.specs.Write.{tagOf, Holds};
+ghost use Rattle.ttlv_put.specs.Write.{Holds};
 ghost use Rattle.frame.specs.Tags.{batchItem, protocolVersionMajor, protocolVersionMinor};
 ghost use Rattle.frame.specs.Frame.{idMost, batchMost};
-ghost use Rattle.payload.specs.Tags.{attributes, cryptographicAlgorithm, cryptographicLength, cryptographicUsageMask, objectType, uniqueIdentifier, usageLimitsCount, usageLimitsTotal, usageLimitsUnit, symmetricKey, aes};
+ghost use Rattle.payload.specs.Tags.{attributes, objectType, uniqueIdentifier, symmetricKey};
 ghost use Rattle.act.specs.declared.Outcome.the-variants.{Failed};
-ghost use Rattle.answer.specs.Tags.{linkType, linkedObjectIdentifier, responseHeader, stateTag, replacedObjectLink, replacementObjectLink};
-ghost use Rattle.answer.specs.Respond.{word, long, named, limitItems, linkItems, attributeItems, outcomeItems, idItems, answerItems, versionItems, headerItems};
+ghost use Rattle.answer.specs.Tags.{responseHeader};
+ghost use Rattle.answer.specs.Respond.{word, named, attributeItems, outcomeItems, idItems, answerItems, versionItems, headerItems};
 ghost use Rattle.answer.specs.Front.{headerSize, frameSize, longestItem, front};
-ghost use Rattle.answer_write.specs.Puts.{Puts, opening, answerOf};
+ghost use Rattle.attributes_write.specs.Puts.{Puts};
+ghost use Rattle.answer_write.specs.Answers.{opening, answerOf};
 use act::Outcome;
 use act::Shown;
 use frame::ItemId;
@@ -24,18 +25,6 @@ use rules::Reason;
 const BATCH_COUNT: u16 = 0x0D;
 
 const BATCH_ITEM: u16 = 0x0F;
-
-const CRYPTOGRAPHIC_ALGORITHM: u16 = 0x28;
-
-const CRYPTOGRAPHIC_LENGTH: u16 = 0x2A;
-
-const CRYPTOGRAPHIC_USAGE_MASK: u16 = 0x2C;
-
-const LINK: u16 = 0x4A;
-
-const LINK_TYPE: u16 = 0x4B;
-
-const LINKED_OBJECT_IDENTIFIER: u16 = 0x4C;
 
 const OBJECT_TYPE: u16 = 0x57;
 
@@ -57,140 +46,23 @@ const RESULT_REASON: u16 = 0x7E;
 
 const RESULT_STATUS: u16 = 0x7F;
 
-const STATE: u16 = 0x8D;
-
 const TIME_STAMP: u16 = 0x92;
 
 const UNIQUE_BATCH_ITEM_ID: u16 = 0x93;
 
 const UNIQUE_IDENTIFIER: u16 = 0x94;
 
-const USAGE_LIMITS: u16 = 0x95;
-
-const USAGE_LIMITS_COUNT: u16 = 0x96;
-
-const USAGE_LIMITS_TOTAL: u16 = 0x97;
-
-const USAGE_LIMITS_UNIT: u16 = 0x98;
-
-const ATTRIBUTES: u16 = 0x125;
-
 // Values of Enumerations.
-const AES: u32 = 3;
-
 const SYMMETRIC_KEY: u32 = 2;
 
 const SUCCESS: u32 = 0;
 
 const OPERATION_FAILED: u32 = 1;
 
-const REPLACED_OBJECT_LINK: u32 = 0x107;
-
-const REPLACEMENT_OBJECT_LINK: u32 = 0x106;
-
 // The header of a response: its head, version, Time Stamp, Batch Count.
 const HEADER_SIZE: usize = 80;
 
 // ---- payloads
-
-// An identifier as a Text String.
-fn write_named(out: &mut [u8], tag: u16, serial: u32) -> usize
-    requires { ⌜ 16 ≤ length (now out) ⌝ }
-    ensures { λ r. ⌜ Puts 16 (named (tagOf tag) serial nil) (now (out .entry)) (now (out .exit)) r ⌝ }
-{
-    let text = identifier::text_of(serial);
-    ttlv_write::write_text(out, tag, &text)
-}
-
-// The body of a link.
-fn write_link_body(out: &mut [u8], kind: u32, serial: u32) -> usize
-    requires { ⌜ 32 ≤ length (now out) ⌝ }
-    ensures { λ r. ⌜ Puts 32 (word linkType enumeration kind (named linkedObjectIdentifier serial nil)) (now (out .entry)) (now (out .exit)) r ⌝ }
-{
-    ttlv_write::write_enumeration(out, LINK_TYPE, kind);
-    let n = write_named(&mut out[16..], LINKED_OBJECT_IDENTIFIER, serial);
-    16 + n
-}
-
-// A link; nothing where the serial is 0.
-fn write_link(out: &mut [u8], kind: u32, serial: u32) -> usize
-    requires { ⌜ 40 ≤ length (now out) ⌝ }
-    ensures { λ r. ⌜ Puts 40 (linkItems kind serial nil) (now (out .entry)) (now (out .exit)) r ⌝ }
-{
-    if serial == 0 {
-        return 0;
-    }
-    let n = write_link_body(&mut out[8..], kind, serial);
-    ttlv_put::write_structure(out, LINK, n);
-    8 + n
-}
-
-// The body of a usage limit.
-fn write_limit_body(out: &mut [u8], unit: u32, total: u64, count: u64) -> usize
-    requires { ⌜ 48 ≤ length (now out) ⌝ }
-    ensures { λ r. ⌜ Puts 48 (long usageLimitsTotal longInteger total (long usageLimitsCount longInteger count (word usageLimitsUnit enumeration unit nil))) (now (out .entry)) (now (out .exit)) r ⌝ }
-{
-    ttlv_write::write_long(out, USAGE_LIMITS_TOTAL, total);
-    ttlv_write::write_long(&mut out[16..], USAGE_LIMITS_COUNT, count);
-    ttlv_write::write_enumeration(&mut out[32..], USAGE_LIMITS_UNIT, unit);
-    48
-}
-
-// The attributes that every key has.
-fn write_always(out: &mut [u8], bits: u32, mask: u32, state: u32) -> usize
-    requires { ⌜ 64 ≤ length (now out) ⌝ }
-    ensures { λ r. ⌜ Puts 64 (word cryptographicAlgorithm enumeration aes (word cryptographicLength integer bits (word cryptographicUsageMask integer mask (word stateTag enumeration state nil)))) (now (out .entry)) (now (out .exit)) r ⌝ }
-{
-    ttlv_write::write_enumeration(out, CRYPTOGRAPHIC_ALGORITHM, AES);
-    ttlv_write::write_integer(&mut out[16..], CRYPTOGRAPHIC_LENGTH, bits);
-    ttlv_write::write_integer(&mut out[32..], CRYPTOGRAPHIC_USAGE_MASK, mask);
-    ttlv_write::write_enumeration(&mut out[48..], STATE, state);
-    64
-}
-
-// A usage limit; nothing where the unit is 0.
-fn write_limits(out: &mut [u8], shown: Shown) -> usize
-    requires { ⌜ 56 ≤ length (now out) ⌝ }
-    ensures { λ r. ⌜ Puts 56 (limitItems shown nil) (now (out .entry)) (now (out .exit)) r ⌝ }
-{
-    if shown.unit == 0 {
-        return 0;
-    }
-    let n = write_limit_body(&mut out[8..], shown.unit as u32, shown.total, shown.count);
-    ttlv_put::write_structure(out, USAGE_LIMITS, n);
-    8 + n
-}
-
-// The links: to what this key replaced, then to what replaces it.
-fn write_links(out: &mut [u8], replaced: u32, replacement: u32) -> usize
-    requires { ⌜ 80 ≤ length (now out) ⌝ }
-    ensures { λ r. ⌜ Puts 80 (linkItems replacedObjectLink replaced (linkItems replacementObjectLink replacement nil)) (now (out .entry)) (now (out .exit)) r ⌝ }
-{
-    let n = write_link(out, REPLACED_OBJECT_LINK, replaced);
-    let m = write_link(&mut out[n..], REPLACEMENT_OBJECT_LINK, replacement);
-    n + m
-}
-
-// All attributes of a key.
-fn write_attribute_items(out: &mut [u8], shown: Shown) -> usize
-    requires { ⌜ 200 ≤ length (now out) ⌝ }
-    ensures { λ r. ⌜ Puts 200 (attributeItems shown) (now (out .entry)) (now (out .exit)) r ⌝ }
-{
-    let n = write_always(out, shown.bits as u32, shown.mask, shown.state as u32);
-    let m = write_limits(&mut out[n..], shown);
-    let at = n + m;
-    let k = write_links(&mut out[at..], shown.replaced, shown.replacement);
-    at + k
-}
-
-fn write_attributes(out: &mut [u8], shown: Shown) -> usize
-    requires { ⌜ 208 ≤ length (now out) ⌝ }
-    ensures { λ r. ⌜ Puts 208 (group attributes (attributeItems shown) nil) (now (out .entry)) (now (out .exit)) r ⌝ }
-{
-    let n = write_attribute_items(&mut out[8..], shown);
-    ttlv_put::write_structure(out, ATTRIBUTES, n);
-    8 + n
-}
 
 // The payload of Create.
 fn write_created(out: &mut [u8], serial: u32) -> usize
@@ -198,7 +70,7 @@ fn write_created(out: &mut [u8], serial: u32) -> usize
     ensures { λ r. ⌜ Puts 32 (word objectType enumeration symmetricKey (named uniqueIdentifier serial nil)) (now (out .entry)) (now (out .exit)) r ⌝ }
 {
     ttlv_write::write_enumeration(out, OBJECT_TYPE, SYMMETRIC_KEY);
-    let n = write_named(&mut out[16..], UNIQUE_IDENTIFIER, serial);
+    let n = attributes_write::write_named(&mut out[16..], UNIQUE_IDENTIFIER, serial);
     16 + n
 }
 
@@ -207,8 +79,8 @@ fn write_showed(out: &mut [u8], shown: Shown) -> usize
     requires { ⌜ 224 ≤ length (now out) ⌝ }
     ensures { λ r. ⌜ Puts 224 (named uniqueIdentifier (shown .serial) (group attributes (attributeItems shown) nil)) (now (out .entry)) (now (out .exit)) r ⌝ }
 {
-    let n = write_named(out, UNIQUE_IDENTIFIER, shown.serial);
-    let m = write_attributes(&mut out[n..], shown);
+    let n = attributes_write::write_named(out, UNIQUE_IDENTIFIER, shown.serial);
+    let m = attributes_write::write_attributes(&mut out[n..], shown);
     n + m
 }
 
@@ -245,7 +117,7 @@ fn write_outcome(out: &mut [u8], outcome: Outcome) -> usize
             write_success(out, n)
         }
         Outcome::Done { serial } => {
-            let n = write_named(&mut out[24..], UNIQUE_IDENTIFIER, serial);
+            let n = attributes_write::write_named(&mut out[24..], UNIQUE_IDENTIFIER, serial);
             write_success(out, n)
         }
         Outcome::Showed { shown } => {

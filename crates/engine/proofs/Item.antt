@@ -28,7 +28,8 @@ use Rattle.act.specs.Act.{Did, isFailed}
 use Rattle.act.specs.Perform.{leaves, performing}
 use Rattle.answer.specs.Respond.{Answer, answerItems}
 use Rattle.answer.specs.Front.{longestItem}
-use Rattle.answer_write.specs.Puts.{Puts, answerOf}
+use Rattle.attributes_write.specs.Puts.{Puts}
+use Rattle.answer_write.specs.Answers.{answerOf}
 use Rattle.engine.specs.Batch.{answerTo}
 use Rattle.engine.specs.Calls.{askedOr, askedIn, answerBytes, doing, ItemIs}
 

@@ -4,7 +4,7 @@ use native.Mathlib.Omega.{arith}
 use Rattle.ttlv_types.specs.Types.{enumeration}
 use Rattle.payload.specs.Tags.{objectType, symmetricKey}
 use Rattle.ttlv_put.specs.Write.{join}
-use Rattle.answer_write.proofs.Compose.{puts-word, puts-then}
+use Rattle.attributes_write.proofs.Compose.{puts-word, puts-then}
 use borrow.Author.Needs.{needs}
 use Rattle.answer_write.proofs.write_created.Statement.{statement}
 use Rattle.answer_write.proofs.write_created.Tie as tie

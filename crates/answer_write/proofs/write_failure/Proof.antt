@@ -7,7 +7,7 @@ use Rattle.rules.specs.Numbers.{reasonNumber}
 use Rattle.answer.specs.Tags.{resultStatus, resultReason}
 use Rattle.ttlv_put.specs.Write.{join}
 use Rattle.answer.specs.Respond.{operationFailed, outcomeItems}
-use Rattle.answer_write.proofs.Compose.{puts-word, then-word}
+use Rattle.attributes_write.proofs.Compose.{puts-word, then-word}
 use borrow.Author.Needs.{needs}
 use Rattle.answer_write.proofs.write_failure.Statement.{statement}
 use Rattle.answer_write.proofs.write_failure.Tie as tie

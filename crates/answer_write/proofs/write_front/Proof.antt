@@ -4,7 +4,7 @@ use native.Mathlib.Omega.{arith}
 use Prim.Native.Nat.{_+_}
 use Rattle.ttlv_put.proofs.Holds.{holds-then}
 use Rattle.answer.specs.Front.{headerSize, front}
-use Rattle.answer_write.proofs.Compose.{holds-structure}
+use Rattle.attributes_write.proofs.Compose.{holds-structure}
 use borrow.Author.Needs.{needs}
 use Rattle.answer_write.proofs.write_front.Statement.{statement}
 use Rattle.answer_write.proofs.write_front.Tie as tie

@@ -1,7 +1,7 @@
 -- `answer_write::write_header`. The body, and its head in front.
 -- Assumes nothing.
 use native.Mathlib.Omega.{arith}
-use Rattle.answer_write.proofs.Compose.{puts-group}
+use Rattle.attributes_write.proofs.Compose.{puts-group}
 use borrow.Author.Needs.{needs}
 use Rattle.answer_write.proofs.write_header.Statement.{statement}
 use Rattle.answer_write.proofs.write_header.Tie as tie

@@ -6,7 +6,7 @@ use Rattle.frame.specs.Tags.{batchCount}
 use Rattle.answer.specs.Tags.{timeStamp}
 use Rattle.ttlv_put.specs.Write.{join}
 use Rattle.answer.specs.Respond.{headerItems, versionItems}
-use Rattle.answer_write.proofs.Compose.{then-long, then-word}
+use Rattle.attributes_write.proofs.Compose.{then-long, then-word}
 use borrow.Author.Needs.{needs}
 use Rattle.answer_write.proofs.write_header_items.Statement.{statement}
 use Rattle.answer_write.proofs.write_header_items.Tie as tie

@@ -2,7 +2,8 @@
 -- Assumes nothing.
 use native.Mathlib.Omega.{arith}
 use Rattle.answer.specs.Respond.{outcomeItems}
-use Rattle.answer_write.proofs.Compose.{puts-within, opening-room, puts-succeeded}
+use Rattle.attributes_write.proofs.Compose.{puts-within}
+use Rattle.answer_write.proofs.Success.{opening-room, puts-succeeded}
 use Rattle.answer_write.proofs.Parts.{puts-outcome}
 use borrow.Author.Needs.{needs}
 use Rattle.answer_write.proofs.write_outcome.Statement.{statement}

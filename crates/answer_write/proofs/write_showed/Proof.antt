@@ -1,7 +1,7 @@
 -- `answer_write::write_showed`. The name, and the attributes behind it.
 -- Assumes nothing.
 use Rattle.ttlv_put.specs.Write.{join}
-use Rattle.answer_write.proofs.Compose.{puts-then}
+use Rattle.attributes_write.proofs.Compose.{puts-then}
 use borrow.Author.Needs.{needs}
 use Rattle.answer_write.proofs.write_showed.Statement.{statement}
 use Rattle.answer_write.proofs.write_showed.Tie as tie

@@ -2,7 +2,7 @@
 -- Assumes nothing.
 use native.Mathlib.Omega.{arith}
 use Rattle.answer.specs.Respond.{versionItems}
-use Rattle.answer_write.proofs.Compose.{puts-group}
+use Rattle.attributes_write.proofs.Compose.{puts-group}
 use borrow.Author.Needs.{needs}
 use Rattle.answer_write.proofs.write_version.Statement.{statement}
 use Rattle.answer_write.proofs.write_version.Tie as tie

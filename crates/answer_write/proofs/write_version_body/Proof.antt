@@ -4,7 +4,7 @@ use native.Mathlib.Omega.{arith}
 use Rattle.ttlv_types.specs.Types.{integer}
 use Rattle.frame.specs.Tags.{protocolVersionMajor, protocolVersionMinor}
 use Rattle.ttlv_put.specs.Write.{join}
-use Rattle.answer_write.proofs.Compose.{puts-word, then-word}
+use Rattle.attributes_write.proofs.Compose.{puts-word, then-word}
 use borrow.Author.Needs.{needs}
 use Rattle.answer_write.proofs.write_version_body.Statement.{statement}
 use Rattle.answer_write.proofs.write_version_body.Tie as tie

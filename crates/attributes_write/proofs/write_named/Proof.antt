@@ -1,10 +1,10 @@
--- `answer_write::write_named`. The text of the serial.
+-- `attributes_write::write_named`. The text of the serial.
 -- Assumes nothing.
 use native.Mathlib.Omega.{arith}
-use Rattle.answer_write.proofs.Parts.{puts-named}
+use Rattle.attributes_write.proofs.Parts.{puts-named}
 use borrow.Author.Needs.{needs}
-use Rattle.answer_write.proofs.write_named.Statement.{statement}
-use Rattle.answer_write.proofs.write_named.Tie as tie
+use Rattle.attributes_write.proofs.write_named.Statement.{statement}
+use Rattle.attributes_write.proofs.write_named.Tie as tie
 
 text-of-requires : tie.Need-text-of-requires
 text-of-requires c κs = search needs

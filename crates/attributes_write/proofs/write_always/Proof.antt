@@ -1,14 +1,14 @@
--- `answer_write::write_always`. The four numbers, one behind another.
+-- `attributes_write::write_always`. The four numbers, one behind another.
 -- Assumes nothing.
 use native.Mathlib.Omega.{arith}
 use Rattle.ttlv_types.specs.Types.{integer, enumeration}
 use Rattle.payload.specs.Tags.{cryptographicAlgorithm, cryptographicLength, cryptographicUsageMask, aes}
 use Rattle.answer.specs.Tags.{stateTag}
 use Rattle.ttlv_put.specs.Write.{join}
-use Rattle.answer_write.proofs.Compose.{puts-word, then-word}
+use Rattle.attributes_write.proofs.Compose.{puts-word, then-word}
 use borrow.Author.Needs.{needs}
-use Rattle.answer_write.proofs.write_always.Statement.{statement}
-use Rattle.answer_write.proofs.write_always.Tie as tie
+use Rattle.attributes_write.proofs.write_always.Statement.{statement}
+use Rattle.attributes_write.proofs.write_always.Tie as tie
 
 write-enumeration-requires : tie.Need-write-enumeration-requires
 write-enumeration-requires c κs = search needs

@@ -1,14 +1,14 @@
--- `answer_write::write_attribute_items`. The numbers, then the limits, then the links.
+-- `attributes_write::write_attribute_items`. The numbers, then the limits, then the links.
 -- Assumes nothing.
 use Rattle.ttlv_put.specs.Write.{join}
 use Rattle.answer.specs.Respond.{attributeItems, linkItems}
 use Rattle.ttlv.specs.Items.{nil}
 use Rattle.answer.specs.Tags.{replacedObjectLink, replacementObjectLink}
-use Rattle.answer_write.proofs.Compose.{puts-then}
-use Rattle.answer_write.proofs.Parts.{limit-join}
+use Rattle.attributes_write.proofs.Compose.{puts-then}
+use Rattle.attributes_write.proofs.Parts.{limit-join}
 use borrow.Author.Needs.{needs}
-use Rattle.answer_write.proofs.write_attribute_items.Statement.{statement}
-use Rattle.answer_write.proofs.write_attribute_items.Tie as tie
+use Rattle.attributes_write.proofs.write_attribute_items.Statement.{statement}
+use Rattle.attributes_write.proofs.write_attribute_items.Tie as tie
 
 cast-write-always : tie.Need-cast-write-always
 cast-write-always c = search needs

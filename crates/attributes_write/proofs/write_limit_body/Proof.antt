@@ -1,13 +1,13 @@
--- `answer_write::write_limit_body`. The three numbers, one behind another.
+-- `attributes_write::write_limit_body`. The three numbers, one behind another.
 -- Assumes nothing.
 use native.Mathlib.Omega.{arith}
 use Rattle.ttlv_types.specs.Types.{longInteger, enumeration}
 use Rattle.payload.specs.Tags.{usageLimitsTotal, usageLimitsCount, usageLimitsUnit}
 use Rattle.ttlv_put.specs.Write.{join}
-use Rattle.answer_write.proofs.Compose.{puts-long, then-long, then-word}
+use Rattle.attributes_write.proofs.Compose.{puts-long, then-long, then-word}
 use borrow.Author.Needs.{needs}
-use Rattle.answer_write.proofs.write_limit_body.Statement.{statement}
-use Rattle.answer_write.proofs.write_limit_body.Tie as tie
+use Rattle.attributes_write.proofs.write_limit_body.Statement.{statement}
+use Rattle.attributes_write.proofs.write_limit_body.Tie as tie
 
 write-long-requires : tie.Need-write-long-requires
 write-long-requires c κs = search needs

@@ -1,13 +1,13 @@
--- `answer_write::write_links`. The second link behind the first.
+-- `attributes_write::write_links`. The second link behind the first.
 -- Assumes nothing.
 use Rattle.ttlv.specs.Items.{nil}
 use Rattle.answer.specs.Tags.{replacedObjectLink, replacementObjectLink}
 use Rattle.answer.specs.Respond.{linkItems}
-use Rattle.answer_write.proofs.Compose.{puts-then}
-use Rattle.answer_write.proofs.Parts.{link-join}
+use Rattle.attributes_write.proofs.Compose.{puts-then}
+use Rattle.attributes_write.proofs.Parts.{link-join}
 use borrow.Author.Needs.{needs}
-use Rattle.answer_write.proofs.write_links.Statement.{statement}
-use Rattle.answer_write.proofs.write_links.Tie as tie
+use Rattle.attributes_write.proofs.write_links.Statement.{statement}
+use Rattle.attributes_write.proofs.write_links.Tie as tie
 
 write-link-requires : tie.Need-write-link-requires
 write-link-requires c κs = search needs

@@ -1,11 +1,11 @@
 -- How writes of items compose: fields of a fixed size, one behind another, a structure's head in front of its body.
 -- Assumes nothing. The room from n on, lent, is `midOf n (length xs - n) xs`; back in its place it gives `putMid n (length xs - n) xs ys`.
-use mathlib.Core.Path.{_≡_, refl, sym, ap, _∙_}
+use mathlib.Core.Path.{_≡_, refl, sym, _∙_}
 use Prim.Native.Nat.{ℕ, _+_, _-_, _%_, _^_, _≤_, _<_}
 use native.Mathlib.Omega.{arith}
 use mathlib.Core.Bool.{Bool, true, false, _&&_}
-use mathlib.Core.List.{List, _++_, append-assoc}
-use lib.ListN.{length, length-append, length-take, length-drop}
+use mathlib.Core.List.{List}
+use lib.ListN.{length}
 use borrow.Author.Tests.{le-leb, lt-ltb, eq-eqb}
 use borrow.Rule.Slice.PartMut.{putMid, midOf}
 use Rattle.octets.specs.If.{ifb}
@@ -13,21 +13,20 @@ use Rattle.octets.specs.Octets.{be}
 use Rattle.octets.proofs.Numbers.{length-be}
 use Rattle.octets.proofs.If.{ifb-true, ifb-false}
 use Rattle.octets.proofs.Over.{lent-length}
-use Rattle.ttlv_types.specs.Types.{structure, enumeration, padded, lengthOk}
+use Rattle.ttlv_types.specs.Types.{structure, padded, lengthOk}
 use Rattle.ttlv.specs.Items.{Items, nil, value, group, head, encode}
 use Rattle.ttlv.proofs.Back.{eights}
 use Rattle.ttlv_put.specs.Write.{tagOf, join, spelled, fits, Wrote, WroteValue, WroteHead, Holds}
 use Rattle.ttlv.proofs.Sizes.{length-head}
-use Rattle.ttlv_put.proofs.Sizes.{length-value, encode-nil, encode-value, encode-group}
+use Rattle.ttlv_put.proofs.Sizes.{length-value, encode-nil}
 use Rattle.ttlv_put.proofs.Holds.{wrote-size, holds-none, holds-wrote, holds-value, holds-then, holds-front, holds-join, holds-group, holds-length, holds-left}
-use Rattle.answer.specs.Tags.{resultStatus, responsePayload}
-use Rattle.answer.specs.Respond.{word, long, success, succeeded}
-use Rattle.answer_write.specs.Puts.{Puts, opening}
+use Rattle.answer.specs.Respond.{word, long}
+use Rattle.attributes_write.specs.Puts.{Puts}
 
 -- ---- one item
 
 -- a number of 1 to 8 bytes takes 16 in all
-number-size : (width tag kind bits : ℕ) → 0 < width → width ≤ 8 → 16 ≡ length (encode (value tag kind (be width bits) nil))
+pub number-size : (width tag kind bits : ℕ) → 0 < width → width ≤ 8 → 16 ≡ length (encode (value tag kind (be width bits) nil))
 number-size width tag kind bits h k = sym (length-value tag kind (be width bits) ∙ rw (length-be width bits) (omega arith))
 
 puts-number : (width tag kind bits : ℕ) {room after : List ℕ} {r : ℕ} → 0 < width → width ≤ 8
@@ -113,29 +112,3 @@ puts-group tag room {t = t} {n = n} {ys = ys} p w l s =
       few = omega (arith, p .few);
       holds = holds-group (tagOf tag) n t (p .holds .size) (holds-front 8 l (length-head (tagOf tag) structure n) (p .holds) h);
     }
-
--- ---- a success
-
-opening-size : (n : ℕ) → length (opening n) ≡ 24
-opening-size n = rw (length-append, ← number-size 4 resultStatus enumeration success (omega arith) (omega arith), length-head)
-
-succeeded-is : (t : Items) → encode (succeeded t) ≡ opening (length (encode t)) ++ encode t
-succeeded-is t =
-    let status = encode (word resultStatus enumeration success nil) in
-    let payload = head responsePayload structure (length (encode t)) in
-    encode-value resultStatus enumeration (be 4 success) (group responsePayload t nil) ∙ ap (λ x. status ++ x) (encode-group responsePayload t) ∙ sym (append-assoc status payload (encode t))
-
--- the payload was written behind the room of these
-pub opening-room : (room : List ℕ) {t : Items} {a n : ℕ} {ys : List ℕ} → Puts a t (midOf 24 (length room - 24) room) ys n → 24 ≤ length room → a ≤ 224
-    → (24 + n ≤ length (putMid 24 (length room - 24) room ys)) × (n ≤ 224) × (n % 8 ≡ 0)
-opening-room room {ys = ys} p l s =
-    let e = lent-length 24 room ys (holds-length (p .holds)) in
-    let left : length (midOf 24 (length room - 24) room) ≡ length room - 24 = rw (length-take, length-drop) (omega arith) in
-    (omega (arith, e, p .holds .within), omega (arith, p .few), puts-eights p)
-
--- and then they in front of it
-pub puts-succeeded : (most : ℕ) (room : List ℕ) {t : Items} {a n r : ℕ} {ys after : List ℕ} → Puts a t (midOf 24 (length room - 24) room) ys n
-    → (r ≡ 24 + n) × Holds (opening n) (putMid 24 (length room - 24) room ys) after 24 → 24 ≤ length room → 24 + a ≤ most → Puts most (succeeded t) room after r
-puts-succeeded most room {t = t} {n = n} {after = after} p w l s =
-    let g : Holds (opening n ++ encode t) room after (24 + n) = holds-front 24 l (opening-size n) (p .holds) (w .1) in
-    rw (w .0) (record { few = omega (arith, p .few); holds = rw (succeeded-is t, ← p .holds .size) g })

@@ -1,13 +1,13 @@
--- `answer_write::write_link_body`. The type, and the name behind it.
+-- `attributes_write::write_link_body`. The type, and the name behind it.
 -- Assumes nothing.
 use native.Mathlib.Omega.{arith}
 use Rattle.ttlv_types.specs.Types.{enumeration}
 use Rattle.answer.specs.Tags.{linkType}
 use Rattle.ttlv_put.specs.Write.{join}
-use Rattle.answer_write.proofs.Compose.{puts-word, puts-then}
+use Rattle.attributes_write.proofs.Compose.{puts-word, puts-then}
 use borrow.Author.Needs.{needs}
-use Rattle.answer_write.proofs.write_link_body.Statement.{statement}
-use Rattle.answer_write.proofs.write_link_body.Tie as tie
+use Rattle.attributes_write.proofs.write_link_body.Statement.{statement}
+use Rattle.attributes_write.proofs.write_link_body.Tie as tie
 
 write-enumeration-requires : tie.Need-write-enumeration-requires
 write-enumeration-requires c κs = search needs

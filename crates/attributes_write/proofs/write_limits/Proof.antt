@@ -1,12 +1,12 @@
--- `answer_write::write_limits`. Nothing without a unit; else the body, and its head in front.
+-- `attributes_write::write_limits`. Nothing without a unit; else the body, and its head in front.
 -- Assumes nothing.
 use native.Mathlib.Omega.{arith}
 use borrow.Author.Tests.{eq-eqb, ne-eqb}
 use Rattle.answer.specs.Respond.{limitItems}
-use Rattle.answer_write.proofs.Compose.{puts-absent, puts-present, puts-group}
+use Rattle.attributes_write.proofs.Compose.{puts-absent, puts-present, puts-group}
 use borrow.Author.Needs.{needs}
-use Rattle.answer_write.proofs.write_limits.Statement.{statement}
-use Rattle.answer_write.proofs.write_limits.Tie as tie
+use Rattle.attributes_write.proofs.write_limits.Statement.{statement}
+use Rattle.attributes_write.proofs.write_limits.Tie as tie
 
 returns : tie.Need-returns
 unfolding limitItems

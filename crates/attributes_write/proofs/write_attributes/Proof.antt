@@ -1,10 +1,10 @@
--- `answer_write::write_attributes`. The body, and its head in front.
+-- `attributes_write::write_attributes`. The body, and its head in front.
 -- Assumes nothing.
 use native.Mathlib.Omega.{arith}
-use Rattle.answer_write.proofs.Compose.{puts-group}
+use Rattle.attributes_write.proofs.Compose.{puts-group}
 use borrow.Author.Needs.{needs}
-use Rattle.answer_write.proofs.write_attributes.Statement.{statement}
-use Rattle.answer_write.proofs.write_attributes.Tie as tie
+use Rattle.attributes_write.proofs.write_attributes.Statement.{statement}
+use Rattle.attributes_write.proofs.write_attributes.Tie as tie
 
 sub-write-attribute-items : tie.Need-sub-write-attribute-items
 sub-write-attribute-items c = search needs
