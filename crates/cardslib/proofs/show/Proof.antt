@@ -55,17 +55,17 @@ slice-aggregate-name c = sym (length-take-le _ _ (omega arith))
 name-requires : tie.Need-name-requires
 name-requires c κs = search needs
 
-sub-bytes : tie.Need-sub-bytes
-sub-bytes c = search needs
+sub-line : tie.Need-sub-line
+sub-line c = search needs
 
-part-bytes-start : tie.Need-part-bytes-start
-part-bytes-start c = search needs
+part-line-start : tie.Need-part-line-start
+part-line-start c = search needs
 
-part-bytes-end : tie.Need-part-bytes-end
-part-bytes-end c = search needs
+part-line-end : tie.Need-part-line-end
+part-line-end c = search needs
 
-bytes-requires : tie.Need-bytes-requires
-bytes-requires c κs = search needs
+line-requires : tie.Need-line-requires
+line-requires c κs = search needs
 
 returns-4 : tie.Need-returns-4
 returns-4 c = search needs
@@ -90,8 +90,8 @@ show-spec =
     add-end
     slice-aggregate-name
     name-requires
-    sub-bytes
-    part-bytes-start
-    part-bytes-end
-    bytes-requires
+    sub-line
+    part-line-start
+    part-line-end
+    line-requires
     returns-4)

@@ -18,11 +18,11 @@ returns c = search needs
 loop-holds : tie.Need-loop-holds Inv-loop μ-loop
 loop-holds c = search needs
 
-shared-slice-read-digit : tie.Need-shared-slice-read-digit Inv-loop μ-loop
-shared-slice-read-digit c = search needs
+shared-slice-read-value-of : tie.Need-shared-slice-read-value-of Inv-loop μ-loop
+shared-slice-read-value-of c = search needs
 
-digit-requires : tie.Need-digit-requires Inv-loop μ-loop
-digit-requires c κs = search needs
+value-of-requires : tie.Need-value-of-requires Inv-loop μ-loop
+value-of-requires c κs = search needs
 
 cast-d : tie.Need-cast-d Inv-loop μ-loop
 cast-d c = search needs
@@ -59,8 +59,8 @@ number-in-spec =
     μ-loop
     returns
     loop-holds
-    shared-slice-read-digit
-    digit-requires
+    shared-slice-read-value-of
+    value-of-requires
     cast-d
     returns-2
     returns-3
