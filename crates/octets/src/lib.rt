@@ -1,7 +1,7 @@
 // Numbers and runs of bytes in lent bytes, the highest byte first: the layer under everything else.
 // It knows nothing of TTLV, tables or keys. Where a function asks for room, every caller shows it.
 ghost use mathlib.Core.Path.{_≡_};
-ghost use Prim.Native.Nat.{ℕ, _+_, _^_, _≤_, _<_, min};
+ghost use Prim.Native.Nat.{_+_, _^_, _≤_, _<_, min};
 ghost use lib.ListN.{length, take};
 ghost use lib.Seq.{sets};
 ghost use Rattle.octets.specs.Octets.{be, fromBe, part, all, isZero};

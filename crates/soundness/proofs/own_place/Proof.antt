@@ -3,7 +3,6 @@
 use Prim.Native.Nat.{_-_}
 use mathlib.Core.Path.{sym, ap, _∙_}
 use borrow.Author.Needs.{needs}
-use Rattle.search.specs.Search.{find}
 use Rattle.soundness.specs.Checked.{isAt}
 use Rattle.soundness.proofs.Checked.{top-own}
 use Rattle.soundness.proofs.own_place.Statement.{statement}
