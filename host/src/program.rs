@@ -1,27 +1,65 @@
 //! The proved engine as the program `feed`, which is spoken to over pipes, on any machine: docs/CONTRACTS.md has the form.
 //! One process serves a whole run, one call at a time, so that neither side waits for the other. Assumed: it is the proved one.
+//! A program that does not answer is ended, so that a test on it fails and does not wait.
 
 use crate::Served;
 use std::io::{self, Read, Write};
-use std::process::{Child, Command, Stdio};
-use std::sync::{LazyLock, Mutex};
+use std::process::{Child, ChildStdin, ChildStdout, Command, Stdio};
+use std::sync::{LazyLock, Mutex, MutexGuard, PoisonError};
+use std::thread;
+use std::time::{Duration, Instant};
 
 const RUN: &str = concat!(env!("CARGO_MANIFEST_DIR"), "/../tools/run");
 
-static FEED: LazyLock<Mutex<Child>> = LazyLock::new(|| {
+/// How long one call may take. The longest takes some milliseconds.
+const PATIENCE: Duration = Duration::from_secs(60);
+
+/// The pipes to the program. Whoever holds them makes the one call that is under way.
+static PIPES: LazyLock<Mutex<(ChildStdin, ChildStdout)>> = LazyLock::new(|| {
     let feed = Command::new(RUN).arg("feed").stdin(Stdio::piped()).stdout(Stdio::piped()).spawn();
-    Mutex::new(feed.unwrap_or_else(|error| panic!("tools/run cannot be started: {error}")))
+    let mut feed = feed.unwrap_or_else(|error| panic!("tools/run cannot be started: {error}"));
+    let pipes = (feed.stdin.take().expect("a pipe was asked for"), feed.stdout.take().expect("a pipe was asked for"));
+    held(&WATCHED).program = Some(feed);
+    thread::spawn(watch);
+    Mutex::new(pipes)
 });
+
+/// The program, and since when a call is under way.
+struct Watched {
+    program: Option<Child>,
+    since: Option<Instant>,
+}
+
+static WATCHED: Mutex<Watched> = Mutex::new(Watched { program: None, since: None });
+
+/// What a lock holds, also where a test failed while it had it.
+fn held<T>(lock: &Mutex<T>) -> MutexGuard<'_, T> {
+    lock.lock().unwrap_or_else(PoisonError::into_inner)
+}
+
+/// Ends the program when a call takes too long; the call then finds its pipe closed.
+fn watch() {
+    loop {
+        thread::sleep(PATIENCE / 60);
+        let mut watched = held(&WATCHED);
+        let late = watched.since.is_some_and(|since| PATIENCE < since.elapsed());
+        if let (true, Some(program)) = (late, &mut watched.program) {
+            // one that has ended already is as good
+            let _ = program.kill();
+        }
+    }
+}
 
 /// Serves one request, as the engine does, on buffers that the program can hold: at most 8,192 bytes, the strip 1,024.
 pub fn serve(request: &[u8], table: &mut [u8], fresh: &[u8], clock: i64, out: &mut [u8]) -> Served {
-    let mut feed = FEED.lock().expect("no call of the program failed before");
+    let mut pipes = PIPES.lock().expect("no call of the program failed before");
     let case = case(request, table, fresh, clock, out);
     let mut left = vec![0; 12 + table.len() + out.len()];
-    if let Err(error) = exchange(&mut feed, &case, &mut left) {
-        feed.stdout = None;
-        let status = feed.wait().map_or("no status".to_string(), |status| status.to_string());
-        panic!("the program feed ended ({error}; {status}): what it or tools/run said stands on standard error");
+    held(&WATCHED).since = Some(Instant::now());
+    let exchanged = exchange(&mut pipes, &case, &mut left);
+    held(&WATCHED).since = None;
+    if let Err(error) = exchanged {
+        panic!("the program feed ended ({error}; {}): what it or tools/run said stands on standard error", status());
     }
     let (front, rest) = left.split_at(12);
     let (after, written) = rest.split_at(table.len());
@@ -46,10 +84,23 @@ fn case(request: &[u8], table: &[u8], fresh: &[u8], clock: i64, out: &[u8]) -> V
 }
 
 /// Writes a call whole, then reads all that it left.
-fn exchange(feed: &mut Child, case: &[u8], left: &mut [u8]) -> io::Result<()> {
-    let (Some(input), Some(output)) = (&mut feed.stdin, &mut feed.stdout) else {
-        return Err(io::ErrorKind::BrokenPipe.into());
-    };
+fn exchange((input, output): &mut (ChildStdin, ChildStdout), case: &[u8], left: &mut [u8]) -> io::Result<()> {
     input.write_all(case)?;
     output.read_exact(left)
+}
+
+/// How the program ended. One that has only closed a pipe has a second to end by itself.
+fn status() -> String {
+    let mut watched = held(&WATCHED);
+    let Some(program) = &mut watched.program else {
+        return "never started".to_string();
+    };
+    for _ in 0..20 {
+        if let Ok(Some(status)) = program.try_wait() {
+            return status.to_string();
+        }
+        thread::sleep(Duration::from_millis(50));
+    }
+    let _ = program.kill();
+    "not ended by itself".to_string()
 }

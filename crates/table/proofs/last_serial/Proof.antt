@@ -13,7 +13,7 @@ cast-result c = search needs
 
 returns : tie.Need-returns
 unfolding lastSerial
-returns c = cc
+returns c = c .number-at .ensures .0
 
 pub last-serial-spec : {M : Type 1} → statement M
 last-serial-spec = tie.close (tie.spec number-at-requires cast-result returns)

@@ -13,7 +13,7 @@ cast-result c = search needs
 
 returns : tie.Need-returns
 unfolding placesSaid
-returns c = cc
+returns c = c .number-at .ensures .0
 
 pub places-said-spec : {M : Type 1} → statement M
 places-said-spec = tie.close (tie.spec number-at-requires cast-result returns)

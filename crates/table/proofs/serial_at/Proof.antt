@@ -1,5 +1,8 @@
 -- `table::serial_at`. The serial is the first field of the line.
 -- Assumes nothing.
+use mathlib.Core.Path.{ap, _∙_}
+use Prim.Native.Nat.{ℕ}
+use Rattle.octets.specs.Octets.{fromBe, part}
 use Rattle.table.specs.Records.{serialAt}
 use borrow.Author.Needs.{needs}
 use Rattle.table.proofs.serial_at.Statement.{statement}
@@ -16,7 +19,9 @@ cast-result c = search needs
 
 returns : tie.Need-returns
 unfolding serialAt
-returns c = cc
+returns c =
+    let t = c .before .before .before .args .t .now in
+    c .number-at .ensures .0 ∙ ap (λ (at : ℕ). fromBe (part t at 4)) (c .before .line .ensures)
 
 pub serial-at-spec : {M : Type 1} → statement M
 serial-at-spec = tie.close (tie.spec line-requires number-at-requires cast-result returns)

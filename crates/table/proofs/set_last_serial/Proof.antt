@@ -13,7 +13,7 @@ same-length c = search needs
 
 returns : tie.Need-returns
 unfolding withLast
-returns c = cc
+returns c = c .before .before .put .ensures
 
 pub set-last-serial-spec : {M : Type 1} → statement M
 set-last-serial-spec = tie.close (tie.spec put-requires same-length returns)
