@@ -1,12 +1,13 @@
 -- What `perform` and the functions below it leave, said by the plans.
 -- Assumes nothing.
-use Prim.Native.Nat.{ℕ}
+use Prim.Native.Nat.{ℕ, _<_}
 use mathlib.Core.List.{List, []}
 use lib.Dec.{eqb}
 use Rattle.octets.specs.If.{ifb}
 use Rattle.table.specs.declared.Record.{Record}
 use Rattle.search.specs.declared.Found.{Found}
 use Rattle.search.specs.declared.Found.the-variants.{At, Nothing}
+use Rattle.table.specs.Layout.{Place}
 use Rattle.table.specs.Records.{placeAt, withPlace, lastSerial}
 use Rattle.search.specs.Search.{newPlace}
 use Rattle.rules.specs.declared.Reason.{Reason}
@@ -56,6 +57,11 @@ performing n fresh holder t command = carriedOut t (plan (inPlaces n fresh) hold
 -- where a new object goes: nowhere if every serial is issued
 unfoldable pub roomFor : ℕ → List ℕ → Found
 roomFor n t = ifb (eqb (lastSerial t) serialMost) Nothing (newPlace n t)
+
+-- what storing an heir asks: the old record's place, and another one of the table's
+pub record TwoPlaces (n : ℕ) (t : List ℕ) (i place : ℕ) : Type 0 where
+  pub old : Place n t i
+  pub below : place < n
 
 -- the table in which the record at place i names its replacement
 unfoldable pub linkedAt : ℕ → List ℕ → ℕ → Record → List ℕ

@@ -1,15 +1,12 @@
 // One batch item carried out on the table. It touches no output.
-// Functions over a table of n places ask for its size alone: the ladder shows it before an item is carried out, and every item keeps it.
 ghost use mathlib.Core.Path.{_≡_};
 ghost use mathlib.Core.List.{[]};
-ghost use Prim.Native.Nat.{_<_};
-ghost use lib.ListN.{length};
-ghost use Rattle.table.specs.Layout.{sizeOf};
+ghost use Rattle.table.specs.Layout.{Table, Place};
 ghost use Rattle.table.specs.Records.{placeAt};
 ghost use Rattle.search.specs.declared.Found.the-variants.{At};
 ghost use Rattle.changes.specs.Changes.{bornAt};
 ghost use Rattle.act.specs.Act.{sought, createPlan, rekeyPlan, allocationPlan, isFailed};
-ghost use Rattle.act.specs.Perform.{inPlaces, leaves, failed, showing, storing, roomFor, linkedAt, replacing, carriedOut, movePlan, deedPlan, aboutPlan, performing};
+ghost use Rattle.act.specs.Perform.{TwoPlaces, inPlaces, leaves, failed, showing, storing, roomFor, linkedAt, replacing, carriedOut, movePlan, deedPlan, aboutPlan, performing};
 use payload::Command;
 use payload::Target;
 use rules::Attributes;
@@ -95,7 +92,7 @@ fn sought(holder: u32, target: Target) -> u32
 
 // Where a new object goes: nowhere if every serial is issued, else the table's place for a new key.
 fn room(t: &[u8], n: usize) -> Found
-    requires { ⌜ length (now t) ≡ sizeOf n ⌝ }
+    requires { ⌜ Table n (now t) ⌝ }
     ensures { λ r. ⌜ r ≡ roomFor n (now (t .entry)) ⌝ }
 {
     if table::last_serial(t) == SERIAL_MOST {
@@ -106,7 +103,7 @@ fn room(t: &[u8], n: usize) -> Found
 
 // Stores a new record at place i; its serial is the last issued from then on.
 fn put_born(t: &mut [u8], n: usize, i: usize, born: Record)
-    requires { ⌜ (length (now t) ≡ sizeOf n) × (i < n) ⌝ }
+    requires { ⌜ Place n (now t) i ⌝ }
     ensures { λ _. ⌜ now (t .exit) ≡ bornAt n (now (t .entry)) born (At i) ⌝ }
 {
     let serial = born.serial;
@@ -116,7 +113,7 @@ fn put_born(t: &mut [u8], n: usize, i: usize, born: Record)
 
 // Lets the record at place i name its replacement, and stores that at a place of its own.
 fn put_heir(t: &mut [u8], n: usize, i: usize, place: usize, heir: Record)
-    requires { ⌜ (length (now t) ≡ sizeOf n) × ((i < n) × (place < n)) ⌝ }
+    requires { ⌜ TwoPlaces n (now t) i place ⌝ }
     ensures { λ _. ⌜ now (t .exit) ≡ bornAt n (linkedAt n (now (t .entry)) i heir) heir (At place) ⌝ }
 {
     let old = records::load(t, n, i);
@@ -127,7 +124,7 @@ fn put_heir(t: &mut [u8], n: usize, i: usize, place: usize, heir: Record)
 
 // Create.
 fn create(t: &mut [u8], n: usize, wanted: Attributes, fresh: &[u8]) -> Performed
-    requires { ⌜ length (now t) ≡ sizeOf n ⌝ }
+    requires { ⌜ Table n (now t) ⌝ }
     ensures { λ r. ⌜ leaves r (now (t .exit)) ≡ carriedOut (now (t .entry)) (createPlan (inPlaces n (now (fresh .entry))) 0 (now (t .entry)) wanted) ⌝ }
 {
     match room(t, n) {
@@ -146,7 +143,7 @@ fn create(t: &mut [u8], n: usize, wanted: Attributes, fresh: &[u8]) -> Performed
 
 // Re-key of the record at place i, which is neither destroyed nor replaced: that its new object has room is left to see.
 fn replace_at(t: &mut [u8], n: usize, i: usize, old: Record, fresh: &[u8]) -> Performed
-    requires { ⌜ (length (now t) ≡ sizeOf n) × (i < n) ⌝ }
+    requires { ⌜ Place n (now t) i ⌝ }
     ensures { λ r. ⌜ leaves r (now (t .exit)) ≡ replacing n (now (fresh .entry)) (now (t .entry)) i old (roomFor n (now (t .entry))) ⌝ }
 {
     match room(t, n) {
@@ -165,7 +162,7 @@ fn replace_at(t: &mut [u8], n: usize, i: usize, old: Record, fresh: &[u8]) -> Pe
 
 // Re-key of the record at place i.
 fn rekey_at(t: &mut [u8], n: usize, i: usize, fresh: &[u8]) -> Performed
-    requires { ⌜ (length (now t) ≡ sizeOf n) × (i < n) ⌝ }
+    requires { ⌜ Place n (now t) i ⌝ }
     ensures { λ r. ⌜ leaves r (now (t .exit)) ≡ carriedOut (now (t .entry)) (rekeyPlan (inPlaces n (now (fresh .entry))) 0 (now (t .entry)) i (placeAt n (now (t .entry)) i)) ⌝ }
 {
     let old = records::load(t, n, i);
@@ -180,7 +177,7 @@ fn rekey_at(t: &mut [u8], n: usize, i: usize, fresh: &[u8]) -> Performed
 
 // Stores the record at place i anew, and answers its serial; the placeholder stays.
 fn store_at(t: &mut [u8], n: usize, i: usize, holder: u32, changed: Record) -> Performed
-    requires { ⌜ (length (now t) ≡ sizeOf n) × (i < n) ⌝ }
+    requires { ⌜ Place n (now t) i ⌝ }
     ensures { λ r. ⌜ leaves r (now (t .exit)) ≡ storing n holder (now (t .entry)) i changed ⌝ }
 {
     let serial = changed.serial;
@@ -193,7 +190,7 @@ fn store_at(t: &mut [u8], n: usize, i: usize, holder: u32, changed: Record) -> P
 
 // Get Usage Allocation of the record at place i.
 fn allocate_at(t: &mut [u8], n: usize, i: usize, holder: u32, amount: u64) -> Performed
-    requires { ⌜ (length (now t) ≡ sizeOf n) × (i < n) ⌝ }
+    requires { ⌜ Place n (now t) i ⌝ }
     ensures { λ r. ⌜ leaves r (now (t .exit)) ≡ carriedOut (now (t .entry)) (allocationPlan (inPlaces n []) holder (now (t .entry)) amount i (placeAt n (now (t .entry)) i)) ⌝ }
 {
     let old = records::load(t, n, i);
@@ -208,7 +205,7 @@ fn allocate_at(t: &mut [u8], n: usize, i: usize, holder: u32, amount: u64) -> Pe
 
 // Activate, Revoke or Destroy of the record at place i.
 fn move_at(t: &mut [u8], n: usize, i: usize, holder: u32, operation: u32, code: u32) -> Performed
-    requires { ⌜ (length (now t) ≡ sizeOf n) × (i < n) ⌝ }
+    requires { ⌜ Place n (now t) i ⌝ }
     ensures { λ r. ⌜ leaves r (now (t .exit)) ≡ carriedOut (now (t .entry)) (movePlan n holder (now (t .entry)) operation code i (placeAt n (now (t .entry)) i)) ⌝ }
 {
     let old = records::load(t, n, i);
@@ -223,7 +220,7 @@ fn move_at(t: &mut [u8], n: usize, i: usize, holder: u32, operation: u32, code: 
 
 // Get Attributes of the record at place i.
 fn show_at(t: &[u8], n: usize, i: usize, holder: u32) -> Performed
-    requires { ⌜ (length (now t) ≡ sizeOf n) × (i < n) ⌝ }
+    requires { ⌜ Place n (now t) i ⌝ }
     ensures { λ r. ⌜ r ≡ showing holder (placeAt n (now (t .entry)) i) ⌝ }
 {
     let shown = records::load(t, n, i);
@@ -247,7 +244,7 @@ fn show_at(t: &[u8], n: usize, i: usize, holder: u32) -> Performed
 
 // What is asked of the record at place i.
 fn act_at(t: &mut [u8], n: usize, i: usize, holder: u32, deed: Deed, fresh: &[u8]) -> Performed
-    requires { ⌜ (length (now t) ≡ sizeOf n) × (i < n) ⌝ }
+    requires { ⌜ Place n (now t) i ⌝ }
     ensures { λ r. ⌜ leaves r (now (t .exit)) ≡ carriedOut (now (t .entry)) (deedPlan (inPlaces n (now (fresh .entry))) holder (now (t .entry)) deed i (placeAt n (now (t .entry)) i)) ⌝ }
 {
     match deed {
@@ -267,7 +264,7 @@ fn act_on(
     deed: Deed,
     fresh: &[u8],
 ) -> Performed
-    requires { ⌜ length (now t) ≡ sizeOf n ⌝ }
+    requires { ⌜ Table n (now t) ⌝ }
     ensures { λ r. ⌜ leaves r (now (t .exit)) ≡ carriedOut (now (t .entry)) (aboutPlan (inPlaces n (now (fresh .entry))) holder (now (t .entry)) deed target) ⌝ }
 {
     let serial = sought(holder, target);
@@ -279,7 +276,7 @@ fn act_on(
 
 // One command carried out on the stored table: its answer, the placeholder after it, and the table that it leaves.
 pub fn perform(t: &mut [u8], n: usize, holder: u32, command: Command, fresh: &[u8]) -> Performed
-    requires { ⌜ length (now t) ≡ sizeOf n ⌝ }
+    requires { ⌜ Table n (now t) ⌝ }
     ensures { λ r. ⌜ leaves r (now (t .exit)) ≡ performing n (now (fresh .entry)) holder (now (t .entry)) command ⌝ }
 {
     match command {

@@ -9,7 +9,7 @@ use lib.ListN.{length, length-append}
 use Rattle.octets.proofs.Numbers.{length-be}
 use Rattle.ttlv_types.specs.Types.{structure}
 use Rattle.ttlv.specs.Items.{Items, nil, group, head, encode}
-use Rattle.answer.specs.Tags.{responseHeader}
+use Rattle.tags.specs.Tags.{responseHeader}
 use Rattle.answer.specs.Respond.{Answer, Response, batchItems, versionItems, headerItems, respond}
 use Rattle.answer.specs.Read.{allowed}
 use Rattle.answer.specs.Front.{headerSize, frameSize, responseMost, front}

@@ -14,7 +14,7 @@ use Rattle.ttlv_types.specs.Types.{longInteger, enumeration}
 use Rattle.ttlv.specs.Items.{Items, nil, group, ended}
 use Rattle.fields.specs.Fields.{startsWith, bodyOf, optional}
 use Rattle.octets.proofs.Bools.{both}
-use Rattle.payload.specs.Tags.{usageLimits, usageLimitsCount, usageLimitsTotal, usageLimitsUnit}
+use Rattle.tags.specs.Tags.{usageLimits, usageLimitsCount, usageLimitsTotal, usageLimitsUnit}
 use Rattle.values.specs.Values.{unitOk, totalOk}
 use Rattle.act.specs.declared.Shown.{Shown}
 use Rattle.answer.specs.Respond.{word, long, limitItems}

@@ -14,10 +14,9 @@ use Rattle.ttlv_types.specs.Types.{enumeration}
 use Rattle.ttlv.specs.Items.{Items, nil, group, ended}
 use Rattle.fields.specs.Fields.{startsWith, bodyOf}
 use Rattle.octets.proofs.Bools.{and-i}
-use Rattle.payload.specs.Tags.{usageLimits}
-use Rattle.answer.specs.Tags.{link, linkType, linkedObjectIdentifier, replacedObjectLink, replacementObjectLink}
+use Rattle.tags.specs.Tags.{usageLimits, link, linkType, linkedObjectIdentifier}
 use Rattle.changes.specs.Changes.{serialMost}
-use Rattle.answer.specs.Respond.{word, named, linkItems}
+use Rattle.answer.specs.Respond.{word, named, linkItems, replacedObjectLink, replacementObjectLink}
 use Rattle.answer.specs.Read.{linkFirst, orNoLink, linkIn, linkOk, serialOk}
 use Rattle.octets.proofs.Maybe.{some-is, on-bind, on-test}
 use Rattle.answer.proofs.Fields.{ended-is, body-spells, fixed-back, fixed-spells, fixed-other, serial-in-back, serial-in-spells}

@@ -15,7 +15,7 @@ use Rattle.ttlv_types.specs.Types.{enumeration}
 use Rattle.ttlv.specs.Items.{Items, nil, ended}
 use Rattle.fields.specs.Fields.{bodyOf}
 use Rattle.octets.proofs.Bools.{both}
-use Rattle.answer.specs.Tags.{responsePayload, resultReason, resultStatus}
+use Rattle.tags.specs.Tags.{responsePayload, resultReason, resultStatus}
 use Rattle.rules.specs.declared.Reason.{Reason}
 use Rattle.rules.specs.declared.Reason.the-variants.{OperationNotSupported, InvalidField, ObjectNotFound, ObjectDestroyed, PermissionDenied, WrongKeyLifecycleState, UsageLimitExceeded, ServerLimitExceeded}
 use Rattle.rules.specs.Numbers.{reasonNumber, create, getAttributes}

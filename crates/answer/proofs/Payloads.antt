@@ -13,13 +13,13 @@ use Rattle.ttlv_types.specs.Types.{integer, enumeration}
 use Rattle.ttlv.specs.Items.{Items, nil, group, ended}
 use Rattle.fields.specs.Fields.{startsWith, bodyOf}
 use Rattle.octets.proofs.Bools.{both}
-use Rattle.payload.specs.Tags.{attributes, cryptographicAlgorithm, cryptographicLength, cryptographicUsageMask, objectType, uniqueIdentifier, usageLimits, symmetricKey, aes}
-use Rattle.answer.specs.Tags.{stateTag, replacedObjectLink, replacementObjectLink}
+use Rattle.tags.specs.Tags.{attributes, cryptographicAlgorithm, cryptographicLength, cryptographicUsageMask, objectType, uniqueIdentifier, usageLimits, stateTag}
+use Rattle.payload.specs.Payload.{symmetricKey, aes}
 use Rattle.values.specs.Values.{bitsOk, maskOk}
 use Rattle.act.specs.declared.Shown.{Shown}
 use Rattle.act.specs.declared.Outcome.{Outcome}
 use Rattle.act.specs.declared.Outcome.the-variants.{Created, Done, Showed}
-use Rattle.answer.specs.Respond.{word, named, limitItems, linkItems, attributeItems}
+use Rattle.answer.specs.Respond.{word, named, limitItems, linkItems, attributeItems, replacedObjectLink, replacementObjectLink}
 use Rattle.answer.specs.Read.{linkFirst, shownIn, createdIn, doneIn, showedIn, linkOk, serialOk, shownOk}
 use Rattle.octets.proofs.Maybe.{some-is, on-bind, on-test}
 use Rattle.answer.proofs.Fields.{ended-is, body-spells, spelled-back, spelled-spells, fixed-back, fixed-spells, serial-in-back, serial-in-spells}

@@ -15,13 +15,12 @@ use Rattle.ttlv.proofs.Sizes.{size, size-nil, size-value, size-group}
 use Rattle.octets.proofs.Bools.{both}
 use Rattle.identifier.specs.Identifier.{identifier}
 use Rattle.identifier.proofs.Texts.{length-identifier}
-use Rattle.frame.specs.Tags.{batchItem}
+use Rattle.tags.specs.Tags.{batchItem}
 use Rattle.frame.specs.Frame.{idMost}
-use Rattle.answer.specs.Tags.{replacedObjectLink, replacementObjectLink}
 use Rattle.act.specs.declared.Shown.{Shown}
 use Rattle.act.specs.declared.Outcome.{Outcome}
 use Rattle.act.specs.declared.Outcome.the-variants.{Failed, Created, Done, Showed}
-use Rattle.answer.specs.Respond.{Answer, word, long, named, limitItems, linkItems, attributeItems, outcomeItems, idItems, answerItems, batchItems}
+use Rattle.answer.specs.Respond.{Answer, word, long, named, limitItems, linkItems, attributeItems, outcomeItems, idItems, answerItems, batchItems, replacedObjectLink, replacementObjectLink}
 use Rattle.answer.specs.Read.{answerOk}
 use Rattle.answer.specs.Front.{longestItem}
 use Rattle.answer.proofs.Answers.{answer-facts}

@@ -12,22 +12,21 @@ use Rattle.octets.specs.If.{ifb}
 use Rattle.octets.specs.Octets.{be, all}
 use Rattle.octets.proofs.If.{on-if}
 use Rattle.octets.proofs.Numbers.{length-be}
-use Rattle.ttlv_types.specs.Types.{structure, tagLead, integer, longInteger, enumeration, textString, byteString, dateTime, lengthOk, text, valueOk}
-use Rattle.ttlv.specs.Items.{Items, nil, value, group, tagOk, itemOk, wellFormed}
+use Rattle.ttlv_types.specs.Types.{structure, integer, longInteger, enumeration, textString, byteString, dateTime, lengthOk, text, valueOk}
+use Rattle.tags.specs.Tags.{tagLead, tagOk, batchCount, batchItem, operationTag, protocolVersion, protocolVersionMajor, protocolVersionMinor, uniqueBatchItemId, attributes, cryptographicAlgorithm, cryptographicLength, cryptographicUsageMask, objectType, uniqueIdentifier, usageLimits, usageLimitsCount, usageLimitsTotal, usageLimitsUnit, link, linkType, linkedObjectIdentifier, responseHeader, responseMessage, responsePayload, resultReason, resultStatus, stateTag, timeStamp}
+use Rattle.payload.specs.Payload.{symmetricKey, aes}
+use Rattle.ttlv.specs.Items.{Items, nil, value, group, itemOk, wellFormed}
 use Rattle.ttlv.specs.Parse.{depthMost}
 use Rattle.octets.proofs.Bools.{both, and-i}
 use Rattle.ttlv.proofs.Fine.{group-well}
 use Rattle.identifier.specs.Identifier.{identifier}
 use Rattle.identifier.proofs.Texts.{length-identifier, identifier-text}
-use Rattle.frame.specs.Tags.{batchCount, batchItem, operationTag, protocolVersion, protocolVersionMajor, protocolVersionMinor, uniqueBatchItemId}
 use Rattle.frame.specs.Frame.{idMost}
-use Rattle.payload.specs.Tags.{attributes, cryptographicAlgorithm, cryptographicLength, cryptographicUsageMask, objectType, uniqueIdentifier, usageLimits, usageLimitsCount, usageLimitsTotal, usageLimitsUnit, symmetricKey, aes}
-use Rattle.answer.specs.Tags.{link, linkType, linkedObjectIdentifier, responseHeader, responseMessage, responsePayload, resultReason, resultStatus, stateTag, timeStamp, replacedObjectLink, replacementObjectLink}
 use Rattle.rules.specs.Numbers.{reasonNumber}
 use Rattle.act.specs.declared.Shown.{Shown}
 use Rattle.act.specs.declared.Outcome.{Outcome}
 use Rattle.act.specs.declared.Outcome.the-variants.{Failed, Created, Done, Showed}
-use Rattle.answer.specs.Respond.{Answer, Response, word, long, named, limitItems, linkItems, attributeItems, success, operationFailed, succeeded, outcomeItems, idItems, answerItems, batchItems, versionItems, headerItems, respond}
+use Rattle.answer.specs.Respond.{Answer, Response, word, long, named, limitItems, linkItems, attributeItems, success, operationFailed, succeeded, outcomeItems, idItems, answerItems, batchItems, versionItems, headerItems, respond, replacedObjectLink, replacementObjectLink}
 use Rattle.answer.specs.Read.{Limits, answerOk, allowed}
 use Rattle.answer.specs.Front.{responseMost}
 use Rattle.answer.proofs.Links.{linked}

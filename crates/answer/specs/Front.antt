@@ -5,7 +5,7 @@ use mathlib.Core.List.{List, _++_}
 use Rattle.ttlv_types.specs.Types.{structure}
 use Rattle.ttlv.specs.Items.{nil, group, head, encode}
 use Rattle.frame.specs.Frame.{batchMost}
-use Rattle.answer.specs.Tags.{responseHeader, responseMessage}
+use Rattle.tags.specs.Tags.{responseHeader, responseMessage}
 use Rattle.answer.specs.Respond.{headerItems}
 
 -- the header: its head, version, Time Stamp, Batch Count

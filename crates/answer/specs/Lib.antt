@@ -1,6 +1,5 @@
 -- Responses: the answers as items, and the items read back.
 -- Assumes nothing.
-pub mod Tags
 pub mod Respond
 pub mod Read
 pub mod Front

@@ -12,9 +12,8 @@ use Rattle.octets.specs.Octets.{be, fromBe, same, all}
 use Rattle.ttlv_types.specs.Types.{integer, longInteger, enumeration, textString, byteString, dateTime}
 use Rattle.ttlv.specs.Items.{Items, nil, value, group, ended}
 use Rattle.fields.specs.Fields.{bytesOf, bodyOf, optional}
-use Rattle.frame.specs.Tags.{batchCount, batchItem, operationTag, protocolVersion, protocolVersionMajor, protocolVersionMinor, uniqueBatchItemId}
-use Rattle.payload.specs.Tags.{attributes, cryptographicAlgorithm, cryptographicLength, cryptographicUsageMask, objectType, uniqueIdentifier, usageLimits, usageLimitsCount, usageLimitsTotal, usageLimitsUnit, symmetricKey, aes}
-use Rattle.answer.specs.Tags.{link, linkType, linkedObjectIdentifier, responseHeader, responseMessage, responsePayload, resultReason, resultStatus, stateTag, timeStamp, replacedObjectLink, replacementObjectLink}
+use Rattle.tags.specs.Tags.{batchCount, batchItem, operationTag, protocolVersion, protocolVersionMajor, protocolVersionMinor, uniqueBatchItemId, attributes, cryptographicAlgorithm, cryptographicLength, cryptographicUsageMask, objectType, uniqueIdentifier, usageLimits, usageLimitsCount, usageLimitsTotal, usageLimitsUnit, link, linkType, linkedObjectIdentifier, responseHeader, responseMessage, responsePayload, resultReason, resultStatus, stateTag, timeStamp}
+use Rattle.payload.specs.Payload.{symmetricKey, aes}
 use Rattle.identifier.specs.Identifier.{serialOf}
 use Rattle.values.specs.Values.{bitsOk, maskOk, unitOk, totalOk}
 use Rattle.rules.specs.declared.Reason.{Reason}
@@ -25,7 +24,7 @@ use Rattle.act.specs.declared.Shown.{Shown}
 use Rattle.act.specs.declared.Outcome.{Outcome}
 use Rattle.act.specs.declared.Outcome.the-variants.{Failed, Created, Done, Showed}
 use Rattle.frame.specs.Frame.{idMost, idOk, idBytes, batchMost}
-use Rattle.answer.specs.Respond.{Answer, Response, success, operationFailed}
+use Rattle.answer.specs.Respond.{Answer, Response, success, operationFailed, replacedObjectLink, replacementObjectLink}
 
 -- ---- fields, in their one spelling
 

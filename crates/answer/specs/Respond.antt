@@ -8,9 +8,8 @@ use Rattle.octets.specs.If.{ifb}
 use Rattle.octets.specs.Octets.{be}
 use Rattle.ttlv_types.specs.Types.{integer, longInteger, enumeration, textString, byteString, dateTime}
 use Rattle.ttlv.specs.Items.{Items, nil, value, group}
-use Rattle.frame.specs.Tags.{batchCount, batchItem, operationTag, protocolVersion, protocolVersionMajor, protocolVersionMinor, uniqueBatchItemId}
-use Rattle.payload.specs.Tags.{attributes, cryptographicAlgorithm, cryptographicLength, cryptographicUsageMask, objectType, uniqueIdentifier, usageLimits, usageLimitsCount, usageLimitsTotal, usageLimitsUnit, symmetricKey, aes}
-use Rattle.answer.specs.Tags.{link, linkType, linkedObjectIdentifier, responseHeader, responseMessage, responsePayload, resultReason, resultStatus, stateTag, timeStamp, replacedObjectLink, replacementObjectLink}
+use Rattle.tags.specs.Tags.{batchCount, batchItem, operationTag, protocolVersion, protocolVersionMajor, protocolVersionMinor, uniqueBatchItemId, attributes, cryptographicAlgorithm, cryptographicLength, cryptographicUsageMask, objectType, uniqueIdentifier, usageLimits, usageLimitsCount, usageLimitsTotal, usageLimitsUnit, link, linkType, linkedObjectIdentifier, responseHeader, responseMessage, responsePayload, resultReason, resultStatus, stateTag, timeStamp}
+use Rattle.payload.specs.Payload.{symmetricKey, aes}
 use Rattle.identifier.specs.Identifier.{identifier}
 use Rattle.rules.specs.Numbers.{reasonNumber}
 use Rattle.act.specs.declared.Shown.{Shown}
@@ -55,6 +54,13 @@ limitItems s rest =
     (long usageLimitsCount longInteger (s .count)
     (word usageLimitsUnit enumeration (s .unit) nil)))
     rest)
+
+-- "107 hex replaced, then 106 hex replacement"
+abbrev pub replacedObjectLink : ℕ
+replacedObjectLink = 0x107
+
+abbrev pub replacementObjectLink : ℕ
+replacementObjectLink = 0x106
 
 -- "Links { Link Type, Linked Object Identifier, Text String }", if there is one
 unfoldable pub linkItems : ℕ → ℕ → Items → Items

@@ -9,7 +9,7 @@ use mathlib.Core.List.{List, [], _∷_}
 use Rattle.ttlv_types.specs.Types.{byteString}
 use Rattle.ttlv.specs.Items.{Items, nil, value}
 use Rattle.ttlv_put.specs.Write.{join, WroteValue}
-use Rattle.frame.specs.Tags.{uniqueBatchItemId}
+use Rattle.tags.specs.Tags.{uniqueBatchItemId}
 use Rattle.act.specs.declared.Outcome.{Outcome}
 use Rattle.answer.specs.Respond.{idItems, outcomeItems}
 use Rattle.attributes_write.specs.Puts.{Puts}
@@ -28,9 +28,9 @@ id-given [] h = absurd (omega arith)
 id-given (x ∷ v) h = refl
 
 -- its bytes were written
-pub puts-id : (v : List ℕ) {room after : List ℕ} {r : ℕ} → WroteValue true 0x93 byteString v room after r → 0 < length v → length v ≤ 16 → 24 ≤ length room
+pub puts-id : (v : List ℕ) {room after : List ℕ} {r : ℕ} → WroteValue true uniqueBatchItemId byteString v room after r → 0 < length v → length v ≤ 16 → 24 ≤ length room
     → Puts 24 (idItems v nil) room after r
-puts-id v w h k l = rw (id-given v h) (puts-value 24 0x93 byteString v refl w (omega arith) l (omega arith))
+puts-id v w h k l = rw (id-given v h) (puts-value 24 uniqueBatchItemId byteString v refl refl w (omega arith) l (omega arith))
 
 -- what stands behind it
 pub id-join : (id : List ℕ) (u : Items) → join (idItems id nil) u ≡ idItems id u

@@ -1,6 +1,7 @@
 -- How a success is put together: its payload is written first, and then what opens it.
 -- Assumes nothing.
-use mathlib.Core.Path.{_≡_, sym, ap, _∙_}
+use mathlib.Core.Path.{_≡_, refl, sym, ap, _∙_}
+use mathlib.Core.Bool.{true}
 use Prim.Native.Nat.{ℕ, _+_, _-_, _%_, _≤_}
 use native.Mathlib.Omega.{arith}
 use mathlib.Core.List.{List, _++_, append-assoc}
@@ -8,16 +9,18 @@ use lib.ListN.{length, length-append, length-take, length-drop}
 use borrow.Rule.Slice.PartMut.{putMid, midOf}
 use Rattle.octets.specs.Octets.{be}
 use Rattle.octets.proofs.Over.{lent-length}
-use Rattle.ttlv_types.specs.Types.{structure, enumeration}
+use Rattle.ttlv_types.specs.Types.{structure, enumeration, textString}
 use Rattle.ttlv.specs.Items.{Items, nil, group, head, encode}
 use Rattle.ttlv.proofs.Sizes.{length-head}
-use Rattle.ttlv_put.specs.Write.{Holds}
+use Rattle.ttlv_put.specs.Write.{WroteValue, Holds}
 use Rattle.ttlv_put.proofs.Sizes.{encode-value, encode-group}
 use Rattle.ttlv_put.proofs.Holds.{holds-front, holds-length}
-use Rattle.answer.specs.Tags.{resultStatus, responsePayload}
-use Rattle.answer.specs.Respond.{word, success, succeeded}
+use Rattle.tags.specs.Tags.{resultStatus, responsePayload, uniqueIdentifier}
+use Rattle.identifier.specs.Identifier.{identifier}
+use Rattle.answer.specs.Respond.{word, named, success, succeeded}
 use Rattle.attributes_write.specs.Puts.{Puts}
 use Rattle.attributes_write.proofs.Compose.{number-size, puts-eights}
+use Rattle.attributes_write.proofs.Parts.{puts-named}
 use Rattle.answer_write.specs.Answers.{opening}
 
 opening-size : (n : ℕ) → length (opening n) ≡ 24
@@ -28,6 +31,13 @@ succeeded-is t =
     let status = encode (word resultStatus enumeration success nil) in
     let payload = head responsePayload structure (length (encode t)) in
     encode-value resultStatus enumeration (be 4 success) (group responsePayload t nil) ∙ ap (λ x. status ++ x) (encode-group responsePayload t) ∙ sym (append-assoc status payload (encode t))
+
+-- a payload that is a name was written behind the room of these
+pub puts-name : (room : List ℕ) (serial : ℕ) {ys : List ℕ} {n : ℕ} → WroteValue true uniqueIdentifier textString (identifier serial) (midOf 24 (length room - 24) room) ys n → 40 ≤ length room
+    → Puts 16 (named uniqueIdentifier serial nil) (midOf 24 (length room - 24) room) ys n
+puts-name room serial w l =
+    let left : length (midOf 24 (length room - 24) room) ≡ length room - 24 = rw (length-take, length-drop) (omega arith) in
+    puts-named uniqueIdentifier serial refl w (omega arith)
 
 -- the payload was written behind the room of these
 pub opening-room : (room : List ℕ) {t : Items} {a n : ℕ} {ys : List ℕ} → Puts a t (midOf 24 (length room - 24) room) ys n → 24 ≤ length room → a ≤ 224

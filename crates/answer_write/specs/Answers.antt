@@ -7,7 +7,7 @@ use Rattle.ttlv_types.specs.Types.{structure, enumeration}
 use Rattle.ttlv.specs.Items.{nil, head, encode}
 use Rattle.frame.specs.declared.ItemId.{ItemId}
 use Rattle.act.specs.declared.Outcome.{Outcome}
-use Rattle.answer.specs.Tags.{resultStatus, responsePayload}
+use Rattle.tags.specs.Tags.{resultStatus, responsePayload}
 use Rattle.answer.specs.Respond.{Answer, word, success}
 
 -- what opens a success: its status, and the head of a payload of n bytes

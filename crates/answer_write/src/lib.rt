@@ -7,11 +7,10 @@ ghost use Rattle.octets.specs.Octets.{over};
 ghost use Rattle.ttlv_types.specs.Types.{integer, enumeration};
 ghost use Rattle.ttlv.specs.Items.{nil, group};
 ghost use Rattle.ttlv_put.specs.Write.{Holds};
-ghost use Rattle.frame.specs.Tags.{batchItem, protocolVersionMajor, protocolVersionMinor};
+ghost use Rattle.tags.specs.Tags.{batchItem, protocolVersionMajor, protocolVersionMinor, attributes, objectType, uniqueIdentifier, responseHeader};
+ghost use Rattle.payload.specs.Payload.{symmetricKey};
 ghost use Rattle.frame.specs.Frame.{idMost, batchMost};
-ghost use Rattle.payload.specs.Tags.{attributes, objectType, uniqueIdentifier, symmetricKey};
 ghost use Rattle.act.specs.declared.Outcome.the-variants.{Failed};
-ghost use Rattle.answer.specs.Tags.{responseHeader};
 ghost use Rattle.answer.specs.Respond.{word, named, attributeItems, outcomeItems, idItems, answerItems, versionItems, headerItems};
 ghost use Rattle.answer.specs.Front.{headerSize, frameSize, longestItem, front};
 ghost use Rattle.attributes_write.specs.Puts.{Puts};
@@ -20,37 +19,6 @@ use act::Outcome;
 use act::Shown;
 use frame::ItemId;
 use rules::Reason;
-
-// Tags, by their last two bytes.
-const BATCH_COUNT: u16 = 0x0D;
-
-const BATCH_ITEM: u16 = 0x0F;
-
-const OBJECT_TYPE: u16 = 0x57;
-
-const OPERATION: u16 = 0x5C;
-
-const PROTOCOL_VERSION: u16 = 0x69;
-
-const PROTOCOL_VERSION_MAJOR: u16 = 0x6A;
-
-const PROTOCOL_VERSION_MINOR: u16 = 0x6B;
-
-const RESPONSE_HEADER: u16 = 0x7A;
-
-const RESPONSE_MESSAGE: u16 = 0x7B;
-
-const RESPONSE_PAYLOAD: u16 = 0x7C;
-
-const RESULT_REASON: u16 = 0x7E;
-
-const RESULT_STATUS: u16 = 0x7F;
-
-const TIME_STAMP: u16 = 0x92;
-
-const UNIQUE_BATCH_ITEM_ID: u16 = 0x93;
-
-const UNIQUE_IDENTIFIER: u16 = 0x94;
 
 // Values of Enumerations.
 const SYMMETRIC_KEY: u32 = 2;
@@ -69,8 +37,8 @@ fn write_created(out: &mut [u8], serial: u32) -> usize
     requires { ⌜ 32 ≤ length (now out) ⌝ }
     ensures { λ r. ⌜ Puts 32 (word objectType enumeration symmetricKey (named uniqueIdentifier serial nil)) (now (out .entry)) (now (out .exit)) r ⌝ }
 {
-    ttlv_write::write_enumeration(out, OBJECT_TYPE, SYMMETRIC_KEY);
-    let n = attributes_write::write_named(&mut out[16..], UNIQUE_IDENTIFIER, serial);
+    ttlv_write::write_enumeration(out, tags::OBJECT_TYPE, SYMMETRIC_KEY);
+    let n = attributes_write::write_named(&mut out[16..], tags::UNIQUE_IDENTIFIER, serial);
     16 + n
 }
 
@@ -79,7 +47,7 @@ fn write_showed(out: &mut [u8], shown: Shown) -> usize
     requires { ⌜ 224 ≤ length (now out) ⌝ }
     ensures { λ r. ⌜ Puts 224 (named uniqueIdentifier (shown .serial) (group attributes (attributeItems shown) nil)) (now (out .entry)) (now (out .exit)) r ⌝ }
 {
-    let n = attributes_write::write_named(out, UNIQUE_IDENTIFIER, shown.serial);
+    let n = attributes_write::write_named(out, tags::UNIQUE_IDENTIFIER, shown.serial);
     let m = attributes_write::write_attributes(&mut out[n..], shown);
     n + m
 }
@@ -91,8 +59,8 @@ fn write_success(out: &mut [u8], n: usize) -> usize
     requires { ⌜ (24 + n ≤ length (now out)) × (n ≤ 224) × (n % 8 ≡ 0) ⌝ }
     ensures { λ r. ⌜ (r ≡ 24 + n) × Holds (opening n) (now (out .entry)) (now (out .exit)) 24 ⌝ }
 {
-    ttlv_write::write_enumeration(out, RESULT_STATUS, SUCCESS);
-    ttlv_put::write_structure(&mut out[16..], RESPONSE_PAYLOAD, n);
+    ttlv_write::write_enumeration(out, tags::RESULT_STATUS, SUCCESS);
+    ttlv_put::write_structure(&mut out[16..], tags::RESPONSE_PAYLOAD, n);
     24 + n
 }
 
@@ -100,8 +68,12 @@ fn write_failure(out: &mut [u8], reason: Reason) -> usize
     requires { ⌜ 32 ≤ length (now out) ⌝ }
     ensures { λ r. ⌜ Puts 32 (outcomeItems (Failed reason)) (now (out .entry)) (now (out .exit)) r ⌝ }
 {
-    ttlv_write::write_enumeration(out, RESULT_STATUS, OPERATION_FAILED);
-    ttlv_write::write_enumeration(&mut out[16..], RESULT_REASON, rules::reason_number(reason));
+    ttlv_write::write_enumeration(out, tags::RESULT_STATUS, OPERATION_FAILED);
+    ttlv_write::write_enumeration(
+        &mut out[16..],
+        tags::RESULT_REASON,
+        rules::reason_number(reason),
+    );
     32
 }
 
@@ -117,7 +89,7 @@ fn write_outcome(out: &mut [u8], outcome: Outcome) -> usize
             write_success(out, n)
         }
         Outcome::Done { serial } => {
-            let n = attributes_write::write_named(&mut out[24..], UNIQUE_IDENTIFIER, serial);
+            let n = attributes_write::write_named(&mut out[24..], tags::UNIQUE_IDENTIFIER, serial);
             write_success(out, n)
         }
         Outcome::Showed { shown } => {
@@ -139,14 +111,14 @@ fn write_id(out: &mut [u8], id: ItemId) -> usize
     if n == 0 {
         return 0;
     }
-    ttlv_write::write_bytes(out, UNIQUE_BATCH_ITEM_ID, &bytes[..n])
+    ttlv_write::write_bytes(out, tags::UNIQUE_BATCH_ITEM_ID, &bytes[..n])
 }
 
 fn write_answer_items(out: &mut [u8], operation: u32, id: ItemId, outcome: Outcome) -> usize
     requires { ⌜ (288 ≤ length (now out)) × (id .len ≤ idMost) ⌝ }
     ensures { λ r. ⌜ Puts 288 (answerItems (answerOf operation id outcome)) (now (out .entry)) (now (out .exit)) r ⌝ }
 {
-    ttlv_write::write_enumeration(out, OPERATION, operation);
+    ttlv_write::write_enumeration(out, tags::OPERATION, operation);
     let n = write_id(&mut out[16..], id);
     let at = 16 + n;
     let m = write_outcome(&mut out[at..], outcome);
@@ -159,7 +131,7 @@ pub fn write_answer(out: &mut [u8], operation: u32, id: ItemId, outcome: Outcome
     ensures { λ r. ⌜ Puts longestItem (group batchItem (answerItems (answerOf operation id outcome)) nil) (now (out .entry)) (now (out .exit)) r ⌝ }
 {
     let size = write_answer_items(&mut out[8..], operation, id, outcome);
-    ttlv_put::write_structure(out, BATCH_ITEM, size);
+    ttlv_put::write_structure(out, tags::BATCH_ITEM, size);
     8 + size
 }
 
@@ -170,8 +142,8 @@ fn write_version_body(out: &mut [u8]) -> usize
     requires { ⌜ 32 ≤ length (now out) ⌝ }
     ensures { λ r. ⌜ Puts 32 (word protocolVersionMajor integer 2 (word protocolVersionMinor integer 1 nil)) (now (out .entry)) (now (out .exit)) r ⌝ }
 {
-    ttlv_write::write_integer(out, PROTOCOL_VERSION_MAJOR, 2);
-    ttlv_write::write_integer(&mut out[16..], PROTOCOL_VERSION_MINOR, 1);
+    ttlv_write::write_integer(out, tags::PROTOCOL_VERSION_MAJOR, 2);
+    ttlv_write::write_integer(&mut out[16..], tags::PROTOCOL_VERSION_MINOR, 1);
     32
 }
 
@@ -180,7 +152,7 @@ fn write_version(out: &mut [u8]) -> usize
     ensures { λ r. ⌜ Puts 40 (versionItems nil) (now (out .entry)) (now (out .exit)) r ⌝ }
 {
     let n = write_version_body(&mut out[8..]);
-    ttlv_put::write_structure(out, PROTOCOL_VERSION, n);
+    ttlv_put::write_structure(out, tags::PROTOCOL_VERSION, n);
     8 + n
 }
 
@@ -189,9 +161,9 @@ fn write_header_items(out: &mut [u8], clock: u64, count: u32) -> usize
     ensures { λ r. ⌜ Puts 72 (headerItems clock count) (now (out .entry)) (now (out .exit)) r ⌝ }
 {
     let n = write_version(out);
-    ttlv_write::write_date_time(&mut out[n..], TIME_STAMP, clock);
+    ttlv_write::write_date_time(&mut out[n..], tags::TIME_STAMP, clock);
     let at = n + 16;
-    ttlv_write::write_integer(&mut out[at..], BATCH_COUNT, count);
+    ttlv_write::write_integer(&mut out[at..], tags::BATCH_COUNT, count);
     at + 16
 }
 
@@ -200,7 +172,7 @@ fn write_header(out: &mut [u8], clock: u64, count: u32) -> usize
     ensures { λ r. ⌜ Puts headerSize (group responseHeader (headerItems clock count) nil) (now (out .entry)) (now (out .exit)) r ⌝ }
 {
     let n = write_header_items(&mut out[8..], clock, count);
-    ttlv_put::write_structure(out, RESPONSE_HEADER, n);
+    ttlv_put::write_structure(out, tags::RESPONSE_HEADER, n);
     8 + n
 }
 
@@ -209,6 +181,6 @@ pub fn write_front(out: &mut [u8], clock: u64, count: u32, n: usize)
     requires { ⌜ (frameSize ≤ length (now out)) × (n ≤ batchMost * longestItem) × (n % 8 ≡ 0) ⌝ }
     ensures { λ _. ⌜ now (out .exit) ≡ over (front clock count n) (now (out .entry)) ⌝ }
 {
-    ttlv_put::write_structure(out, RESPONSE_MESSAGE, HEADER_SIZE + n);
+    ttlv_put::write_structure(out, tags::RESPONSE_MESSAGE, HEADER_SIZE + n);
     write_header(&mut out[8..], clock, count);
 }

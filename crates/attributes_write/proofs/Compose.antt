@@ -13,10 +13,11 @@ use Rattle.octets.specs.Octets.{be}
 use Rattle.octets.proofs.Numbers.{length-be}
 use Rattle.octets.proofs.If.{ifb-true, ifb-false}
 use Rattle.octets.proofs.Over.{lent-length}
+use Rattle.tags.specs.Tags.{tagOk}
 use Rattle.ttlv_types.specs.Types.{structure, padded, lengthOk}
 use Rattle.ttlv.specs.Items.{Items, nil, value, group, head, encode}
 use Rattle.ttlv.proofs.Back.{eights}
-use Rattle.ttlv_put.specs.Write.{tagOf, join, spelled, fits, Wrote, WroteValue, WroteHead, Holds}
+use Rattle.ttlv_put.specs.Write.{join, spelled, fits, Wrote, WroteValue, WroteHead, Holds}
 use Rattle.ttlv.proofs.Sizes.{length-head}
 use Rattle.ttlv_put.proofs.Sizes.{length-value, encode-nil}
 use Rattle.ttlv_put.proofs.Holds.{wrote-size, holds-none, holds-wrote, holds-value, holds-then, holds-front, holds-join, holds-group, holds-length, holds-left}
@@ -25,7 +26,7 @@ use Rattle.attributes_write.specs.Puts.{Puts}
 
 -- ---- one item
 
--- a number of 1 to 8 bytes takes 16 in all
+-- a number of 1 to 8 bytes takes 16 in all; of a tag that is known, that it is one computes
 pub number-size : (width tag kind bits : ℕ) → 0 < width → width ≤ 8 → 16 ≡ length (encode (value tag kind (be width bits) nil))
 number-size width tag kind bits h k = sym (length-value tag kind (be width bits) ∙ rw (length-be width bits) (omega arith))
 
@@ -42,12 +43,12 @@ module _ (tag kind bits : ℕ) {room after : List ℕ} {r : ℕ} where
   pub puts-long : Wrote (fits room 16) 16 (encode (long tag kind bits nil)) room after r → 16 ≤ length room → Puts 16 (long tag kind bits nil) room after 16
   puts-long w l = puts-number 8 tag kind bits (omega arith) (omega arith) w l
 
--- a value of any length, if its type allows it
-pub puts-value : (most : ℕ) {right : Bool} (tag kind : ℕ) (v : List ℕ) {room after : List ℕ} {r : ℕ} → right ≡ true → WroteValue right tag kind v room after r
-    → 8 + padded (length v) ≤ most → most ≤ length room → most < 256 ^ 4 → Puts most (value (tagOf tag) kind v nil) room after r
-puts-value most {right} tag kind v e w s l k =
-    let h = holds-value right tag kind v e (omega arith) (omega arith) w in
-    record { few = omega (arith, h .size, length-value (tagOf tag) kind v); holds = h }
+-- a value of any length, if the tag is one and the type allows the value
+pub puts-value : (most : ℕ) {right : Bool} (tag kind : ℕ) (v : List ℕ) {room after : List ℕ} {r : ℕ} → tagOk tag ≡ true → right ≡ true → WroteValue right tag kind v room after r
+    → 8 + padded (length v) ≤ most → most ≤ length room → most < 256 ^ 4 → Puts most (value tag kind v nil) room after r
+puts-value most {right} tag kind v t e w s l k =
+    let h = holds-value right tag kind v t e (omega arith) (omega arith) w in
+    record { few = omega (arith, h .size, length-value tag kind v); holds = h }
 
 -- the same with more room
 pub puts-within : {a b n : ℕ} {t : Items} {room after : List ℕ} → Puts a t room after n → a ≤ b → Puts b t room after n
@@ -96,19 +97,19 @@ unfolding lengthOk ifb
 body-length n e = eq-eqb (n % 8) 0 e
 
 -- the head of a structure takes 8
-pub holds-structure : (tag n : ℕ) {room after : List ℕ} {r : ℕ} → WroteHead tag n room after r → n % 8 ≡ 0 → n < 256 ^ 4 → 8 ≤ length room
-    → Holds (head (tagOf tag) structure n) room after 8
-holds-structure tag n {room} w e s l =
-    let ok : (spelled n && lengthOk structure n && fits room 8) ≡ true = rw (lt-ltb n (256 ^ 4) s, body-length n e, le-leb 8 (length room) l) in
-    rw (wrote-size ok w) at (holds-wrote ok (sym (length-head (tagOf tag) structure n)) l w)
+pub holds-structure : (tag n : ℕ) {room after : List ℕ} {r : ℕ} → tagOk tag ≡ true → WroteHead tag n room after r → n % 8 ≡ 0 → n < 256 ^ 4 → 8 ≤ length room
+    → Holds (head tag structure n) room after 8
+holds-structure tag n {room} t w e s l =
+    let ok : (tagOk tag && spelled n && lengthOk structure n && fits room 8) ≡ true = rw (t, lt-ltb n (256 ^ 4) s, body-length n e, le-leb 8 (length room) l) in
+    rw (wrote-size ok w) at (holds-wrote ok (sym (length-head tag structure n)) l w)
 
 -- the body was written eight bytes on, and then its head in front of it
-pub puts-group : (tag : ℕ) (room : List ℕ) {t : Items} {a n r : ℕ} {ys after : List ℕ} → Puts a t (midOf 8 (length room - 8) room) ys n
-    → WroteHead tag n (putMid 8 (length room - 8) room ys) after r → 8 ≤ length room → a < 256 ^ 4 → Puts (8 + a) (group (tagOf tag) t nil) room after (8 + n)
-puts-group tag room {t = t} {n = n} {ys = ys} p w l s =
+pub puts-group : (tag : ℕ) → tagOk tag ≡ true → (room : List ℕ) {t : Items} {a n r : ℕ} {ys after : List ℕ} → Puts a t (midOf 8 (length room - 8) room) ys n
+    → WroteHead tag n (putMid 8 (length room - 8) room ys) after r → 8 ≤ length room → a < 256 ^ 4 → Puts (8 + a) (group tag t nil) room after (8 + n)
+puts-group tag h room {t = t} {n = n} {ys = ys} p w l s =
     let e = lent-length 8 room ys (holds-length (p .holds)) in
-    let h = holds-structure tag n w (puts-eights p) (omega (arith, p .few)) (omega (arith, e)) in
+    let g = holds-structure tag n h w (puts-eights p) (omega (arith, p .few)) (omega (arith, e)) in
     record {
       few = omega (arith, p .few);
-      holds = holds-group (tagOf tag) n t (p .holds .size) (holds-front 8 l (length-head (tagOf tag) structure n) (p .holds) h);
+      holds = holds-group tag n t (p .holds .size) (holds-front 8 l (length-head tag structure n) (p .holds) g);
     }

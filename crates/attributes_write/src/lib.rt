@@ -1,40 +1,17 @@
 // The writer of a key's attributes, and of an identifier, in lent room.
-// What a function asks is shown by its callers: here, or for `write_named` and `write_attributes` in the writer of answers.
+// What a function asks is shown by its callers: here, or for `write_attributes` in the writer of answers.
+ghost use mathlib.Core.Bool.{true};
 ghost use Prim.Native.Nat.{_≤_};
 ghost use lib.ListN.{length};
-ghost use Rattle.ttlv_types.specs.Types.{integer, longInteger, enumeration};
+ghost use Rattle.ttlv_types.specs.Types.{integer, longInteger, enumeration, textString};
 ghost use Rattle.ttlv.specs.Items.{nil, group};
-ghost use Rattle.ttlv_put.specs.Write.{tagOf};
-ghost use Rattle.payload.specs.Tags.{attributes, cryptographicAlgorithm, cryptographicLength, cryptographicUsageMask, usageLimitsCount, usageLimitsTotal, usageLimitsUnit, aes};
-ghost use Rattle.answer.specs.Tags.{linkType, linkedObjectIdentifier, stateTag, replacedObjectLink, replacementObjectLink};
-ghost use Rattle.answer.specs.Respond.{word, long, named, limitItems, linkItems, attributeItems};
+ghost use Rattle.ttlv_put.specs.Write.{WroteValue};
+ghost use Rattle.tags.specs.Tags.{attributes, cryptographicAlgorithm, cryptographicLength, cryptographicUsageMask, usageLimitsCount, usageLimitsTotal, usageLimitsUnit, linkType, linkedObjectIdentifier, stateTag};
+ghost use Rattle.payload.specs.Payload.{aes};
+ghost use Rattle.identifier.specs.Identifier.{identifier};
+ghost use Rattle.answer.specs.Respond.{word, long, named, limitItems, linkItems, attributeItems, replacedObjectLink, replacementObjectLink};
 ghost use Rattle.attributes_write.specs.Puts.{Puts};
 use act::Shown;
-
-// Tags, by their last two bytes.
-const CRYPTOGRAPHIC_ALGORITHM: u16 = 0x28;
-
-const CRYPTOGRAPHIC_LENGTH: u16 = 0x2A;
-
-const CRYPTOGRAPHIC_USAGE_MASK: u16 = 0x2C;
-
-const LINK: u16 = 0x4A;
-
-const LINK_TYPE: u16 = 0x4B;
-
-const LINKED_OBJECT_IDENTIFIER: u16 = 0x4C;
-
-const STATE: u16 = 0x8D;
-
-const USAGE_LIMITS: u16 = 0x95;
-
-const USAGE_LIMITS_COUNT: u16 = 0x96;
-
-const USAGE_LIMITS_TOTAL: u16 = 0x97;
-
-const USAGE_LIMITS_UNIT: u16 = 0x98;
-
-const ATTRIBUTES: u16 = 0x125;
 
 // Values of Enumerations.
 const AES: u32 = 3;
@@ -43,10 +20,9 @@ const REPLACED_OBJECT_LINK: u32 = 0x107;
 
 const REPLACEMENT_OBJECT_LINK: u32 = 0x106;
 
-// An identifier as a Text String.
-pub fn write_named(out: &mut [u8], tag: u16, serial: u32) -> usize
-    requires { ⌜ 16 ≤ length (now out) ⌝ }
-    ensures { λ r. ⌜ Puts 16 (named (tagOf tag) serial nil) (now (out .entry)) (now (out .exit)) r ⌝ }
+// An identifier as a Text String. It asks nothing: it writes as the TTLV writers do, or answers 0.
+pub fn write_named(out: &mut [u8], tag: u32, serial: u32) -> usize
+    ensures { λ r. ⌜ WroteValue true tag textString (identifier serial) (now (out .entry)) (now (out .exit)) r ⌝ }
 {
     let text = identifier::text_of(serial);
     ttlv_write::write_text(out, tag, &text)
@@ -57,8 +33,8 @@ fn write_link_body(out: &mut [u8], kind: u32, serial: u32) -> usize
     requires { ⌜ 32 ≤ length (now out) ⌝ }
     ensures { λ r. ⌜ Puts 32 (word linkType enumeration kind (named linkedObjectIdentifier serial nil)) (now (out .entry)) (now (out .exit)) r ⌝ }
 {
-    ttlv_write::write_enumeration(out, LINK_TYPE, kind);
-    let n = write_named(&mut out[16..], LINKED_OBJECT_IDENTIFIER, serial);
+    ttlv_write::write_enumeration(out, tags::LINK_TYPE, kind);
+    let n = write_named(&mut out[16..], tags::LINKED_OBJECT_IDENTIFIER, serial);
     16 + n
 }
 
@@ -71,7 +47,7 @@ fn write_link(out: &mut [u8], kind: u32, serial: u32) -> usize
         return 0;
     }
     let n = write_link_body(&mut out[8..], kind, serial);
-    ttlv_put::write_structure(out, LINK, n);
+    ttlv_put::write_structure(out, tags::LINK, n);
     8 + n
 }
 
@@ -80,9 +56,9 @@ fn write_limit_body(out: &mut [u8], unit: u32, total: u64, count: u64) -> usize
     requires { ⌜ 48 ≤ length (now out) ⌝ }
     ensures { λ r. ⌜ Puts 48 (long usageLimitsTotal longInteger total (long usageLimitsCount longInteger count (word usageLimitsUnit enumeration unit nil))) (now (out .entry)) (now (out .exit)) r ⌝ }
 {
-    ttlv_write::write_long(out, USAGE_LIMITS_TOTAL, total);
-    ttlv_write::write_long(&mut out[16..], USAGE_LIMITS_COUNT, count);
-    ttlv_write::write_enumeration(&mut out[32..], USAGE_LIMITS_UNIT, unit);
+    ttlv_write::write_long(out, tags::USAGE_LIMITS_TOTAL, total);
+    ttlv_write::write_long(&mut out[16..], tags::USAGE_LIMITS_COUNT, count);
+    ttlv_write::write_enumeration(&mut out[32..], tags::USAGE_LIMITS_UNIT, unit);
     48
 }
 
@@ -91,10 +67,10 @@ fn write_always(out: &mut [u8], bits: u32, mask: u32, state: u32) -> usize
     requires { ⌜ 64 ≤ length (now out) ⌝ }
     ensures { λ r. ⌜ Puts 64 (word cryptographicAlgorithm enumeration aes (word cryptographicLength integer bits (word cryptographicUsageMask integer mask (word stateTag enumeration state nil)))) (now (out .entry)) (now (out .exit)) r ⌝ }
 {
-    ttlv_write::write_enumeration(out, CRYPTOGRAPHIC_ALGORITHM, AES);
-    ttlv_write::write_integer(&mut out[16..], CRYPTOGRAPHIC_LENGTH, bits);
-    ttlv_write::write_integer(&mut out[32..], CRYPTOGRAPHIC_USAGE_MASK, mask);
-    ttlv_write::write_enumeration(&mut out[48..], STATE, state);
+    ttlv_write::write_enumeration(out, tags::CRYPTOGRAPHIC_ALGORITHM, AES);
+    ttlv_write::write_integer(&mut out[16..], tags::CRYPTOGRAPHIC_LENGTH, bits);
+    ttlv_write::write_integer(&mut out[32..], tags::CRYPTOGRAPHIC_USAGE_MASK, mask);
+    ttlv_write::write_enumeration(&mut out[48..], tags::STATE, state);
     64
 }
 
@@ -107,7 +83,7 @@ fn write_limits(out: &mut [u8], shown: Shown) -> usize
         return 0;
     }
     let n = write_limit_body(&mut out[8..], shown.unit as u32, shown.total, shown.count);
-    ttlv_put::write_structure(out, USAGE_LIMITS, n);
+    ttlv_put::write_structure(out, tags::USAGE_LIMITS, n);
     8 + n
 }
 
@@ -139,6 +115,6 @@ pub fn write_attributes(out: &mut [u8], shown: Shown) -> usize
     ensures { λ r. ⌜ Puts 208 (group attributes (attributeItems shown) nil) (now (out .entry)) (now (out .exit)) r ⌝ }
 {
     let n = write_attribute_items(&mut out[8..], shown);
-    ttlv_put::write_structure(out, ATTRIBUTES, n);
+    ttlv_put::write_structure(out, tags::ATTRIBUTES, n);
     8 + n
 }

@@ -1,8 +1,13 @@
 // The bench program's work: a request from a file descriptor on a blank table, its response in hex on a line, or the refusal's number.
 // What it prints is tested and not proved; the call is the engine's.
 
-// The place count in the lead of a blank table.
-const PLACES: u8 = 64;
+use table::Layout;
+
+// One byte above the longest request, so that a longer one is seen.
+const REQUEST_ROOM: usize = engine::REQUEST_MOST + 1;
+
+// The last byte of the place count: all of a blank table that is not zero.
+const COUNT_BYTE: usize = Layout::PLACES_IN + 3;
 
 // The bytes 0 to 255 twice.
 fn fill_strip(s: &mut [u8]) {
@@ -14,13 +19,13 @@ fn fill_strip(s: &mut [u8]) {
 }
 
 pub fn run(fd: i32) {
-    let mut request = [0u8; 4097];
+    let mut request = [0u8; REQUEST_ROOM];
     let n = io::read_full(fd, &mut request);
-    let mut table = [0u8; 4624];
-    table[7] = PLACES;
-    let mut strip = [0u8; 512];
+    let mut table = [0u8; Layout::SIZE];
+    table[COUNT_BYTE] = Layout::PLACES as u8;
+    let mut strip = [0u8; engine::STRIP_SIZE];
     fill_strip(&mut strip);
-    let mut out = [0u8; 4824];
+    let mut out = [0u8; engine::ROOM_LEAST];
     let served = engine::serve(&request[..n], &mut table, &strip, 0, &mut out);
     printlib::answer(&out, served.number, served.length);
 }

@@ -6,9 +6,10 @@ mod read;
 use read::Clock;
 use read::Number;
 use read::Span;
+use table::Layout;
 
-// The place count in the lead of a blank table.
-const PLACES: u8 = 64;
+// The last byte of the place count: all of a blank table that is not zero.
+const COUNT_BYTE: usize = Layout::PLACES_IN + 3;
 
 // What is lent to a call besides the request.
 enum Buffer {
@@ -49,9 +50,9 @@ struct Done {
 fn usual() -> Setting {
     Setting {
         clock: 0,
-        room: 4824,
-        strip: 512,
-        size: 4624,
+        room: engine::ROOM_LEAST,
+        strip: engine::STRIP_SIZE,
+        size: Layout::SIZE,
     }
 }
 
@@ -63,7 +64,11 @@ fn ended(good: bool, setting: Setting) -> Done {
 // Byte i of a buffer at first. A blank table is all zero but the place count; the strip is the bytes 0 to 255 again and again.
 fn first_byte(buffer: Buffer, i: usize) -> u8 {
     match buffer {
-        Buffer::Table => if i == 7 { PLACES } else { 0 },
+        Buffer::Table => if i == COUNT_BYTE {
+            Layout::PLACES as u8
+        } else {
+            0
+        },
         Buffer::Strip => (i % 256) as u8,
         Buffer::Output => 255,
     }
@@ -162,7 +167,7 @@ fn put(rest: &[u8], table: &mut [u8]) -> bool {
     let Number::Is(at) = read::number_in(&rest[..gap]) else {
         return false;
     };
-    let mut bytes = [0u8; 4624];
+    let mut bytes = [0u8; Layout::SIZE];
     let found = read::bytes_in(&rest[gap..], &mut bytes);
     if !found.good {
         return false;
@@ -297,8 +302,8 @@ pub fn run(fd: i32) {
         io::write_all(1, b"script too long\n");
         return;
     }
-    let mut table = [0u8; 4624];
-    table[7] = PLACES;
+    let mut table = [0u8; Layout::SIZE];
+    table[COUNT_BYTE] = Layout::PLACES as u8;
     let mut strip = [0u8; 1024];
     fill(&mut strip, Buffer::Strip);
     let mut out = [255u8; 8192];

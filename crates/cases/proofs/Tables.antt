@@ -10,8 +10,8 @@ use Rattle.octets.specs.If.{ifb}
 use Rattle.octets.specs.Maybe.{isSome}
 use Rattle.octets.specs.Octets.{be, fromBe, fromBeAfter, all}
 use Rattle.table.specs.declared.Record.{Record}
-use Rattle.table.specs.Layout.{bodyOf, placeCount}
-use Rattle.table.specs.Records.{line, body, recordOf, placeAt, withPlace, serialAt, lastSerial, withLast, placesSaid, zerosIn, blank}
+use Rattle.table.specs.Layout.{bodyOf, placeCount, zerosIn}
+use Rattle.table.specs.Records.{line, body, recordOf, placeAt, withPlace, serialAt, lastSerial, withLast, placesSaid, blank}
 use Rattle.search.specs.Search.{firstFrom, isNothing, find}
 use Rattle.record_rules.specs.Rules.{stateRight, bitsRight, maskRight, limitRight, tailRight, wipedRight, replacedRight, replacementRight}
 use Rattle.soundness.specs.Sound.{sizeRight, countRight, leadRight, freeRight, zerosRight, distinctRight, issuedRight, ifStands, linksRight, breaksFree, breaksStanding, whole, atPlace, orLater, standingFault, placeFault, wholeFault, firstFault, sound}

@@ -10,7 +10,8 @@ use Rattle.octets.specs.Maybe.{isSome}
 use Rattle.octets.specs.Octets.{fromBe, part, same}
 use Rattle.ttlv.specs.Items.{Items, nil, value, group, encode}
 use Rattle.ttlv.specs.Parse.{message}
-use Rattle.engine.specs.Serving.{Effect, serving}
+use Rattle.engine.specs.Effects.{Effect}
+use Rattle.engine.specs.Serving.{serving}
 use Rattle.octets.specs.Hex.{hex}
 
 -- ---- TTLV

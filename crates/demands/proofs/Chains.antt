@@ -3,12 +3,15 @@
 use Prim.Native.Nat.{ℕ, _+_}
 use mathlib.Core.Path.{_≡_, refl, sym, ap, _∙_}
 use mathlib.Core.Bool.{Bool, true, false, not, _&&_, true≢false, false≢true}
+use mathlib.Core.Option.{Option, none, some}
 use mathlib.Core.List.{List, [], _∷_, map}
 use lib.Dec.{eqb}
 use borrow.Author.Tests.{eqb-true, eq-eqb}
 use Rattle.octets.proofs.Bools.{and-l, and-r}
 use Rattle.octets.specs.If.{ifb}
 use Rattle.octets.proofs.If.{on-if}
+use Rattle.rules.specs.declared.Reason.{Reason}
+use Rattle.rules.specs.Tests.{due}
 use Rattle.frame.specs.Frame.{Asked, continue}
 use Rattle.act.specs.Act.{Env, Did, envAt, carried, step, isFailed}
 use Rattle.answer.specs.Respond.{Answer}
@@ -28,6 +31,15 @@ step-due env holder t asked = record {
   succeeds = λ e. ap (carried t (planOf (linkTo env holder t asked) .did)) e;
   fails = λ reason e. ap (carried t (planOf (linkTo env holder t asked) .did)) e;
 }
+
+-- an item that is due is the one that is carried out
+pub due-step : (l : Link) → Due l → l .did ≡ step (l .env) (l .holder) (l .table) (l .asked)
+unfolding step carried
+due-step l d = go (due (planOf l .tests)) refl
+  where
+    go : (o : Option Reason) → due (planOf l .tests) ≡ o → l .did ≡ carried (l .table) (planOf l .did) (due (planOf l .tests))
+    go none e = d .succeeds e ∙ sym (ap (carried (l .table) (planOf l .did)) e)
+    go (some reason) e = d .fails reason e ∙ sym (ap (carried (l .table) (planOf l .did)) e)
 
 -- the links of a run of items: a chain to the table that the batch leaves, whose answers are the batch's
 pub record Chained (c : Call) (option i holder : ℕ) (t : List ℕ) (items : List Asked) (ran : Ran) : Type 0 where

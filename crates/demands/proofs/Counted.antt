@@ -42,7 +42,7 @@ use Rattle.demands.specs.Log.{issuedBy, grantBy}
 
 -- ---- what the log says of an item
 
-no-issue : (c : Command) (reason : Reason) → issuedBy c (Failed reason) ≡ 0
+pub no-issue : (c : Command) (reason : Reason) → issuedBy c (Failed reason) ≡ 0
 unfolding issuedBy
 no-issue Unsupported reason = refl
 no-issue Invalid reason = refl
@@ -66,7 +66,7 @@ no-grant x (Revoke target code) reason = refl
 no-grant x (Destroy target) reason = refl
 no-grant x (GetAttributes target) reason = refl
 
-move-issues : {c : Command} {operation code : ℕ} {target : Target} → Moving c operation code target → (o : Outcome) → issuedBy c o ≡ 0
+pub move-issues : {c : Command} {operation code : ℕ} {target : Target} → Moving c operation code target → (o : Outcome) → issuedBy c o ≡ 0
 unfolding issuedBy
 move-issues activating o = refl
 move-issues revoking o = refl
@@ -145,7 +145,7 @@ counted-edit n t u i r s g begun z st o others had = record {
 
 -- ---- kinds
 
-create-allowed : {operation : ℕ} {wanted : Attributes} → Commanded operation (Create wanted) → Allowed wanted
+pub create-allowed : {operation : ℕ} {wanted : Attributes} → Commanded operation (Create wanted) → Allowed wanted
 create-allowed (to-create o a) = a
 
 -- the total with which a command's new object begins: what Create asks for, or what its record has

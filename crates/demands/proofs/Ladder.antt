@@ -18,13 +18,22 @@ use Rattle.table.specs.Layout.{placeCount}
 use Rattle.soundness.specs.Sound.{sound}
 use Rattle.frame.specs.Frame.{Frame, Framed, Request, refused, asked, frameIn, framing, framed, versionOk, countOk, optionOf, optionOk}
 use Rattle.engine.specs.Batch.{Ran, running}
-use Rattle.engine.specs.Serving.{Effect, roomLeast, stripSize, requestMost, turnedAway, requested, answered, carryOut, serving}
+use Rattle.engine.specs.Effects.{Effect, roomLeast, stripSize, requestMost}
+use Rattle.engine.specs.Serving.{turnedAway, requested, answered, carryOut, serving}
 use Rattle.demands.specs.Box.{Call}
 use Rattle.demands.specs.Demand2.{frameOf, ofFrame, refusalConditions, lowest}
 
 -- the outcome that the definitions give to a call
 abbrev pub served : Call → Effect
 served c = serving (c .request) (c .table) (c .strip) (c .clock) (c .output)
+
+-- two outcomes with the same number, length, table and output
+pub same-effect : (e f : Effect) → e .number ≡ f .number → e .length ≡ f .length → e .table ≡ f .table → e .output ≡ f .output → e ≡ f
+same-effect e f n l t o =
+    ap (λ (k : ℕ). record { number = k; length = e .length; table = e .table; output = e .output }) n
+    ∙ ap (λ (k : ℕ). record { number = f .number; length = k; table = e .table; output = e .output }) l
+    ∙ ap (λ (k : List ℕ). record { number = f .number; length = f .length; table = k; output = e .output }) t
+    ∙ ap (λ (k : List ℕ). record { number = f .number; length = f .length; table = f .table; output = k }) o
 
 -- a function of an `if` is an `if` of its values
 pub if-ap : {A B : Type 0} (f : A → B) (b : Bool) (x y : A) → f (ifb b x y) ≡ ifb b (f x) (f y)

@@ -1,13 +1,15 @@
--- Our box meets the demands, and the wrong boxes do not.
+-- Our box meets the demands, no box but ours meets the first two, and what the third gives for any box.
 -- Assumes nothing.
 pub mod Chains
 pub mod Ladder
 pub mod Meets
 pub mod Counted
 pub mod Logged
+pub mod Tame
+pub mod Ordered
 pub mod Paired
 pub mod Runs
-pub mod Tame
+pub mod Follows
 pub mod Meets3
 pub mod Serve
-pub mod WrongBoxes
+pub mod Only

@@ -199,14 +199,3 @@ module _ (n : ℕ) (log : List Event) (t : List ℕ) (inv : Inv n log t) (e : Ev
   -- one item more
   pub inv-event : Inv n (e ∷ log) (did .table)
   inv-event = record { held = after; balanced = balanced-after; within = within-after; once = once-after; later = later-after }
-
-  -- x was issued, and does not stand
-  pub gone-event : (x : ℕ) → (x ≡ 0 → ⊥) → x ≤ lastSerial t → ((i : ℕ) → i < n → placeAt n t i .serial ≡ x → ⊥)
-      → (granted x (e ∷ log) ≡ granted x log) × (x ≤ lastSerial (did .table)) × ((i : ℕ) → i < n → placeAt n (did .table) i .serial ≡ x → ⊥)
-  gone-event x z known away =
-      let none : g x ≡ 0 = ⊎-elim (λ k. k) (λ h. absurd (away (h .place) (h .below) (h .serial))) (counted .granted x) in (
-        omega (arith, granted-more x e log),
-        omega (arith, last-after .0),
-        λ i l k.
-            ⊎-elim (λ o. away i l (o .serial ∙ k)) (λ w. (let b : x ≡ lastSerial t + 1 = sym k ∙ w .serial in omega arith)) (counted .places i l (λ c. z (sym k ∙ c))),
-      )

@@ -5,7 +5,7 @@ use native.Mathlib.Omega.{arith}
 use mathlib.Core.Path.{_≡_, refl, sym, ap, subst, _∙_}
 use mathlib.Core.Bool.{true, _&&_}
 use mathlib.Core.Option.{some}
-use mathlib.Core.List.{List, map}
+use mathlib.Core.List.{List}
 use lib.ListN.{length, take, drop}
 use lib.Seq.{take-at, drop-at}
 use lib.Dec.{leb, ltb, eqb}
@@ -23,13 +23,14 @@ use Rattle.answer.specs.Respond.{Answer, Response, respond}
 use Rattle.answer.specs.Read.{answerOk, allowed}
 use Rattle.answer.proofs.Front.{response-size}
 use Rattle.answer.proofs.Answers.{answers-back}
-use Rattle.answer.proofs.One.{response-message, bytes-one}
+use Rattle.answer.proofs.One.{response-message, response-spells, bytes-one}
 use Rattle.engine.specs.Batch.{running}
-use Rattle.engine.specs.Serving.{Effect, roomLeast, responseTo, answered}
+use Rattle.engine.specs.Effects.{Effect, roomLeast}
+use Rattle.engine.specs.Serving.{responseTo, answered}
 use Rattle.engine.proofs.Batches.{Leaves, batch-leaves}
 use Rattle.demands.specs.Box.{Call, Box, Lent}
 use Rattle.demands.specs.Demand1.{Demand1, Untouched, Within}
-use Rattle.demands.specs.Demand2.{Demand2, Answered, answerOf, refusalConditions, lowest}
+use Rattle.demands.specs.Demand2.{Demand2, Answered, meant, refusalConditions, lowest}
 use Rattle.demands.proofs.Chains.{batch-chain}
 use Rattle.demands.proofs.Ladder.{served, served-number, lowest-most, Accepted, requestOf, ranBy, Told, away, accepted, told}
 
@@ -90,21 +91,29 @@ module _ (c : Call) (lent : Lent c) (a : Accepted c) where
   given : Answered c (answered (c .clock) (c .output) (ranBy c a))
   unfolding answered running
   given =
-      let chained = batch-chain c (optionOf (a .frame .header .option)) (a .frame .items) 0 0 (c .table) in
+      let option = optionOf (a .frame .header .option) in
+      let chained = batch-chain c option (a .frame .items) 0 0 (c .table) in
       let r : Response = responseTo (c .clock) (ranBy c a) in
-      let same : r ≡ record { clock = c .clock; answers = map answerOf (chained .links) } = ap (λ (rs : List Answer). record { clock = c .clock; answers = rs }) (sym (chained .answers)) in
+      let same : r ≡ meant c option (chained .links) = ap (λ (rs : List Answer). record { clock = c .clock; answers = rs }) (sym (chained .answers)) in
+      let bytes : take (length spelling) (over spelling (c .output)) ≡ encode (respond (meant c option (chained .links))) = front-is ∙ ap (λ (q : Response). encode (respond q)) same in
       record {
         items = a .items;
         frame = a .frame;
         reads = a .reads;
         spelled = message-spells (c .request) (a .items) (lent .request) (a .reads);
         framed = a .framed;
+        start = c .table;
+        reached = ranBy c a .table;
         links = chained .links;
+        begins = refl;
         chain = chained .chain;
+        left = refl;
+        spelling = bytes;
         response = respond r;
         readable = ap message front-is ∙ response-message r ran-allowed;
         read-back = answers-back r ran-allowed ∙ ap some same;
         one-response = λ q ok e. bytes-one q r ok ran-allowed (e ∙ front-is) ∙ same;
+        one-spelling = λ s b h. response-spells s (meant c option (chained .links)) b h .0 ∙ sym bytes;
       }
 
 -- ---- the demands

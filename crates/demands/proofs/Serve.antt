@@ -1,15 +1,13 @@
 -- What ships, as a box: the postcondition of `junctionmoth_serve`, as the checker reads it. No other file writes a parameter's position.
 -- Assumes nothing.
-use Prim.Native.Nat.{ℕ}
-use mathlib.Core.Path.{_≡_, refl, ap, _∙_}
-use mathlib.Core.List.{List}
+use mathlib.Core.Path.{_≡_, refl}
 use contract.Lifetimes.{Lfts}
 use borrow.Fn.Kinds.{Dens, resT, endedOf}
 use denote.Triple.Clauses.{AtExit}
 use denote.Ref.{now}
 use mir.Syntax.{w64}
 use mir.Val.{ofZ}
-use Rattle.engine.specs.Serving.{Effect}
+use Rattle.engine.specs.Effects.{Effect}
 use Rattle.junctionmoth.specs.Boundary.{CallIs}
 use Rattle.junctionmoth.proofs.junctionmoth_serve.Reads as reads
 use Rattle.junctionmoth.proofs.junctionmoth_serve.Kinds as kinds
@@ -17,7 +15,7 @@ use Rattle.demands.specs.Box.{Call, Box, Lent}
 use Rattle.demands.specs.Demand1.{Demand1}
 use Rattle.demands.specs.Demand2.{Demand2}
 use Rattle.demands.specs.Demand3.{Demand3}
-use Rattle.demands.proofs.Ladder.{served}
+use Rattle.demands.proofs.Ladder.{served, same-effect}
 use Rattle.demands.proofs.Meets.{meets-1, meets-2}
 use Rattle.demands.proofs.Meets3.{meets-3}
 
@@ -43,18 +41,15 @@ module _ (κs : Lfts 5) (a : Dens κs kinds.ps) where
 
 -- ---- the three demands
 
-same-effect : (e f : Effect) → e .number ≡ f .number → e .length ≡ f .length → e .table ≡ f .table → e .output ≡ f .output → e ≡ f
-same-effect e f n l t o =
-    ap (λ (k : ℕ). record { number = k; length = e .length; table = e .table; output = e .output }) n
-    ∙ ap (λ (k : ℕ). record { number = f .number; length = k; table = e .table; output = e .output }) l
-    ∙ ap (λ (k : List ℕ). record { number = f .number; length = f .length; table = k; output = e .output }) t
-    ∙ ap (λ (k : List ℕ). record { number = f .number; length = f .length; table = f .table; output = k }) o
-
 serve-is : (c : Call) (e : Effect) → Lent c → Serve c e → e ≡ served c
 serve-is c e lent p = same-effect e (served c) (p .number-is) (p .length-is) (p .table-is) (p .output-is)
 
+-- what the definitions give is in it
+pub serve-right : (c : Call) → Serve c (served c)
+serve-right c = record { number-is = refl; length-is = refl; table-is = refl; output-is = refl }
+
 serve-has : (c : Call) → Lent c → (e : Effect) × Serve c e
-serve-has c lent = (served c, record { number-is = refl; length-is = refl; table-is = refl; output-is = refl })
+serve-has c lent = (served c, serve-right c)
 
 -- it always ends with an answer
 pub demand-1 : Demand1 Serve

@@ -1,46 +1,42 @@
--- What one item may do to the records: states change only by the listed transitions, and untouched records stay.
+-- What one item may do to the records: states change only by the listed transitions, a record leaves its place only by a take-over, and untouched records stay.
 -- Assumes nothing.
-use Prim.Native.Nat.{ℕ, _+_, _*_, _≤_, _<_}
+use Prim.Native.Nat.{ℕ, _+_, _<_}
 use native.Mathlib.Omega.{arith}
 use native.Mathlib.Decide.{ℕ-discrete}
 use mathlib.Core.Path.{_≡_, refl, sym, ap, subst, _∙_}
 use mathlib.Core.Logic.{_⊎_, ⊎-elim}
-use mathlib.Core.Bool.{true, false, _&&_, true≢false}
-use mathlib.Core.Option.{Option, none, some}
+use mathlib.Core.Bool.{Bool, true, false, not, _&&_, _||_, true≢false, false≢true}
 use mathlib.Core.List.{List}
-use lib.ListN.{length}
-use borrow.Author.Tests.{eq-eqb}
+use lib.Dec.{eqb}
+use borrow.Author.Tests.{eqb-true, eq-eqb, ne-eqb}
 use Rattle.octets.specs.Octets.{Bytes}
+use Rattle.octets.proofs.Bools.{and-i, and-no, or-l, or-r}
 use Rattle.table.specs.declared.Record.{Record}
 use Rattle.search.specs.declared.Found.{Found}
 use Rattle.search.specs.declared.Found.the-variants.{At}
-use Rattle.table.specs.Layout.{placeCount, materialSize}
-use Rattle.table.specs.Records.{placeAt, serialAt, lastSerial}
-use Rattle.search.specs.Search.{find, newPlace}
-use Rattle.table.proofs.Places.{serial-is}
-use Rattle.search.proofs.Finds.{find-below}
-use Rattle.rules.specs.declared.Reason.{Reason}
-use Rattle.rules.specs.Tests.{due}
+use Rattle.table.specs.Layout.{placeCount}
+use Rattle.table.specs.Records.{placeAt, serialAt, isFree, lastSerial}
+use Rattle.search.specs.Search.{find, newPlace, isDestroyed}
+use Rattle.table.proofs.Places.{serial-is, state-is}
+use Rattle.search.proofs.Finds.{find-below, new-at}
+use Rattle.rules.specs.Numbers.{preActive}
 use Rattle.changes.specs.Records.{newRecord, heirOf, linkedTo, inState, movedTo, withCount}
 use Rattle.rules.proofs.States.{three}
 use Rattle.rules.proofs.Moves.{Move, activates, compromises, compromises-destroyed, deactivates, destroys, destroys-compromised, move}
 use Rattle.keeps.proofs.Stores.{other}
-use Rattle.keeps.proofs.Keeps.{Held, facts, found-stands}
-use Rattle.keeps.proofs.Begun.{Allowed}
+use Rattle.keeps.proofs.Keeps.{Held, found-stands}
 use Rattle.keeps.proofs.Leaves.{moved-leaves, count-leaves, born-leaves, heir-leaves}
 use Rattle.frame.specs.Frame.{Asked}
 use Rattle.payload.specs.declared.Target.{Target}
 use Rattle.payload.specs.declared.Command.{Command}
-use Rattle.payload.specs.declared.Command.the-variants.{Create}
 use Rattle.payload.specs.Payload.{command}
-use Rattle.act.specs.Act.{Env, Did, envAt, sought, carried, createPlan, rekeyPlan, step, isFailed}
+use Rattle.act.specs.Act.{Env, Did, envAt, sought, createPlan, rekeyPlan, step, isFailed}
 use Rattle.act.proofs.Went.{Moving, activating, revoking, destroying, Kind, fails, creates, rekeys, grants, moves, shows, step-kind}
-use Rattle.engine.proofs.Commands.{Commanded, to-create, to-activate, to-revoke, to-destroy, commanded}
-use Rattle.engine.proofs.Steps.{step-held}
-use Rattle.engine.proofs.Batches.{own-bytes, own-long}
-use Rattle.demands.specs.Box.{Call}
-use Rattle.demands.specs.Demand2.{Link, planOf, Due, linkAt, Chain, none-left, stops, goes-on}
-use Rattle.demands.specs.Demand3.{namedBy, takesPlace, codeOf, isAt, listed, Tame, Every, no-link, link}
+use Rattle.engine.specs.Batch.{answerTo}
+use Rattle.engine.proofs.Commands.{Commanded, to-activate, to-revoke, to-destroy, commanded}
+use Rattle.demands.specs.Log.{Event, issuedBy}
+use Rattle.demands.specs.Demand3.{namedBy, movesState, codeOf, isAt, listed, Tame}
+use Rattle.demands.proofs.Counted.{create-allowed, no-issue, move-issues, Counts, kind-counts}
 
 -- ---- the listed transitions
 
@@ -55,24 +51,108 @@ move-listed (destroys-compromised o s n) = rw (o, s, n)
 
 -- ---- places
 
-is-at : (i : ℕ) (f : Found) → f ≡ At i → isAt i f ≡ true
+is-at : (i k : ℕ) (f : Found) → f ≡ At k → i ≡ k → isAt i f ≡ true
 unfolding isAt
-is-at i f e = rw e (eq-eqb i i refl)
+is-at i k f e q = ap (isAt i) e ∙ eq-eqb i k q
 
-not-at : (i k : ℕ) (f : Found) → f ≡ At k → isAt i f ≡ false → i ≡ k → ⊥
+not-at : (i k : ℕ) (f : Found) → f ≡ At k → (i ≡ k → ⊥) → isAt i f ≡ false
 unfolding isAt
-not-at i k f e n q = true≢false (sym (is-at i f (e ∙ ap At (sym q))) ∙ n)
+not-at i k f e q = ap (isAt i) e ∙ ne-eqb i k q
 
--- ---- kinds
+at-is : (i k : ℕ) (f : Found) → f ≡ At k → isAt i f ≡ true → i ≡ k
+unfolding isAt
+at-is i k f e h = eqb-true i k (sym (ap (isAt i) e) ∙ h)
+
+and-false : (a b : Bool) → b ≡ false → (a && b) ≡ false
+and-false true b h = h
+and-false false b h = refl
+
+-- ---- one place
+
+-- the item of a command c names place i
+abbrev namedAt : ℕ → ℕ → List ℕ → Command → ℕ → Bool
+namedAt n holder t c i = isAt i (find n t (namedBy holder c))
+
+-- and takes it
+abbrev tookAt : ℕ → List ℕ → Command → Did → ℕ → Bool
+tookAt n t c did i = not (eqb (issuedBy c (did .outcome)) 0) && isAt i (newPlace n t)
+
+-- an item takes no place but the one that is due, and none where it issues nothing
+not-taken : (n : ℕ) (t : List ℕ) (c : Command) (did : Did) (i k : ℕ) → newPlace n t ≡ At k → (i ≡ k → ⊥) → tookAt n t c did i ≡ false
+not-taken n t c did i k e q = and-false (not (eqb (issuedBy c (did .outcome)) 0)) (isAt i (newPlace n t)) (not-at i k (newPlace n t) e q)
+
+none-taken : (n : ℕ) (t : List ℕ) (c : Command) (did : Did) (i : ℕ) → issuedBy c (did .outcome) ≡ 0 → tookAt n t c did i ≡ false
+none-taken n t c did i e = and-no (not (eqb (issuedBy c (did .outcome)) 0)) (isAt i (newPlace n t)) (ap (λ (s : ℕ). not (eqb s 0)) e)
+
+-- and moves its state by a listed transition
+abbrev wayAt : ℕ → List ℕ → ℕ → Command → Did → ℕ → Bool
+wayAt n t operation c did i = listed operation (codeOf c) (placeAt n t i .state) (placeAt n (did .table) i .state)
 
 -- an item on place i, as the demand says it, for a command c of an operation
 pub record TameAt (n holder : ℕ) (t : List ℕ) (operation : ℕ) (c : Command) (did : Did) (i : ℕ) : Type 0 where
-  pub moves : (serialAt t i ≡ 0 → ⊥) → serialAt (did .table) i ≡ serialAt t i → (placeAt n (did .table) i .state ≡ placeAt n t i .state → ⊥)
-      → (isFailed (did .outcome) ≡ false) × (isAt i (find n t (namedBy holder c)) ≡ true) × (listed operation (codeOf c) (placeAt n t i .state) (placeAt n (did .table) i .state) ≡ true)
-  pub others : isAt i (find n t (namedBy holder c)) ≡ false → (takesPlace c && isAt i (newPlace n t)) ≡ false → placeAt n (did .table) i ≡ placeAt n t i
+  pub others : namedAt n holder t c i ≡ false → tookAt n t c did i ≡ false → placeAt n (did .table) i ≡ placeAt n t i
+  pub kept : tookAt n t c did i ≡ false → placeAt n (did .table) i .serial ≡ placeAt n t i .serial
+  pub moves : tookAt n t c did i ≡ false → (placeAt n (did .table) i .state ≡ placeAt n t i .state → ⊥)
+      → (isFailed (did .outcome) ≡ false) × (namedAt n holder t c i ≡ true) × (wayAt n t operation c did i ≡ true)
+  pub obeys : namedAt n holder t c i ≡ true → isFailed (did .outcome) ≡ false → movesState c ≡ true → wayAt n t operation c did i ≡ true
+  pub taken : tookAt n t c did i ≡ true
+      → ((isFree t i || isDestroyed (placeAt n t i .state)) ≡ true) × (placeAt n (did .table) i .serial ≡ issuedBy c (did .outcome)) × (placeAt n (did .table) i .state ≡ preActive)
 
-create-allowed : {operation : ℕ} {wanted : _} → Commanded operation (Create wanted) → Allowed wanted
-create-allowed (to-create o a) = a
+module _ {n holder : ℕ} {t : List ℕ} {operation : ℕ} {c : Command} {did : Did} (i : ℕ) where
+  -- a record that stayed the same, and was not to move
+  stayed : placeAt n (did .table) i ≡ placeAt n t i → tookAt n t c did i ≡ false → (namedAt n holder t c i ≡ true → isFailed (did .outcome) ≡ false → movesState c ≡ true → ⊥)
+      → TameAt n holder t operation c did i
+  stayed e miss still = record {
+    others = λ a b. e;
+    kept = λ b. ap (λ (r : Record). r .serial) e;
+    moves = λ b d. absurd (d (ap (λ (r : Record). r .state) e));
+    obeys = λ a f m. absurd (still a f m);
+    taken = λ b. absurd (true≢false (sym b ∙ miss));
+  }
+
+  -- a named record with its serial and state kept, by a command that moves none
+  touched : placeAt n (did .table) i .serial ≡ placeAt n t i .serial → placeAt n (did .table) i .state ≡ placeAt n t i .state
+      → namedAt n holder t c i ≡ true → tookAt n t c did i ≡ false → movesState c ≡ false → TameAt n holder t operation c did i
+  touched s e hit miss still = record {
+    others = λ a b. absurd (true≢false (sym hit ∙ a));
+    kept = λ b. s;
+    moves = λ b d. absurd (d e);
+    obeys = λ a f m. absurd (true≢false (sym m ∙ still));
+    taken = λ b. absurd (true≢false (sym b ∙ miss));
+  }
+
+  -- a named record that moved
+  shifted : placeAt n (did .table) i .serial ≡ placeAt n t i .serial → isFailed (did .outcome) ≡ false
+      → namedAt n holder t c i ≡ true → tookAt n t c did i ≡ false → wayAt n t operation c did i ≡ true → TameAt n holder t operation c did i
+  shifted s done hit miss w = record {
+    others = λ a b. absurd (true≢false (sym hit ∙ a));
+    kept = λ b. s;
+    moves = λ b d. (done, hit, w);
+    obeys = λ a f m. w;
+    taken = λ b. absurd (true≢false (sym b ∙ miss));
+  }
+
+  -- an object that is new
+  born : (k : ℕ) → newPlace n t ≡ At k → i ≡ k → (issuedBy c (did .outcome) ≡ 0 → ⊥) → movesState c ≡ false
+      → placeAt n (did .table) i .serial ≡ issuedBy c (did .outcome) → placeAt n (did .table) i .state ≡ preActive → TameAt n holder t operation c did i
+  born k e q new still s b = record {
+    others = λ a miss. absurd (true≢false (sym hit ∙ miss));
+    kept = λ miss. absurd (true≢false (sym hit ∙ miss));
+    moves = λ miss d. absurd (true≢false (sym hit ∙ miss));
+    obeys = λ a f m. absurd (true≢false (sym m ∙ still));
+    taken = λ y. (was, s, b);
+  }
+    where
+      hit : tookAt n t c did i ≡ true
+      hit = and-i _ (isAt i (newPlace n t)) (ap not (ne-eqb _ 0 new)) (is-at i k (newPlace n t) e q)
+
+      was : (isFree t i || isDestroyed (placeAt n t i .state)) ≡ true
+      was =
+          ⊎-elim (λ z. or-l (isFree t i) _ (eq-eqb (serialAt t i) 0 z))
+          (λ d. or-r (isFree t i) _ (ap isDestroyed (sym (state-is n t i)) ∙ d .1))
+          (new-at n t i (e ∙ ap At (sym q)))
+
+-- ---- kinds
 
 move-code : (holder : ℕ) {c : Command} {operation code o : ℕ} {target : Target} → Moving c operation code target → Commanded o c → (o ≡ operation) × (codeOf c ≡ code) × (namedBy holder c ≡ sought holder target)
 unfolding codeOf namedBy
@@ -80,108 +160,126 @@ move-code holder activating (to-activate e) = (e, refl, refl)
 move-code holder revoking (to-revoke e) = (e, refl, refl)
 move-code holder destroying (to-destroy e) = (e, refl, refl)
 
--- a record that stayed the same does neither
-stayed : {n holder operation : ℕ} {t : List ℕ} {c : Command} {did : Did} (i : ℕ) → placeAt n (did .table) i ≡ placeAt n t i → TameAt n holder t operation c did i
-stayed i e = record { moves = λ s q d. absurd (d (ap (λ (r : Record). r .state) e)); others = λ a b. e }
-
 module _ (env : Env) (holder : ℕ) (t : List ℕ) (held : Held (env .places) t) (fresh-bytes : Bytes (env .fresh)) (i : ℕ) (low : i < env .places) where
-  -- a record that took a place has a serial that no record had
-  new-serial : (u : List ℕ) → placeAt (env .places) u i .serial ≡ lastSerial t + 1 → serialAt u i ≡ serialAt t i → ⊥
-  new-serial u e s =
-      let a : serialAt t i ≤ lastSerial t = facts (env .places) t held .issued i low in
-      let b : serialAt u i ≡ lastSerial t + 1 = serial-is (env .places) u i ∙ e in
-      omega arith
+  abbrev n : ℕ
+  n = env .places
+
+  -- a record stored anew at place k, and read at i
+  here : (u : List ℕ) {k : ℕ} {r : Record} → i ≡ k → placeAt n u k ≡ r → placeAt n u i ≡ r
+  here u q e = ap (placeAt n u) q ∙ e
 
   pub kind-tame : {operation : ℕ} (c : Command) (did : Did) → Kind env holder t c did → Commanded operation c → TameAt (env .places) holder t operation c did i
-  unfolding createPlan rekeyPlan newRecord heirOf linkedTo withCount movedTo inState namedBy takesPlace isFailed
-  kind-tame c did (fails reason) m = stayed i refl
-  kind-tame c did (shows target k e) m = stayed i refl
+  unfolding createPlan rekeyPlan newRecord heirOf linkedTo withCount movedTo inState namedBy movesState isFailed issuedBy
+  kind-tame c did (fails reason) m = stayed i refl (none-taken n t c did i (no-issue c reason)) (λ a f z. true≢false f)
+  kind-tame c did (shows target k e) m = stayed i refl refl (λ a f z. false≢true z)
   kind-tame c did (creates wanted room) m =
-      let b = born-leaves (env .places) t held room (env .fresh) fresh-bytes wanted (create-allowed m) in
+      let b = born-leaves n t held room (env .fresh) fresh-bytes wanted (create-allowed m) in
       elim (ℕ-discrete i (b .place)) [
-        | no q ↦ stayed i (other (env .places) t (b .place) _ _ _ (b .stored) i low q)
-        | yes q ↦ record {
-          moves = λ s z d. absurd (new-serial _ (ap (λ (k : ℕ). placeAt (env .places) (did .table) k .serial) q ∙ ap (λ (r : Record). r .serial) (b .stored .here)) z);
-          others = λ a z. absurd (not-at i (b .place) (newPlace (env .places) t) (b .due) z q);
-        }
+        | no q ↦ stayed i (other n t (b .place) _ _ _ (b .stored) i low q) (not-taken n t c did i (b .place) (b .due) q) (λ a f z. false≢true z)
+        | yes q ↦ (let r = here (did .table) q (b .stored .here) in
+            born i (b .place) (b .due) q (λ z. (let y : lastSerial t + 1 ≡ 0 = z in omega arith)) refl (ap (λ (x : Record). x .serial) r) (ap (λ (x : Record). x .state) r))
       ]
   kind-tame c did (rekeys target k e alive single room) m =
       let x = sought holder target in
-      let b = heir-leaves (env .places) t held room (env .fresh) fresh-bytes k (find-below (env .places) t x k e) (found-stands (env .places) t x k e) alive in
+      let b = heir-leaves n t held room (env .fresh) fresh-bytes k (find-below n t x k e) (found-stands n t x k e) alive in
       elim (ℕ-discrete i (b .place)) [
-        | yes q ↦ record {
-          moves = λ s z d. absurd (new-serial _ (ap (λ (j : ℕ). placeAt (env .places) (did .table) j .serial) q ∙ ap (λ (r : Record). r .serial) (b .new)) z);
-          others = λ a z. absurd (not-at i (b .place) (newPlace (env .places) t) (b .due) z q);
-        }
+        | yes q ↦ (let r = here (did .table) q (b .new) in
+            born i (b .place) (b .due) q (λ z. (let y : lastSerial t + 1 ≡ 0 = z in omega arith)) refl (ap (λ (x : Record). x .serial) r) (ap (λ (x : Record). x .state) r))
         | no q ↦ elim (ℕ-discrete i k) [
-          | yes p ↦ record {
-            moves = λ s z d. absurd (d (ap (λ (j : ℕ). placeAt (env .places) (did .table) j .state) p ∙ ap (λ (r : Record). r .state) (b .old) ∙ ap (λ (j : ℕ). placeAt (env .places) t j .state) (sym p)));
-            others = λ a z. absurd (not-at i k (find (env .places) t x) e a p);
-          }
-          | no p ↦ stayed i (b .others i low q p)
+          | yes p ↦ (let r = here (did .table) p (b .old) in
+              let s : placeAt n t k ≡ placeAt n t i = ap (placeAt n t) (sym p) in
+              touched i (ap (λ (x : Record). x .serial) r ∙ ap (λ (x : Record). x .serial) s) (ap (λ (x : Record). x .state) r ∙ ap (λ (x : Record). x .state) s)
+              (is-at i k (find n t x) e p) (not-taken n t c did i (b .place) (b .due) q) refl)
+          | no p ↦ stayed i (b .others i low q p) (not-taken n t c did i (b .place) (b .due) q) (λ a f z. false≢true z)
         ]
       ]
   kind-tame c did (grants target amount k e g) m =
       let x = sought holder target in
-      let st = count-leaves (env .places) t held k (find-below (env .places) t x k e) (found-stands (env .places) t x k e) amount _ g in
+      let st = count-leaves n t held k (find-below n t x k e) (found-stands n t x k e) amount _ g in
       elim (ℕ-discrete i k) [
-        | no p ↦ stayed i (other (env .places) t k _ _ _ st i low p)
-        | yes p ↦ record {
-          moves = λ s z d. absurd (d (ap (λ (j : ℕ). placeAt (env .places) (did .table) j .state) p ∙ ap (λ (r : Record). r .state) (st .here) ∙ ap (λ (j : ℕ). placeAt (env .places) t j .state) (sym p)));
-          others = λ a z. absurd (not-at i k (find (env .places) t x) e a p);
-        }
+        | no p ↦ stayed i (other n t k _ _ _ st i low p) refl (λ a f z. false≢true z)
+        | yes p ↦ (let r = here (did .table) p (st .here) in
+            let s : placeAt n t k ≡ placeAt n t i = ap (placeAt n t) (sym p) in
+            touched i (ap (λ (x : Record). x .serial) r ∙ ap (λ (x : Record). x .serial) s) (ap (λ (x : Record). x .state) r ∙ ap (λ (x : Record). x .state) s)
+            (is-at i k (find n t x) e p) refl refl)
       ]
   kind-tame {operation} c did (moves {operation = op} {code} {target} v k next e g) m =
       let x = sought holder target in
-      let st = moved-leaves (env .places) t held k (find-below (env .places) t x k e) (found-stands (env .places) t x k e) op code next g in
+      let st = moved-leaves n t held k (find-below n t x k e) (found-stands n t x k e) op code next g in
       let w = move-code holder v m in
-      let found : find (env .places) t (namedBy holder c) ≡ At k = ap (find (env .places) t) (w .2) ∙ e in
+      let found : find n t (namedBy holder c) ≡ At k = ap (find n t) (w .2) ∙ e in
+      let miss : tookAt n t c did i ≡ false = none-taken n t c did i (move-issues v (did .outcome)) in
       elim (ℕ-discrete i k) [
-        | no p ↦ stayed i (other (env .places) t k _ _ _ st i low p)
-        | yes p ↦ record {
-          moves = λ s z d. (
-            refl,
-            is-at i _ (found ∙ ap At (sym p)),
-            subst (λ (j : ℕ). listed operation (codeOf c) (placeAt (env .places) t j .state) (placeAt (env .places) (did .table) j .state) ≡ true) (sym p)
-                (subst (λ (r : Record). listed operation (codeOf c) (placeAt (env .places) t k .state) (r .state) ≡ true) (sym (st .here))
-                (subst (λ (o : ℕ). listed o (codeOf c) (placeAt (env .places) t k .state) next ≡ true) (sym (w .0))
-                (subst (λ (o : ℕ). listed op o (placeAt (env .places) t k .state) next ≡ true) (sym (w .1)) (move-listed (move op code (placeAt (env .places) t k .state) next g))))),
-          );
-          others = λ a z. absurd (not-at i k _ found a p);
-        }
+        | no p ↦ stayed i (other n t k _ _ _ st i low p) miss (λ a f z. p (at-is i k _ found a))
+        | yes p ↦ (let r = here (did .table) p (st .here) in
+            let s : placeAt n t k ≡ placeAt n t i = ap (placeAt n t) (sym p) in
+            shifted i (ap (λ (x : Record). x .serial) r ∙ ap (λ (x : Record). x .serial) s) refl (is-at i k _ found p) miss
+            (subst (λ (y : Record). listed operation (codeOf c) (placeAt n t i .state) (y .state) ≡ true) (sym r)
+            (subst (λ (y : Record). listed operation (codeOf c) (y .state) next ≡ true) s
+            (subst (λ (o : ℕ). listed o (codeOf c) (placeAt n t k .state) next ≡ true) (sym (w .0))
+            (subst (λ (o : ℕ). listed op o (placeAt n t k .state) next ≡ true) (sym (w .1)) (move-listed (move op code (placeAt n t k .state) next g)))))))
       ]
 
--- ---- links and chains
+-- what is issued stands
+kind-stands : (env : Env) (holder : ℕ) (t : List ℕ) → Held (env .places) t → Bytes (env .fresh) → {operation : ℕ} (c : Command) (did : Did) → Kind env holder t c did → Commanded operation c
+    → (issuedBy c (did .outcome) ≡ 0 → ⊥) → (i : ℕ) × (i < env .places) × (placeAt (env .places) (did .table) i .serial ≡ issuedBy c (did .outcome))
+unfolding createPlan rekeyPlan newRecord heirOf issuedBy
+kind-stands env holder t held fresh-bytes c did (fails reason) m h = absurd (h (no-issue c reason))
+kind-stands env holder t held fresh-bytes c did (creates wanted room) m h =
+    let b = born-leaves (env .places) t held room (env .fresh) fresh-bytes wanted (create-allowed m) in
+    (b .place, b .below, ap (λ (r : Record). r .serial) (b .stored .here))
+kind-stands env holder t held fresh-bytes c did (rekeys target k e alive single room) m h =
+    let x = sought holder target in
+    let b = heir-leaves (env .places) t held room (env .fresh) fresh-bytes k (find-below (env .places) t x k e) (found-stands (env .places) t x k e) alive in
+    (b .place, b .below, ap (λ (r : Record). r .serial) (b .new))
+kind-stands env holder t held fresh-bytes c did (grants target amount k e g) m h = absurd (h refl)
+kind-stands env holder t held fresh-bytes c did (moves v k next e g) m h = absurd (h (move-issues v (did .outcome)))
+kind-stands env holder t held fresh-bytes c did (shows target k e) m h = absurd (h refl)
 
--- an item that is due is the one that is carried out
-pub due-step : (l : Link) → Due l → l .did ≡ step (l .env) (l .holder) (l .table) (l .asked)
-unfolding step carried
-due-step l d = go (due (planOf l .tests)) refl
-  where
-    go : (o : Option Reason) → due (planOf l .tests) ≡ o → l .did ≡ carried (l .table) (planOf l .did) (due (planOf l .tests))
-    go none e = d .succeeds e ∙ sym (ap (carried (l .table) (planOf l .did)) e)
-    go (some reason) e = d .fails reason e ∙ sym (ap (carried (l .table) (planOf l .did)) e)
+-- a failed item leaves the table
+kind-failed : (env : Env) (holder : ℕ) (t : List ℕ) (c : Command) (did : Did) → Kind env holder t c did → isFailed (did .outcome) ≡ true → did .table ≡ t
+unfolding createPlan rekeyPlan isFailed
+kind-failed env holder t c did (fails reason) h = refl
+kind-failed env holder t c did (creates wanted room) h = absurd (false≢true h)
+kind-failed env holder t c did (rekeys target k e alive single room) h = absurd (false≢true h)
+kind-failed env holder t c did (grants target amount k e g) h = absurd (false≢true h)
+kind-failed env holder t c did (moves v k next e g) h = absurd (false≢true h)
+kind-failed env holder t c did (shows target k e) h = refl
 
-link-tame : (l : Link) → Due l → Held (l .env .places) (l .table) → Bytes (l .env .fresh) → Tame l
-link-tame l d h b = record {
-  moves = λ i low s z n. (let k = at i low .moves s z n in record { done = k .0; named = k .1; way = k .2 });
-  others = λ i low a z. at i low .others a z;
-}
-  where
-    at : (i : ℕ) → i < l .env .places → TameAt (l .env .places) (l .holder) (l .table) (l .asked .operation) (command (l .asked .operation) (l .asked .payload)) (l .did) i
-    at i low =
-        subst (λ (did : Did). TameAt (l .env .places) (l .holder) (l .table) (l .asked .operation) (command (l .asked .operation) (l .asked .payload)) did i) (sym (due-step l d))
-        (kind-tame (l .env) (l .holder) (l .table) h b i low (command (l .asked .operation) (l .asked .payload)) (step (l .env) (l .holder) (l .table) (l .asked))
-        (step-kind (l .env) (l .holder) (l .table) (l .asked)) (commanded (l .asked .operation) (l .asked .payload)))
+-- ---- one item, as an event
 
-module _ (c : Call) (strip-bytes : Bytes (c .strip)) (option : ℕ) where
-  -- along a chain on a sound table every link is tame
-  pub chain-tame : {i holder : ℕ} {t u : List ℕ} {items : List Asked} {links : List Link} → Chain c option i holder t items links u → Held placeCount t
-      → materialSize * (i + length items) ≤ length (c .strip) → Every Tame links
-  chain-tame none-left h l = no-link
-  chain-tame (stops {i} {holder} {t} asked did d f o) h l = link (link-tame (linkAt c i holder t asked did) d h (own-bytes placeCount (c .clock) (c .strip) option strip-bytes i (omega arith))) no-link
-  chain-tame (goes-on {i} {holder} {t} asked did d f rest) h l =
-      let own = own-bytes placeCount (c .clock) (c .strip) option strip-bytes i (omega arith) in
-      let long = own-long placeCount (c .clock) (c .strip) option strip-bytes i (omega arith) in
-      link (link-tame (linkAt c i holder t asked did) d h own)
-      (chain-tame rest (subst (λ (x : Did). Held placeCount (x .table)) (sym (due-step (linkAt c i holder t asked did) d)) (step-held (envAt placeCount (c .clock) (c .strip) i) holder t h own long asked)) (omega arith))
+-- an item with its answer
+abbrev pub eventOf : ℕ → Asked → Did → Event
+eventOf holder asked did = record { held = holder; asked = asked; answer = answerTo asked did }
+
+module _ (clock : ℕ) (strip : List ℕ) (k holder : ℕ) (t : List ℕ) (asked : Asked) where
+  -- what item k meets, and what it leaves
+  abbrev own : Env
+  own = envAt placeCount clock strip k
+
+  abbrev did : Did
+  did = step own holder t asked
+
+  abbrev c : Command
+  c = command (asked .operation) (asked .payload)
+
+  pub step-tame : Held placeCount t → Bytes (own .fresh) → Tame (eventOf holder asked did) t (did .table)
+  step-tame held fresh-bytes = record {
+    failed = kind-failed own holder t c did went;
+    others = λ i low a b. at i low .others a b;
+    kept = λ i low b. serial-is placeCount (did .table) i ∙ at i low .kept b ∙ sym (serial-is placeCount t i);
+    moves = λ i low b d. (let w = at i low .moves b d in record { done = w .0; named = w .1; way = w .2 });
+    obeys = λ i low a f m. at i low .obeys a f m;
+    taken = λ i low y. (let w = at i low .taken y in record { was = w .0; serial = serial-is placeCount (did .table) i ∙ w .1; state = w .2 });
+    stands = λ h. (let w = kind-stands own holder t held fresh-bytes c did went (commanded (asked .operation) (asked .payload)) h in (w .0, record { below = w .1; serial = serial-is placeCount (did .table) (w .0) ∙ w .2 }));
+    grants = λ x z away. ⊎-elim (λ none. none) (λ h. absurd (away (h .place) (record { below = h .below; serial = serial-is placeCount t (h .place) ∙ h .serial }))) (counts .counted .granted x);
+  }
+    where
+      went : Kind own holder t c did
+      went = step-kind own holder t asked
+
+      counts : Counts placeCount t holder c did
+      counts = kind-counts own holder t held fresh-bytes c did went (commanded (asked .operation) (asked .payload))
+
+      at : (i : ℕ) → i < placeCount → TameAt placeCount holder t (asked .operation) c did i
+      at i low = kind-tame own holder t held fresh-bytes i low c did went (commanded (asked .operation) (asked .payload))

@@ -3,7 +3,10 @@
 use Prim.Native.Nat.{ℕ, _<_, _^_}
 use mathlib.Core.List.{List}
 use Rattle.octets.specs.Octets.{Bytes}
-use Rattle.engine.specs.Serving.{Effect}
+use Rattle.table.specs.declared.Record.{Record}
+use Rattle.table.specs.Layout.{placeCount}
+use Rattle.table.specs.Records.{placeAt}
+use Rattle.engine.specs.Effects.{Effect}
 
 -- what is lent to a call; the clock comes as its 64 bits
 pub record Call : Type 0 where
@@ -24,3 +27,11 @@ pub record Lent (c : Call) : Type 0 where
   pub strip : Bytes (c .strip)
   pub output : Bytes (c .output)
   pub clock : c .clock < 2 ^ 64
+
+-- the number of places of a table
+abbrev pub placesIn : List ℕ → ℕ
+placesIn t = placeCount
+
+-- the record at place i of a table
+abbrev pub recordIn : List ℕ → ℕ → Record
+recordIn t i = placeAt (placesIn t) t i

@@ -3,7 +3,7 @@
 use Prim.Native.Nat.{ℕ, _≤_}
 use mathlib.Core.Path.{_≡_}
 use lib.ListN.{length, drop}
-use Rattle.engine.specs.Serving.{Effect, roomLeast}
+use Rattle.engine.specs.Effects.{Effect}
 use Rattle.demands.specs.Box.{Call, Box, Lent}
 
 -- "one of nine numbered refusals"
@@ -18,7 +18,7 @@ pub record Untouched (c : Call) (e : Effect) : Type 0 where
 
 -- a call that is answered: "a response of at most 4,824 bytes", and the output past it as it was
 pub record Within (c : Call) (e : Effect) : Type 0 where
-  pub short : e .length ≤ roomLeast
+  pub short : e .length ≤ 4824
   pub room : e .length ≤ length (c .output)
   pub same-room : length (e .output) ≡ length (c .output)
   pub past : drop (e .length) (e .output) ≡ drop (e .length) (c .output)

@@ -8,10 +8,10 @@ use mathlib.Core.List.{List, [], _∷_, map}
 use lib.ListN.{length, take}
 use lib.Dec.{ltb, eqb}
 use Rattle.octets.specs.If.{ifb}
+use Rattle.octets.specs.Octets.{Bytes}
 use Rattle.octets.specs.Maybe.{_>>=_, isSome}
 use Rattle.ttlv.specs.Items.{Items, encode}
 use Rattle.ttlv.specs.Parse.{message}
-use Rattle.table.specs.Layout.{placeCount}
 use Rattle.soundness.specs.Sound.{sound}
 use Rattle.rules.specs.declared.Reason.{Reason}
 use Rattle.rules.specs.Tests.{due}
@@ -21,8 +21,8 @@ use Rattle.act.specs.declared.Outcome.the-variants.{Failed}
 use Rattle.act.specs.Act.{Env, Did, Plan, envAt, plan, isFailed}
 use Rattle.answer.specs.Respond.{Answer, Response, respond}
 use Rattle.answer.specs.Read.{answersIn, allowed}
-use Rattle.engine.specs.Serving.{Effect, roomLeast, stripSize, requestMost}
-use Rattle.demands.specs.Box.{Call, Box, Lent}
+use Rattle.engine.specs.Effects.{Effect}
+use Rattle.demands.specs.Box.{Call, Box, Lent, placesIn}
 
 -- ---- (a) the refusals
 
@@ -38,10 +38,10 @@ ofFrame test (some f) = test f
 -- 01's table, a line each: the conditions of refusals 1 to 9
 unfoldable pub refusalConditions : Call → List Bool
 refusalConditions c =
-    ltb (length (c .output)) roomLeast
-    ∷ not (eqb (length (c .strip)) stripSize)
-    ∷ not (sound placeCount (c .table))
-    ∷ (eqb (length (c .request)) 0 || ltb requestMost (length (c .request)))
+    ltb (length (c .output)) 4824
+    ∷ not (eqb (length (c .strip)) 512)
+    ∷ not (sound (placesIn (c .table)) (c .table))
+    ∷ (eqb (length (c .request)) 0 || ltb 4096 (length (c .request)))
     ∷ not (isSome (message (c .request)))
     ∷ not (isSome (frameOf c))
     ∷ ofFrame (λ f. not (versionOk (f .header))) (frameOf c)
@@ -53,6 +53,16 @@ refusalConditions c =
 unfoldable pub lowest : ℕ → List Bool → ℕ
 lowest k [] = 0
 lowest k (b ∷ bs) = ifb b k (lowest (suc k) bs)
+
+-- ---- what a request begins with
+
+-- the clock that counts for a call: the one that is lent
+abbrev pub counted : Call → ℕ
+counted c = c .clock
+
+-- the table that the first item meets: every place as it is in the table that is lent
+abbrev pub Begins : Call → List ℕ → Type 0
+Begins c start = start ≡ c .table
 
 -- ---- (c) to (f) the items, one after the other
 
@@ -80,7 +90,7 @@ answerOf l = record { operation = l .asked .operation; id = l .asked .id; outcom
 
 -- what item i of a call meets, with a placeholder and a table
 abbrev pub linkAt : Call → ℕ → ℕ → List ℕ → Asked → Did → Link
-linkAt c i holder t asked did = record { env = envAt placeCount (c .clock) (c .strip) i; holder = holder; table = t; asked = asked; did = did }
+linkAt c i holder t asked did = record { env = envAt (placesIn t) (counted c) (c .strip) i; holder = holder; table = t; asked = asked; did = did }
 
 -- (c), (f): the links of a batch under an option, from item i on, with a placeholder and a table: one link for each answered item and none more.
 -- The first item is answered; each later one if the option is Continue or the one before it succeeded
@@ -97,6 +107,24 @@ pub data Chain (c : Call) (option : ℕ) : ℕ → ℕ → List ℕ → List Ask
       → Chain c option (i + 1) (did .holder) (did .table) later links u
       → Chain c option i holder t (asked ∷ later) (linkAt c i holder t asked did ∷ links) u
 
+-- ---- what the items leave
+
+-- the option of a request: "absent means Stop"
+abbrev pub optionIn : Frame → ℕ
+optionIn f = optionOf (f .header .option)
+
+-- the table that is left under an option, where the links lead from `start` to `reached`: the one reached
+abbrev pub settled : ℕ → List ℕ → List Link → List ℕ → List ℕ
+settled option start links reached = reached
+
+-- the answers that are given under an option: one for each link, in order
+abbrev pub answersFor : ℕ → List Link → List Answer
+answersFor option links = map answerOf links
+
+-- "Time Stamp (420092) = the clock", and these answers
+abbrev pub meant : Call → ℕ → List Link → Response
+meant c option links = record { clock = counted c; answers = answersFor option links }
+
 -- ---- the whole
 
 -- what an accepted request is given
@@ -107,15 +135,23 @@ pub record Answered (c : Call) (e : Effect) : Type 0 where
   pub reads : message (c .request) ≡ some items
   pub spelled : encode items ≡ c .request
   pub framed : frameIn items ≡ some frame
-  -- (c) to (f) the chain, from the table before, with an empty placeholder, to the table after
+  -- (c) to (f) the chain, from the table that the request begins with, with an empty placeholder, and the table that is left
+  pub start : List ℕ
+  pub reached : List ℕ
   pub links : List Link
-  pub chain : Chain c (optionOf (frame .header .option)) 0 0 (c .table) (frame .items) links (e .table)
-  -- (g) the response bytes read back to the clock and these answers
+  pub begins : Begins c start
+  pub chain : Chain c (optionIn frame) 0 0 start (frame .items) links reached
+  pub left : e .table ≡ settled (optionIn frame) start links reached
+  -- (g) "The response has one spelling": its bytes are the encoding of the clock and these answers
+  pub spelling : take (e .length) (e .output) ≡ encode (respond (meant c (optionIn frame) links))
+  -- "and reading it back gives the answers that were meant"
   pub response : Items
   pub readable : message (take (e .length) (e .output)) ≡ some response
-  pub read-back : answersIn response ≡ some (record { clock = c .clock; answers = map answerOf links })
-  -- and no other response has these bytes
-  pub one-response : (r : Response) → allowed r ≡ true → encode (respond r) ≡ take (e .length) (e .output) → r ≡ record { clock = c .clock; answers = map answerOf links }
+  pub read-back : answersIn response ≡ some (meant c (optionIn frame) links)
+  -- no other response has these bytes
+  pub one-response : (r : Response) → allowed r ≡ true → encode (respond r) ≡ take (e .length) (e .output) → r ≡ meant c (optionIn frame) links
+  -- and no other bytes are read as this response
+  pub one-spelling : (s : List ℕ) → Bytes s → (message s >>= answersIn) ≡ some (meant c (optionIn frame) links) → s ≡ take (e .length) (e .output)
 
 pub record Demand2 (B : Box) : Type 0 where
   -- (a) the number is k > 0 exactly when k is the lowest whose condition holds, and 0 exactly when none does

@@ -1,8 +1,7 @@
--- What any box has to do: the calls, the three demands, and the log that the third speaks of; and the boxes that 01 warns of.
+-- What any box has to do: the calls, the three demands, and the log that the third speaks of.
 -- Assumes nothing.
 pub mod Box
 pub mod Demand1
 pub mod Demand2
 pub mod Log
 pub mod Demand3
-pub mod Wrong

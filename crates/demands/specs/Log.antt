@@ -19,7 +19,7 @@ use Rattle.act.specs.declared.Outcome.the-variants.{Failed, Created, Done, Show
 use Rattle.act.specs.Act.{sought}
 use Rattle.answer.specs.Respond.{Answer, Response}
 use Rattle.answer.specs.Read.{answersIn}
-use Rattle.engine.specs.Serving.{Effect}
+use Rattle.engine.specs.Effects.{Effect}
 use Rattle.demands.specs.Box.{Call}
 
 -- an item with its answer, and the placeholder as the earlier answers of the same response set it (0 where it is empty)
@@ -41,11 +41,11 @@ heldAfter held a (Created serial) = serial
 heldAfter held a (Done serial) = ifb (eqb (a .operation) rekey) serial held
 heldAfter held a (Showed shown) = held
 
--- item i with answer i, the latest first, in front of what came before
-unfoldable pub paired : ℕ → List Asked → List Answer → List Event → List Event
-paired held [] answers log = log
-paired held (asked ∷ items) [] log = log
-paired held (asked ∷ items) (a ∷ answers) log = paired (heldAfter held a (a .outcome)) items answers (record { held = held; asked = asked; answer = a } ∷ log)
+-- item i with answer i, in order
+unfoldable pub paired : ℕ → List Asked → List Answer → List Event
+paired held [] answers = []
+paired held (asked ∷ items) [] = []
+paired held (asked ∷ items) (a ∷ answers) = record { held = held; asked = asked; answer = a } ∷ paired (heldAfter held a (a .outcome)) items answers
 
 unfoldable pub itemsOf : Option Frame → List Asked
 itemsOf none = []
@@ -62,9 +62,18 @@ itemsAsked c = itemsOf (message (c .request) >>= frameIn)
 abbrev pub answersGiven : Effect → List Answer
 answersGiven e = answersOf (message (take (e .length) (e .output)) >>= answersIn)
 
--- the log after a call; a refused one has length 0, so it adds nothing
+-- the events of a call, in order; a refused call has length 0, and bytes that are no response have no answers, so there are none
+unfoldable pub eventsOf : Call → Effect → List Event
+eventsOf c e = paired 0 (itemsAsked c) (answersGiven e)
+
+-- events, in order, put onto a log, which has the latest first
+unfoldable pub onto : List Event → List Event → List Event
+onto [] log = log
+onto (ev ∷ events) log = onto events (ev ∷ log)
+
+-- the log after a call
 unfoldable pub logged : Call → Effect → List Event → List Event
-logged c e log = paired 0 (itemsAsked c) (answersGiven e) log
+logged c e log = onto (eventsOf c e) log
 
 -- ---- what a log says of an identifier, given as its serial
 

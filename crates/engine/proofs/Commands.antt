@@ -16,7 +16,7 @@ use Rattle.keeps.proofs.Begun.{Allowed}
 use Rattle.payload.specs.declared.Target.{Target}
 use Rattle.payload.specs.declared.Command.{Command}
 use Rattle.payload.specs.declared.Command.the-variants.{Unsupported, Invalid, Create, Rekey, GetUsageAllocation, Activate, Revoke, Destroy, GetAttributes}
-use Rattle.payload.specs.Tags.{usageLimits}
+use Rattle.tags.specs.Tags.{usageLimits}
 use Rattle.payload.specs.Payload.{Limit, limitIn, limitFirst, wantedOf, attributesIn, createIn, aloneIn, allocationIn, revokeIn, orInvalid, command}
 use Rattle.octets.proofs.Maybe.{some-is, on-bind, on-test}
 use Rattle.answer.proofs.Fields.{on-optional}

@@ -11,6 +11,7 @@ use Rattle.octets.proofs.If.{chain}
 use Rattle.ttlv.specs.Parse.{message}
 use Rattle.table.specs.Layout.{placeCount}
 use Rattle.soundness.specs.Sound.{sound}
+use Rattle.engine.specs.Effects.{roomLeast, stripSize, requestMost}
 use Rattle.engine.specs.Calls.{earlyRefusal}
 
 -- a test that a function answered, under `!`
@@ -21,16 +22,16 @@ pub no-if : (r b : Bool) → r ≡ b → not r ≡ true → b ≡ false
 no-if r b e n = sym e ∙ not-true r n
 
 module _ (request t strip : List ℕ) (room : ℕ) where
-  pub early-1 : room < 4824 → 1 ≡ earlyRefusal request t strip room
+  pub early-1 : room < roomLeast → 1 ≡ earlyRefusal request t strip room
   unfolding earlyRefusal
   early-1 h = sym (simp chain)
 
-  module _ (a : 4824 ≤ room) where
-    pub early-2 : (length strip ≡ 512 → ⊥) → 2 ≡ earlyRefusal request t strip room
+  module _ (a : roomLeast ≤ room) where
+    pub early-2 : (length strip ≡ stripSize → ⊥) → 2 ≡ earlyRefusal request t strip room
     unfolding earlyRefusal
     early-2 h = sym (simp chain)
 
-    module _ (b : length strip ≡ 512) where
+    module _ (b : length strip ≡ stripSize) where
       pub early-3 : sound placeCount t ≡ false → 3 ≡ earlyRefusal request t strip room
       unfolding earlyRefusal
       early-3 h = sym (simp (chain, h))
@@ -41,11 +42,11 @@ module _ (request t strip : List ℕ) (room : ℕ) where
         early-4 h = sym (simp (chain, s))
 
         module _ (z : length request ≡ 0 → ⊥) where
-          pub early-4b : 4096 < length request → 4 ≡ earlyRefusal request t strip room
+          pub early-4b : requestMost < length request → 4 ≡ earlyRefusal request t strip room
           unfolding earlyRefusal
           early-4b h = sym (simp (chain, s))
 
-          module _ (l : length request ≤ 4096) where
+          module _ (l : length request ≤ requestMost) where
             pub early-5 : isSome (message request) ≡ false → 5 ≡ earlyRefusal request t strip room
             unfolding earlyRefusal
             early-5 h = sym (simp (chain, s, h))

@@ -16,7 +16,7 @@ use Rattle.ttlv_put.specs.Write.{Holds}
 use Rattle.table.specs.Layout.{placeCount}
 use Rattle.frame.specs.declared.ItemId.{ItemId}
 use Rattle.frame.specs.declared.ItemParts.{ItemParts}
-use Rattle.frame.specs.Tags.{batchItem}
+use Rattle.tags.specs.Tags.{batchItem}
 use Rattle.frame.specs.Frame.{Asked, itemIn}
 use Rattle.frame.specs.Readers.{idOf, partsOf}
 use Rattle.frame.proofs.Item.{PartsShape, parts-shape}

@@ -35,7 +35,8 @@ use Rattle.answer.specs.Front.{longestItem, frameSize, front}
 use Rattle.answer.proofs.Front.{frame-size, respond-splits}
 use Rattle.engine.specs.declared.BatchDone.{BatchDone}
 use Rattle.engine.specs.Batch.{Ran, answerTo, lastly, firstly, endsBatch, batch, running}
-use Rattle.engine.specs.Serving.{Effect, roomLeast, stripSize, requestMost, turnedAway, requested, responseTo, answered, carryOut, serving}
+use Rattle.engine.specs.Effects.{Effect, roomLeast, stripSize, requestMost}
+use Rattle.engine.specs.Serving.{turnedAway, requested, responseTo, answered, carryOut, serving}
 use Rattle.engine.specs.Calls.{earlyRefusal, askedAll, RanIs, ranOver, Runs, ServedIs}
 
 -- ---- the ladder

@@ -2,7 +2,7 @@
 -- Assumes nothing.
 use mathlib.Core.Path.{_≡_, refl}
 use Rattle.table.specs.Layout.{sizeOf, placeCount}
-use Rattle.engine.specs.Serving.{roomLeast, stripSize}
+use Rattle.engine.specs.Effects.{roomLeast, stripSize}
 
 -- "output room below 4,824 bytes"
 room-least : roomLeast ≡ 4824

@@ -23,8 +23,8 @@ use Rattle.fields.specs.declared.BodyField.{BodyField}
 use Rattle.fields.specs.declared.BodyField.the-variants.{Body, NoBody}
 use Rattle.ttlv_put.specs.Write.{Holds}
 use Rattle.ttlv_put.proofs.Holds.{holds-none, holds-then}
-use Rattle.table.specs.Layout.{placeCount, sizeOf, materialSize}
-use Rattle.frame.specs.Tags.{batchItem}
+use Rattle.table.specs.Layout.{placeCount, Table, materialSize}
+use Rattle.tags.specs.Tags.{batchItem}
 use Rattle.frame.specs.Frame.{Asked, itemIn, itemsIn, batchMost}
 use Rattle.frame.proofs.Items.{step, none-left}
 use Rattle.act.specs.Act.{Did, envAt, isFailed}
@@ -34,7 +34,7 @@ use Rattle.answer.specs.Front.{longestItem}
 use Rattle.answer.proofs.Front.{batch-append}
 use Rattle.engine.specs.declared.ItemDone.{ItemDone}
 use Rattle.engine.specs.Batch.{Ran, answerTo, lastly, firstly, endsBatch, batch}
-use Rattle.engine.specs.Serving.{stripSize}
+use Rattle.engine.specs.Effects.{stripSize}
 use Rattle.engine.specs.Calls.{askedAll, askedIn, askedOr, doing, ItemIs, RanIs, ranOver, Runs}
 
 -- no structure stands at the front of nothing
@@ -64,7 +64,7 @@ module _ (whole : Ran) (fresh : List ℕ) (option : ℕ) (t₀ out₀ : List ℕ
     pub run : isRun left ≡ true
     pub items : itemsIn (treeOf left) ≡ some later
     pub few : i + length later ≤ 16
-    pub table : length t ≡ sizeOf placeCount
+    pub table : Table placeCount t
     pub strip : length fresh ≡ stripSize
     pub room : batchMost * longestItem ≤ length out₀
     pub same : length out ≡ length out₀

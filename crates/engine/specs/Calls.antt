@@ -13,9 +13,9 @@ use Rattle.ttlv.specs.Items.{nil, group, encode}
 use Rattle.ttlv.specs.Parse.{message}
 use Rattle.ttlv.specs.Tree.{isRun, treeOf}
 use Rattle.ttlv_put.specs.Write.{Holds}
-use Rattle.table.specs.Layout.{placeCount, sizeOf}
+use Rattle.table.specs.Layout.{placeCount, Table}
 use Rattle.soundness.specs.Sound.{sound}
-use Rattle.frame.specs.Tags.{batchItem}
+use Rattle.tags.specs.Tags.{batchItem}
 use Rattle.frame.specs.Frame.{Asked, itemIn, itemsIn, batchMost}
 use Rattle.payload.specs.Payload.{command}
 use Rattle.act.specs.Act.{Did, isFailed}
@@ -26,7 +26,8 @@ use Rattle.engine.specs.declared.Served.{Served}
 use Rattle.engine.specs.declared.ItemDone.{ItemDone}
 use Rattle.engine.specs.declared.BatchDone.{BatchDone}
 use Rattle.engine.specs.Batch.{Ran, answerTo, batch}
-use Rattle.engine.specs.Serving.{roomLeast, stripSize, requestMost, serving}
+use Rattle.engine.specs.Effects.{roomLeast, stripSize, requestMost}
+use Rattle.engine.specs.Serving.{serving}
 
 -- refusals 1 to 5, before the frame is read; 0 where none applies
 unfoldable pub earlyRefusal : List ℕ → List ℕ → List ℕ → ℕ → ℕ
@@ -84,7 +85,7 @@ pub record Runs (items t fresh out : List ℕ) : Type 0 where
   pub run : isRun items ≡ true
   pub read : isSome (itemsIn (treeOf items)) ≡ true
   pub few : length (askedAll (itemsIn (treeOf items))) ≤ batchMost
-  pub table : length t ≡ sizeOf placeCount
+  pub table : Table placeCount t
   pub strip : length fresh ≡ stripSize
   pub room : batchMost * longestItem ≤ length out
 

@@ -1,5 +1,6 @@
 -- The whole outcome of a call.
 -- Assumes nothing.
+pub mod Effects
 pub mod Batch
 pub mod Serving
 pub mod Calls

@@ -1,6 +1,6 @@
 -- 01, "Turning a request away", and the whole outcome of a call: number, length, table and output.
 -- Assumes nothing: any request, table, strip, clock and room has an outcome.
-use Prim.Native.Nat.{ℕ, _*_}
+use Prim.Native.Nat.{ℕ}
 use mathlib.Core.Bool.{not, _||_}
 use mathlib.Core.Option.{Option, none, some}
 use mathlib.Core.List.{List}
@@ -10,34 +10,14 @@ use Rattle.octets.specs.If.{ifb}
 use Rattle.octets.specs.Octets.{over}
 use Rattle.ttlv.specs.Items.{Items, encode}
 use Rattle.ttlv.specs.Parse.{message}
-use Rattle.table.specs.Layout.{placeCount, materialSize}
+use Rattle.table.specs.Layout.{placeCount}
 use Rattle.soundness.specs.Sound.{sound}
-use Rattle.frame.specs.Frame.{Framed, refused, asked, framed, batchMost}
+use Rattle.frame.specs.Frame.{Framed, refused, asked, framed}
 use Rattle.answer.specs.Respond.{Response, respond}
-use Rattle.answer.specs.Front.{responseMost}
+use Rattle.engine.specs.Effects.{Effect, roomLeast, stripSize, requestMost}
 use Rattle.engine.specs.Batch.{Ran, running}
 
--- ---- sizes
-
--- "output room below 4,824 bytes": the longest response has to fit
-abbrev pub roomLeast : ℕ
-roomLeast = responseMost
-
--- "fresh strip not 512 bytes": 32 bytes for each of 16 items
-abbrev pub stripSize : ℕ
-stripSize = materialSize * batchMost
-
--- "request empty or above 4,096 bytes"
-abbrev pub requestMost : ℕ
-requestMost = 4096
-
 -- ---- what a call leaves
-
-pub record Effect : Type 0 where
-  pub number : ℕ
-  pub length : ℕ
-  pub table : List ℕ
-  pub output : List ℕ
 
 -- "Length 0; table and output stay byte for byte"
 abbrev pub turnedAway : List ℕ → List ℕ → ℕ → Effect

@@ -1,6 +1,7 @@
 // The engine: the refusal ladder, the batch, and `serve`, which joins them.
 // `serve` asks nothing: bad input gets a refusal. What the functions below it ask, `serve` shows.
 use fields::BodyField;
+use table::Layout;
 ghost use mathlib.Core.Path.{_≡_};
 ghost use mathlib.Core.Bool.{true};
 ghost use Prim.Native.Nat.{_+_, _≤_};
@@ -9,24 +10,21 @@ ghost use mir.Syntax.{w64};
 ghost use mir.Val.{ofZ};
 ghost use Rattle.octets.specs.Maybe.{isSome};
 ghost use Rattle.ttlv.specs.Tree.{isRun, treeOf};
-ghost use Rattle.table.specs.Layout.{placeCount, sizeOf};
+ghost use Rattle.table.specs.Layout.{placeCount, Table};
 ghost use Rattle.frame.specs.Frame.{itemIn};
 ghost use Rattle.answer.specs.Front.{longestItem};
 ghost use mathlib.Core.Bool.{not, _&&_};
 ghost use lib.Dec.{eqb};
 ghost use Rattle.engine.specs.Calls.{earlyRefusal, askedIn, ItemIs, Runs, RanIs, ranOver, ServedIs};
 
-const PLACES: usize = 64;
+// The sizes that a caller keeps to; the table's are those of `table::Layout`.
+pub const ROOM_LEAST: usize = 4824;
 
-const ROOM_LEAST: usize = 4824;
+pub const STRIP_SIZE: usize = 512;
 
-const STRIP_SIZE: usize = 512;
-
-const REQUEST_MOST: usize = 4096;
+pub const REQUEST_MOST: usize = 4096;
 
 const FRAME_SIZE: usize = 88;
-
-const MATERIAL: usize = 32;
 
 const CONTINUE: u32 = 1;
 
@@ -59,7 +57,7 @@ fn early_refusal(request: &[u8], table: &[u8], fresh: &[u8], room: usize) -> u32
     if fresh.len() != STRIP_SIZE {
         return 2;
     }
-    if !soundness::is_sound(table, PLACES) {
+    if !soundness::is_sound(table, Layout::PLACES) {
         return 3;
     }
     if request.len() == 0 {
@@ -76,14 +74,14 @@ fn early_refusal(request: &[u8], table: &[u8], fresh: &[u8], room: usize) -> u32
 
 // One item: read, carried out on the table, and answered in the room that is lent. `run_items` shows what it asks.
 fn one_item(body: &[u8], table: &mut [u8], fresh: &[u8], holder: u32, out: &mut [u8]) -> ItemDone
-    requires { ⌜ (isRun (now body) ≡ true) × (isSome (itemIn (treeOf (now body))) ≡ true) × (length (now table) ≡ sizeOf placeCount) × (longestItem ≤ length (now out)) ⌝ }
+    requires { ⌜ (isRun (now body) ≡ true) × (isSome (itemIn (treeOf (now body))) ≡ true) × Table placeCount (now table) × (longestItem ≤ length (now out)) ⌝ }
     ensures { λ r. ⌜ ItemIs (askedIn (now (body .entry))) (now (table .entry)) (now (fresh .entry)) holder (now (out .entry)) r (now (table .exit)) (now (out .exit)) ⌝ }
 {
     let parts = frame::read_item(body);
     let start = parts.payload;
     let operation = parts.operation;
     let command = payload::read_command(operation, &body[start..]);
-    let performed = act::perform(table, PLACES, holder, command, fresh);
+    let performed = act::perform(table, Layout::PLACES, holder, command, fresh);
     let outcome = performed.outcome;
     let failed = act::is_failed(outcome);
     let id = parts.id;
@@ -106,14 +104,14 @@ fn run_items(items: &[u8], table: &mut [u8], fresh: &[u8], option: u32, out: &mu
     let mut holder: u32 = 0;
     let mut at: usize = 0;
     loop {
-        let BodyField::Body { next } = fields::body_field(left, frame::BATCH_ITEM) else {
+        let BodyField::Body { next } = fields::body_field(left, tags::BATCH_ITEM) else {
             return BatchDone {
                 count: i as u32,
                 used: at,
             };
         };
-        let from = MATERIAL * i;
-        let to = from + MATERIAL;
+        let from = Layout::MATERIAL * i;
+        let to = from + Layout::MATERIAL;
         let done = one_item(
             &left[8..next],
             table,

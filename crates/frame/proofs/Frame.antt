@@ -31,7 +31,7 @@ use Rattle.frame.specs.declared.HeaderRead.the-variants.{Read, NoHeader}
 use Rattle.frame.specs.declared.ItemsRead.the-variants.{Items as Counted, NoItems}
 use Rattle.frame.specs.declared.Framing.{Framing}
 use Rattle.frame.specs.declared.FrameRead.the-variants.{Parts, NoFrame}
-use Rattle.frame.specs.Tags.{requestHeader, requestMessage}
+use Rattle.tags.specs.Tags.{requestHeader, requestMessage}
 use Rattle.frame.specs.Frame.{Asked, Header, Frame, Request, Framed, refused, asked, headerIn, itemsIn, frameIn, versionOk, countOk, optionOf, optionOk, framing, framed}
 use Rattle.frame.specs.Readers.{headerRead, itemsRead, bodyEnd, itemsAt, frameRead, framingIn, framingOf}
 use Rattle.frame.proofs.Items.{none-left}

@@ -20,7 +20,7 @@ use Rattle.fields.specs.declared.BodyField.the-variants.{Body, NoBody}
 use Rattle.fields.proofs.Lift.{number-rest, body-rest}
 use Rattle.frame.specs.declared.VersionRead.the-variants.{Version, NoVersion}
 use Rattle.frame.specs.declared.HeaderRead.the-variants.{Read}
-use Rattle.frame.specs.Tags.{batchCount, batchErrorContinuationOption, protocolVersion, protocolVersionMajor, protocolVersionMinor}
+use Rattle.tags.specs.Tags.{batchCount, batchErrorContinuationOption, protocolVersion, protocolVersionMajor, protocolVersionMinor}
 use Rattle.frame.specs.Frame.{versionIn, headerIn, stop, optionOf}
 use Rattle.frame.specs.Readers.{versionRead, optionAt, headerRead}
 use Rattle.fields.proofs.Runs.{tail, tail-none, run-behind, ended-yes, ended-not, number-some, number-none, body-some, body-none, optional-there, optional-absent}

@@ -34,7 +34,7 @@ use Rattle.fields.proofs.Lift.{bytes-rest, number-rest, body-rest, body-is-run,
 use Rattle.frame.specs.declared.ItemId.{ItemId}
 use Rattle.frame.specs.declared.ItemParts.{ItemParts}
 use Rattle.frame.specs.declared.ItemRead.the-variants.{Item, NoItem}
-use Rattle.frame.specs.Tags.{operationTag, requestPayload, uniqueBatchItemId}
+use Rattle.tags.specs.Tags.{operationTag, requestPayload, uniqueBatchItemId}
 use Rattle.frame.specs.Frame.{Asked, idMost, idOk, idBytes, itemIn}
 use Rattle.frame.specs.Readers.{numberEnd, bytesEnd, idSpan, idAt, operationEnd, payloadAt, itemRead, idOf, partsIn, partsOf}
 use Rattle.octets.proofs.Maybe.{not-some, some-is}

@@ -27,7 +27,7 @@ use Rattle.ttlv.proofs.Tree.{Tree, t-end, t-value, t-group, tree, tree-end, tre
 use Rattle.fields.proofs.Lift.{body-rest, body-is-run}
 use Rattle.frame.specs.declared.ItemsRead.{ItemsRead}
 use Rattle.frame.specs.declared.ItemsRead.the-variants.{Items as Counted, NoItems}
-use Rattle.frame.specs.Tags.{batchItem}
+use Rattle.tags.specs.Tags.{batchItem}
 use Rattle.frame.specs.Frame.{Asked, itemIn, itemsIn}
 use Rattle.frame.specs.Readers.{itemsRead}
 use Rattle.octets.proofs.Maybe.{not-some}

@@ -11,7 +11,7 @@ use Rattle.octets.specs.Maybe.{_>>=_, _>>_}
 use Rattle.ttlv_types.specs.Types.{integer, enumeration, byteString}
 use Rattle.ttlv.specs.Items.{Items, nil, value, group, ended}
 use Rattle.fields.specs.Fields.{bytesOf, bodyOf, numberOf, optional}
-use Rattle.frame.specs.Tags.{batchCount, batchErrorContinuationOption, batchItem, operationTag, protocolVersion, protocolVersionMajor, protocolVersionMinor, requestHeader, requestMessage, requestPayload, uniqueBatchItemId}
+use Rattle.tags.specs.Tags.{batchCount, batchErrorContinuationOption, batchItem, operationTag, protocolVersion, protocolVersionMajor, protocolVersionMinor, requestHeader, requestMessage, requestPayload, uniqueBatchItemId}
 
 -- ---- what a frame says
 

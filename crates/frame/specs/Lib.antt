@@ -1,5 +1,4 @@
 -- The message frame.
 -- Assumes nothing.
-pub mod Tags
 pub mod Frame
 pub mod Readers

@@ -29,7 +29,7 @@ use Rattle.frame.specs.declared.FrameRead.the-variants.{Parts, NoFrame}
 use Rattle.frame.specs.declared.Framing.{Framing}
 use Rattle.frame.specs.declared.ItemId.{ItemId}
 use Rattle.frame.specs.declared.ItemParts.{ItemParts}
-use Rattle.frame.specs.Tags.{batchErrorContinuationOption, operationTag, requestHeader, uniqueBatchItemId}
+use Rattle.tags.specs.Tags.{batchErrorContinuationOption, operationTag, requestHeader, uniqueBatchItemId}
 use Rattle.frame.specs.Frame.{Asked, Header, Frame, Framed, refused, asked, stop, optionOf, idMost, framed, itemIn}
 
 -- ---- the header

@@ -15,28 +15,6 @@ ghost use lib.Dec.{leb, eqb};
 ghost use Rattle.frame.specs.Frame.{versionIn, headerIn, itemIn, itemsIn, frameIn, optionOk, refused};
 ghost use Rattle.frame.specs.Readers.{versionRead, optionAt, headerRead, idAt, itemRead, idOf, partsOf, itemsRead, itemsAt, frameRead, framingIn, framingOf};
 
-const BATCH_COUNT: u32 = 0x42000D;
-
-const BATCH_ERROR_CONTINUATION_OPTION: u32 = 0x42000E;
-
-pub const BATCH_ITEM: u32 = 0x42000F;
-
-const OPERATION: u32 = 0x42005C;
-
-const PROTOCOL_VERSION: u32 = 0x420069;
-
-const PROTOCOL_VERSION_MAJOR: u32 = 0x42006A;
-
-const PROTOCOL_VERSION_MINOR: u32 = 0x42006B;
-
-const REQUEST_HEADER: u32 = 0x420077;
-
-const REQUEST_MESSAGE: u32 = 0x420078;
-
-const REQUEST_PAYLOAD: u32 = 0x420079;
-
-const UNIQUE_BATCH_ITEM_ID: u32 = 0x420093;
-
 // The version that is taken.
 const MAJOR: u64 = 2;
 
@@ -126,7 +104,7 @@ fn read_version(s: &[u8]) -> VersionRead
 {
     let NumberField::Number { value: major, next } = fields::number_field(
         s,
-        PROTOCOL_VERSION_MAJOR,
+        tags::PROTOCOL_VERSION_MAJOR,
         ttlv_types::INTEGER,
     ) else {
         return VersionRead::NoVersion;
@@ -135,7 +113,7 @@ fn read_version(s: &[u8]) -> VersionRead
     let NumberField::Number {
         value: minor,
         next: end,
-    } = fields::number_field(t, PROTOCOL_VERSION_MINOR, ttlv_types::INTEGER)
+    } = fields::number_field(t, tags::PROTOCOL_VERSION_MINOR, ttlv_types::INTEGER)
     else {
         return VersionRead::NoVersion;
     };
@@ -151,10 +129,10 @@ fn read_option(s: &[u8]) -> NumberField
 {
     let NumberField::Number { value, next } = fields::number_field(
         s,
-        BATCH_ERROR_CONTINUATION_OPTION,
+        tags::BATCH_ERROR_CONTINUATION_OPTION,
         ttlv_types::ENUMERATION,
     ) else {
-        if fields::starts_with(s, BATCH_ERROR_CONTINUATION_OPTION) {
+        if fields::starts_with(s, tags::BATCH_ERROR_CONTINUATION_OPTION) {
             return NumberField::NoNumber;
         }
         return NumberField::Number {
@@ -170,7 +148,7 @@ fn read_header(s: &[u8]) -> HeaderRead
     requires { ⌜ isRun (now s) ≡ true ⌝ }
     ensures { λ r. ⌜ r ≡ headerRead (headerIn (treeOf (now (s .entry)))) ⌝ }
 {
-    let BodyField::Body { next } = fields::body_field(s, PROTOCOL_VERSION) else {
+    let BodyField::Body { next } = fields::body_field(s, tags::PROTOCOL_VERSION) else {
         return HeaderRead::NoHeader;
     };
     let VersionRead::Version { major, minor } = read_version(&s[8..next]) else {
@@ -188,7 +166,7 @@ fn read_header(s: &[u8]) -> HeaderRead
     let NumberField::Number {
         value: count,
         next: end,
-    } = fields::number_field(u, BATCH_COUNT, ttlv_types::INTEGER)
+    } = fields::number_field(u, tags::BATCH_COUNT, ttlv_types::INTEGER)
     else {
         return HeaderRead::NoHeader;
     };
@@ -209,10 +187,10 @@ fn read_id(s: &[u8]) -> BytesField
 {
     let BytesField::Span { len, next } = fields::bytes_field(
         s,
-        UNIQUE_BATCH_ITEM_ID,
+        tags::UNIQUE_BATCH_ITEM_ID,
         ttlv_types::BYTE_STRING,
     ) else {
-        if fields::starts_with(s, UNIQUE_BATCH_ITEM_ID) {
+        if fields::starts_with(s, tags::UNIQUE_BATCH_ITEM_ID) {
             return BytesField::NoSpan;
         }
         return BytesField::Span { len: 0, next: 0 };
@@ -234,7 +212,7 @@ fn find_item(body: &[u8]) -> ItemRead
     let NumberField::Number {
         value: operation,
         next,
-    } = fields::number_field(body, OPERATION, ttlv_types::ENUMERATION)
+    } = fields::number_field(body, tags::OPERATION, ttlv_types::ENUMERATION)
     else {
         return ItemRead::NoItem;
     };
@@ -243,7 +221,7 @@ fn find_item(body: &[u8]) -> ItemRead
         return ItemRead::NoItem;
     };
     let u = &t[after..];
-    let BodyField::Body { next: end } = fields::body_field(u, REQUEST_PAYLOAD) else {
+    let BodyField::Body { next: end } = fields::body_field(u, tags::REQUEST_PAYLOAD) else {
         return ItemRead::NoItem;
     };
     if end != u.len() {
@@ -282,7 +260,7 @@ fn count_items(s: &[u8]) -> ItemsRead
     let mut t = s;
     let mut count: usize = 0;
     while t.len() != 0 {
-        let BodyField::Body { next } = fields::body_field(t, BATCH_ITEM) else {
+        let BodyField::Body { next } = fields::body_field(t, tags::BATCH_ITEM) else {
             return ItemsRead::NoItems;
         };
         if !item_ok(&t[8..next]) {
@@ -299,11 +277,11 @@ fn find_frame(request: &[u8]) -> FrameRead
     requires { ⌜ isSome (message (now request)) ≡ true ⌝ }
     ensures { λ r. ⌜ r ≡ frameRead (frameIn (treeOf (now (request .entry)))) (itemsAt (now (request .entry))) ⌝ }
 {
-    let BodyField::Body { next: _ } = fields::body_field(request, REQUEST_MESSAGE) else {
+    let BodyField::Body { next: _ } = fields::body_field(request, tags::REQUEST_MESSAGE) else {
         return FrameRead::NoFrame;
     };
     let s = &request[8..];
-    let BodyField::Body { next } = fields::body_field(s, REQUEST_HEADER) else {
+    let BodyField::Body { next } = fields::body_field(s, tags::REQUEST_HEADER) else {
         return FrameRead::NoFrame;
     };
     let HeaderRead::Read {

@@ -14,7 +14,7 @@ use Rattle.octets.proofs.Numbers.{fromBe-lt}
 use Rattle.octets.proofs.Stores.{length-part}
 use Rattle.table.specs.declared.Record.{Record}
 use Rattle.search.specs.declared.Found.the-variants.{At}
-use Rattle.table.specs.Layout.{materialSize}
+use Rattle.table.specs.Layout.{materialSize, lastIn}
 use Rattle.table.specs.Records.{placeAt, withPlace, serialAt, stateAt, lastSerial, blank}
 use Rattle.search.specs.Search.{isNothing, find, isDestroyed, newPlace}
 use Rattle.table.proofs.Lines.{InRange, bytes-part}
@@ -100,8 +100,8 @@ module _ (n : ℕ) (t : List ℕ) (held : Held n t) where
   last-fits : lastSerial t < 256 ^ 4
   unfolding lastSerial
   last-fits =
-      let l : length (part t 0 4) ≡ 4 = length-part t 0 4 (omega (arith, facts .size)) in
-      rw l at (fromBe-lt (part t 0 4) (bytes-part t 0 4 (held .bytes)))
+      let l : length (part t lastIn 4) ≡ 4 = length-part t lastIn 4 (omega (arith, facts .size)) in
+      rw l at (fromBe-lt (part t lastIn 4) (bytes-part t lastIn 4 (held .bytes)))
 
   module _ (room : isFull n t ≡ false) where
     -- there is a place, and a serial

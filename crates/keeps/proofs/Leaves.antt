@@ -9,7 +9,7 @@ use lib.ListN.{length}
 use Rattle.octets.specs.Octets.{Bytes}
 use Rattle.table.specs.declared.Record.{Record}
 use Rattle.search.specs.declared.Found.the-variants.{At}
-use Rattle.table.specs.Layout.{sizeOf}
+use Rattle.table.specs.Layout.{Table}
 use Rattle.table.specs.Records.{placeAt, withPlace, lastSerial}
 use Rattle.search.specs.Search.{isDestroyed, newPlace}
 use Rattle.table.proofs.Lines.{InRange}
@@ -106,7 +106,7 @@ module _ (n : ℕ) (t : List ℕ) (held : Held n t) where
           let heir : Record = begun (nextSerial t) (attributesOf old) (old .serial) fresh in
           let g : InRange heir = begun-range (nextSerial t) (attributesOf old) (old .serial) fresh a serial (was .serial) fresh-bytes in
           let link : Record = linkedTo (nextSerial t) old in
-          let size : length (withPlace n t i link) ≡ sizeOf n = length-with n t i link ∙ facts n t held .size in
+          let size : Table n (withPlace n t i link) = length-with n t i link ∙ facts n t held .size in
           with-place n t held room (λ k e. rw (heir-begun (nextSerial t) old fresh, e)
           (replaced n t i k heir (withPlace n t i link) e lo (not-here n t held i lo stands alive k e)
           (stored n t i link (facts n t held .size) lo (linked-range (nextSerial t) old serial was)) _

@@ -10,8 +10,8 @@ use mathlib.Core.List.{List}
 use lib.ListN.{length}
 use Rattle.octets.specs.Octets.{be, part, allZero}
 use Rattle.table.specs.declared.Record.{Record}
-use Rattle.table.specs.Layout.{lineSize, bodySize, lineOf, bodyOf, sizeOf}
-use Rattle.table.specs.Records.{recordOf, placeAt, withPlace, serialAt, zerosIn, lastSerial, withLast, placesSaid, leadZeros}
+use Rattle.table.specs.Layout.{lineSize, bodySize, lineOf, bodyOf, Table, zerosIn}
+use Rattle.table.specs.Records.{recordOf, placeAt, withPlace, serialAt, lastSerial, withLast, placesSaid, leadZeros}
 use Rattle.table.proofs.Lines.{InRange}
 use Rattle.table.proofs.Places.{serial-is, length-with, place-same, line-other, body-other, zeros-other, zeros-with}
 use Rattle.table.proofs.Lead.{last-with, said-with, lead-with, length-last, last-last, said-last, lead-last, line-last, body-last, zeros-last, place-last}
@@ -33,7 +33,7 @@ pub record Stored (n : ℕ) (t : List ℕ) (i : ℕ) (r : Record) (last : ℕ) (
   pub zeros-past : (j : ℕ) → j < n → (j ≡ i → ⊥) → part u (bodyOf n j + zerosIn) 4 ≡ part t (bodyOf n j + zerosIn) 4
 
 -- a store
-pub stored : (n : ℕ) (t : List ℕ) (i : ℕ) (r : Record) → length t ≡ sizeOf n → i < n → InRange r → Stored n t i r (lastSerial t) (withPlace n t i r)
+pub stored : (n : ℕ) (t : List ℕ) (i : ℕ) (r : Record) → Table n t → i < n → InRange r → Stored n t i r (lastSerial t) (withPlace n t i r)
 stored n t i r big lo h = record {
   size = length-with n t i r;
   said = said-with n t i r big lo (h .long);
@@ -82,7 +82,7 @@ LinkedTo r k n t = (j : ℕ) → j < n → (j ≡ k → ⊥) → Stands t j → 
 -- ---- a sound table but for the links
 
 pub record Bare (n : ℕ) (t : List ℕ) : Type 0 where
-  pub size : length t ≡ sizeOf n
+  pub size : Table n t
   pub count : placesSaid t ≡ n
   pub lead : allZero (leadZeros t) ≡ true
   pub free : (i : ℕ) → i < n → serialAt t i ≡ 0 → Empty n t i

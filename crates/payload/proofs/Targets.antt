@@ -26,7 +26,7 @@ use Rattle.fields.proofs.Lift.{bytes-rest}
 use Rattle.fields.proofs.Runs.{tail, tail-none, run-behind, tail-ended, tail-more, bytes-some, bytes-none, optional-there, optional-absent}
 use Rattle.identifier.specs.Identifier.{serialOf}
 use Rattle.rules.specs.States.{codeOk}
-use Rattle.payload.specs.Tags.{uniqueIdentifier, usageLimitsCount, revocationReason, revocationReasonCode}
+use Rattle.tags.specs.Tags.{uniqueIdentifier, usageLimitsCount, revocationReason, revocationReasonCode}
 use Rattle.payload.specs.Payload.{targetOf, targetIn, aloneIn, amountOk, allocationIn, revokeIn}
 use Rattle.payload.specs.Readers.{onlyNumberAt, onlyBodyAt, targetSpan, targetAt}
 use Rattle.payload.specs.declared.Target.{Target}

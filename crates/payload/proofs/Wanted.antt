@@ -25,7 +25,7 @@ use Rattle.fields.proofs.Runs.{tail, ended-yes, ended-not, body-some, body-none
 use Rattle.fields.proofs.Found.{body-first}
 use Rattle.values.specs.Values.{bitsOk, maskOk, unitOk, totalOk}
 use Rattle.rules.specs.declared.Attributes.{Attributes}
-use Rattle.payload.specs.Tags.{attributes, cryptographicAlgorithm, cryptographicLength, cryptographicUsageMask, objectType, usageLimits, usageLimitsTotal, usageLimitsUnit}
+use Rattle.tags.specs.Tags.{attributes, cryptographicAlgorithm, cryptographicLength, cryptographicUsageMask, objectType, usageLimits, usageLimitsTotal, usageLimitsUnit}
 use Rattle.payload.specs.Payload.{Limit, limitIn, limitFirst, wantedOf, attributesIn, createIn}
 use Rattle.payload.specs.Readers.{onlyNumberAt, onlyBodyAt, limitRead, limitsIn, limitsRead, maskedIn, attributesRead}
 use Rattle.payload.specs.declared.Command.{Command}

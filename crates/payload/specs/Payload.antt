@@ -10,7 +10,7 @@ use Rattle.octets.specs.Maybe.{_>>=_, _>>_}
 use Rattle.ttlv_types.specs.Types.{integer, longInteger, enumeration, textString}
 use Rattle.ttlv.specs.Items.{Items, ended}
 use Rattle.fields.specs.Fields.{bytesOf, bodyOf, numberOf, optional}
-use Rattle.payload.specs.Tags.{attributes, cryptographicAlgorithm, cryptographicLength, cryptographicUsageMask, objectType, revocationReason, revocationReasonCode, uniqueIdentifier, usageLimits, usageLimitsCount, usageLimitsTotal, usageLimitsUnit, symmetricKey, aes}
+use Rattle.tags.specs.Tags.{attributes, cryptographicAlgorithm, cryptographicLength, cryptographicUsageMask, objectType, revocationReason, revocationReasonCode, uniqueIdentifier, usageLimits, usageLimitsCount, usageLimitsTotal, usageLimitsUnit}
 use Rattle.identifier.specs.Identifier.{serialOf}
 use Rattle.values.specs.Values.{bitsOk, maskOk, unitOk, totalOk}
 use Rattle.rules.specs.declared.Attributes.{Attributes}
@@ -22,6 +22,14 @@ use Rattle.payload.specs.declared.Command.{Command}
 use Rattle.payload.specs.declared.Command.the-variants.{Unsupported, Invalid, Create, Rekey, GetUsageAllocation, Activate, Revoke, Destroy, GetAttributes}
 
 -- ---- Create
+
+-- "Object Type = 2": a symmetric key
+abbrev pub symmetricKey : ℕ
+symmetricKey = 2
+
+-- "Cryptographic Algorithm = 3": AES
+abbrev pub aes : ℕ
+aes = 3
 
 -- a usage limit: unit and total
 pub record Limit : Type 0 where

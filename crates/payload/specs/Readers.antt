@@ -22,7 +22,7 @@ use Rattle.identifier.specs.Identifier.{serialOf}
 use Rattle.values.specs.Values.{maskOk}
 use Rattle.rules.specs.declared.Attributes.{Attributes}
 use Rattle.rules.specs.Numbers.{rekey, activate, destroy}
-use Rattle.payload.specs.Tags.{cryptographicUsageMask, uniqueIdentifier, usageLimits}
+use Rattle.tags.specs.Tags.{cryptographicUsageMask, uniqueIdentifier, usageLimits}
 use Rattle.payload.specs.Payload.{Limit, limitFirst, wantedOf}
 use Rattle.payload.specs.declared.Target.{Target}
 use Rattle.payload.specs.declared.Target.the-variants.{Placeholder, Serial}

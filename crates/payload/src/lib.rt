@@ -20,31 +20,6 @@ const GET_ATTRIBUTES: u32 = 0x0B;
 
 const GET_USAGE_ALLOCATION: u32 = 0x11;
 
-// The tags.
-const CRYPTOGRAPHIC_ALGORITHM: u32 = 0x420028;
-
-const CRYPTOGRAPHIC_LENGTH: u32 = 0x42002A;
-
-const CRYPTOGRAPHIC_USAGE_MASK: u32 = 0x42002C;
-
-const OBJECT_TYPE: u32 = 0x420057;
-
-const REVOCATION_REASON: u32 = 0x420081;
-
-const REVOCATION_REASON_CODE: u32 = 0x420082;
-
-const UNIQUE_IDENTIFIER: u32 = 0x420094;
-
-const USAGE_LIMITS: u32 = 0x420095;
-
-const USAGE_LIMITS_COUNT: u32 = 0x420096;
-
-const USAGE_LIMITS_TOTAL: u32 = 0x420097;
-
-const USAGE_LIMITS_UNIT: u32 = 0x420098;
-
-const ATTRIBUTES: u32 = 0x420125;
-
 // The one Object Type and the one algorithm: a symmetric key, AES.
 const SYMMETRIC_KEY: u64 = 2;
 
@@ -119,7 +94,7 @@ fn only_body(s: &[u8], tag: u32) -> BodyField
 fn read_target(s: &[u8]) -> TargetRead
     ensures { λ r. ⌜ r ≡ targetAt (now (s .entry)) ⌝ }
 {
-    if !fields::starts_with(s, UNIQUE_IDENTIFIER) {
+    if !fields::starts_with(s, tags::UNIQUE_IDENTIFIER) {
         return TargetRead::Is {
             target: Target::Placeholder,
             next: 0,
@@ -127,7 +102,7 @@ fn read_target(s: &[u8]) -> TargetRead
     }
     let BytesField::Span { len, next } = fields::bytes_field(
         s,
-        UNIQUE_IDENTIFIER,
+        tags::UNIQUE_IDENTIFIER,
         ttlv_types::TEXT_STRING,
     ) else {
         return TargetRead::NoTarget;
@@ -148,7 +123,7 @@ fn read_limit(s: &[u8]) -> LimitRead
 {
     let NumberField::Number { value: total, next } = fields::number_field(
         s,
-        USAGE_LIMITS_TOTAL,
+        tags::USAGE_LIMITS_TOTAL,
         ttlv_types::LONG_INTEGER,
     ) else {
         return LimitRead::NoLimit;
@@ -159,7 +134,7 @@ fn read_limit(s: &[u8]) -> LimitRead
     let NumberField::Number {
         value: unit,
         next: _,
-    } = only_number(&s[next..], USAGE_LIMITS_UNIT, ttlv_types::ENUMERATION)
+    } = only_number(&s[next..], tags::USAGE_LIMITS_UNIT, ttlv_types::ENUMERATION)
     else {
         return LimitRead::NoLimit;
     };
@@ -180,7 +155,7 @@ fn read_limits(s: &[u8]) -> LimitRead
     if s.len() == 0 {
         return LimitRead::Limited { unit: 0, total: 0 };
     }
-    let BodyField::Body { next } = only_body(s, USAGE_LIMITS) else {
+    let BodyField::Body { next } = only_body(s, tags::USAGE_LIMITS) else {
         return LimitRead::NoLimit;
     };
     read_limit(&s[8..next])
@@ -193,7 +168,7 @@ fn read_masked(s: &[u8], bits: u16) -> AttributesRead
 {
     let NumberField::Number { value: mask, next } = fields::number_field(
         s,
-        CRYPTOGRAPHIC_USAGE_MASK,
+        tags::CRYPTOGRAPHIC_USAGE_MASK,
         ttlv_types::INTEGER,
     ) else {
         return AttributesRead::NoAttributes;
@@ -222,7 +197,7 @@ fn read_attributes(s: &[u8]) -> AttributesRead
     let NumberField::Number {
         value: algorithm,
         next,
-    } = fields::number_field(s, CRYPTOGRAPHIC_ALGORITHM, ttlv_types::ENUMERATION)
+    } = fields::number_field(s, tags::CRYPTOGRAPHIC_ALGORITHM, ttlv_types::ENUMERATION)
     else {
         return AttributesRead::NoAttributes;
     };
@@ -233,7 +208,7 @@ fn read_attributes(s: &[u8]) -> AttributesRead
     let NumberField::Number {
         value: bits,
         next: after,
-    } = fields::number_field(t, CRYPTOGRAPHIC_LENGTH, ttlv_types::INTEGER)
+    } = fields::number_field(t, tags::CRYPTOGRAPHIC_LENGTH, ttlv_types::INTEGER)
     else {
         return AttributesRead::NoAttributes;
     };
@@ -250,7 +225,7 @@ fn read_create(s: &[u8]) -> Command
 {
     let NumberField::Number { value: kind, next } = fields::number_field(
         s,
-        OBJECT_TYPE,
+        tags::OBJECT_TYPE,
         ttlv_types::ENUMERATION,
     ) else {
         return Command::Invalid;
@@ -259,7 +234,7 @@ fn read_create(s: &[u8]) -> Command
         return Command::Invalid;
     }
     let t = &s[next..];
-    let BodyField::Body { next: end } = only_body(t, ATTRIBUTES) else {
+    let BodyField::Body { next: end } = only_body(t, tags::ATTRIBUTES) else {
         return Command::Invalid;
     };
     let AttributesRead::Wanted { wanted } = read_attributes(&t[8..end]) else {
@@ -320,7 +295,11 @@ fn read_allocation(s: &[u8]) -> Command
     let NumberField::Number {
         value: amount,
         next: _,
-    } = only_number(&s[next..], USAGE_LIMITS_COUNT, ttlv_types::LONG_INTEGER)
+    } = only_number(
+        &s[next..],
+        tags::USAGE_LIMITS_COUNT,
+        ttlv_types::LONG_INTEGER,
+    )
     else {
         return Command::Invalid;
     };
@@ -346,13 +325,17 @@ fn read_revoke(s: &[u8]) -> Command
         return Command::Invalid;
     };
     let t = &s[next..];
-    let BodyField::Body { next: end } = only_body(t, REVOCATION_REASON) else {
+    let BodyField::Body { next: end } = only_body(t, tags::REVOCATION_REASON) else {
         return Command::Invalid;
     };
     let NumberField::Number {
         value: code,
         next: _,
-    } = only_number(&t[8..end], REVOCATION_REASON_CODE, ttlv_types::ENUMERATION)
+    } = only_number(
+        &t[8..end],
+        tags::REVOCATION_REASON_CODE,
+        ttlv_types::ENUMERATION,
+    )
     else {
         return Command::Invalid;
     };

@@ -1,10 +1,10 @@
 // The record at a place of the stored table, read whole or one link by itself.
-// It knows nothing of what may happen to a key. What the functions ask, the size of the table, was shown by the check of it; that a place is one of the table's, by the search that gave it.
+// It knows nothing of what may happen to a key.
 ghost use mathlib.Core.Path.{_≡_};
-ghost use Prim.Native.Nat.{_+_, _≤_, _<_};
+ghost use Prim.Native.Nat.{_+_, _≤_};
 ghost use lib.ListN.{length};
 ghost use Rattle.octets.specs.Octets.{part};
-ghost use Rattle.table.specs.Layout.{materialSize, sizeOf};
+ghost use Rattle.table.specs.Layout.{materialSize, Place};
 ghost use Rattle.table.specs.Records.{placeAt};
 use table::Layout;
 use table::Record;
@@ -25,21 +25,21 @@ fn material_at(t: &[u8], at: usize) -> [u8; 32]
 
 // The record at place i.
 pub fn load(t: &[u8], n: usize, i: usize) -> Record
-    requires { ⌜ (length (now t) ≡ sizeOf n) × (i < n) ⌝ }
+    requires { ⌜ Place n (now t) i ⌝ }
     ensures { λ r. ⌜ r ≡ placeAt n (now (t .entry)) i ⌝ }
 {
     let line = Layout::line(i);
     let layout = Layout { places: n };
     let body = layout.body(i);
-    let serial = octets::number_at(t, line, 4) as u32;
-    let state = octets::number_at(t, line + 4, 1) as u8;
-    let unit = octets::number_at(t, line + 5, 1) as u8;
-    let bits = octets::number_at(t, line + 6, 2) as u16;
-    let replaced = octets::number_at(t, line + 8, 4) as u32;
-    let replacement = octets::number_at(t, line + 12, 4) as u32;
-    let total = octets::number_at(t, body, 8);
-    let count = octets::number_at(t, body + 8, 8);
-    let mask = octets::number_at(t, body + 16, 4) as u32;
+    let serial = octets::number_at(t, line + Layout::SERIAL_IN, 4) as u32;
+    let state = octets::number_at(t, line + Layout::STATE_IN, 1) as u8;
+    let unit = octets::number_at(t, line + Layout::UNIT_IN, 1) as u8;
+    let bits = octets::number_at(t, line + Layout::BITS_IN, 2) as u16;
+    let replaced = octets::number_at(t, line + Layout::REPLACED_IN, 4) as u32;
+    let replacement = octets::number_at(t, line + Layout::REPLACEMENT_IN, 4) as u32;
+    let total = octets::number_at(t, body + Layout::TOTAL_IN, 8);
+    let count = octets::number_at(t, body + Layout::COUNT_IN, 8);
+    let mask = octets::number_at(t, body + Layout::MASK_IN, 4) as u32;
     let material = material_at(t, body + Layout::MATERIAL_IN);
     Record {
         serial,
@@ -57,18 +57,18 @@ pub fn load(t: &[u8], n: usize, i: usize) -> Record
 
 // The serial that the record at place i replaced, read by itself.
 pub fn replaced(t: &[u8], n: usize, i: usize) -> u32
-    requires { ⌜ (length (now t) ≡ sizeOf n) × (i < n) ⌝ }
+    requires { ⌜ Place n (now t) i ⌝ }
     ensures { λ r. ⌜ r ≡ placeAt n (now (t .entry)) i .replaced ⌝ }
 {
     let at = Layout::line(i);
-    octets::number_at(t, at + 8, 4) as u32
+    octets::number_at(t, at + Layout::REPLACED_IN, 4) as u32
 }
 
 // The serial of the record that replaced the one at place i, read by itself.
 pub fn replacement(t: &[u8], n: usize, i: usize) -> u32
-    requires { ⌜ (length (now t) ≡ sizeOf n) × (i < n) ⌝ }
+    requires { ⌜ Place n (now t) i ⌝ }
     ensures { λ r. ⌜ r ≡ placeAt n (now (t .entry)) i .replacement ⌝ }
 {
     let at = Layout::line(i);
-    octets::number_at(t, at + 12, 4) as u32
+    octets::number_at(t, at + Layout::REPLACEMENT_IN, 4) as u32
 }

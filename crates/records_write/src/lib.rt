@@ -1,10 +1,10 @@
 // The record at a place of the stored table, stored.
-// It knows nothing of what may happen to a key. What the function asks, the size of the table, was shown by the check of it; that a place is one of the table's, by the search that gave it.
+// It knows nothing of what may happen to a key.
 ghost use mathlib.Core.Path.{_≡_};
-ghost use Prim.Native.Nat.{_+_, _≤_, _<_};
+ghost use Prim.Native.Nat.{_+_, _≤_};
 ghost use lib.ListN.{length};
 ghost use lib.Seq.{sets};
-ghost use Rattle.table.specs.Layout.{lineSize, bodySize, sizeOf};
+ghost use Rattle.table.specs.Layout.{lineSize, bodySize, Place};
 ghost use Rattle.table.specs.Records.{line, body, withPlace};
 use table::Layout;
 use table::Record;
@@ -23,12 +23,12 @@ fn put_line(
     requires { ⌜ at + lineSize ≤ length (now t) ⌝ }
     ensures { λ _. ⌜ now (t .exit) ≡ sets (now (t .entry)) at (line serial state unit bits replaced replacement) ⌝ }
 {
-    octets::put(t, at, 4, serial as u64);
-    octets::put(t, at + 4, 1, state as u64);
-    octets::put(t, at + 5, 1, unit as u64);
-    octets::put(t, at + 6, 2, bits as u64);
-    octets::put(t, at + 8, 4, replaced as u64);
-    octets::put(t, at + 12, 4, replacement as u64);
+    octets::put(t, at + Layout::SERIAL_IN, 4, serial as u64);
+    octets::put(t, at + Layout::STATE_IN, 1, state as u64);
+    octets::put(t, at + Layout::UNIT_IN, 1, unit as u64);
+    octets::put(t, at + Layout::BITS_IN, 2, bits as u64);
+    octets::put(t, at + Layout::REPLACED_IN, 4, replaced as u64);
+    octets::put(t, at + Layout::REPLACEMENT_IN, 4, replacement as u64);
 }
 
 // Writes a body from `at` on; its caller shows that it lies in the table.
@@ -36,16 +36,16 @@ fn put_body(t: &mut [u8], at: usize, total: u64, count: u64, mask: u32, material
     requires { ⌜ at + bodySize ≤ length (now t) ⌝ }
     ensures { λ _. ⌜ now (t .exit) ≡ sets (now (t .entry)) at (body total count mask material) ⌝ }
 {
-    octets::put(t, at, 8, total);
-    octets::put(t, at + 8, 8, count);
-    octets::put(t, at + 16, 4, mask as u64);
+    octets::put(t, at + Layout::TOTAL_IN, 8, total);
+    octets::put(t, at + Layout::COUNT_IN, 8, count);
+    octets::put(t, at + Layout::MASK_IN, 4, mask as u64);
     octets::put(t, at + Layout::ZEROS_IN, 4, 0);
     octets::put_all(t, at + Layout::MATERIAL_IN, &material);
 }
 
 // Stores a record at place i.
 pub fn store(t: &mut [u8], n: usize, i: usize, r: Record)
-    requires { ⌜ (length (now t) ≡ sizeOf n) × (i < n) ⌝ }
+    requires { ⌜ Place n (now t) i ⌝ }
     ensures { λ _. ⌜ now (t .exit) ≡ withPlace n (now (t .entry)) i r ⌝ }
 {
     let line_at = Layout::line(i);

@@ -2,15 +2,17 @@
 -- Assumes nothing.
 use mathlib.Core.Path.{_≡_, refl, sym, ap, _∙_}
 use mathlib.Core.Bool.{true}
-use Prim.Native.Nat.{ℕ, suc, _+_, _-_, _%_, _/_, _≤_, _<_}
+use Prim.Native.Nat.{ℕ, suc, _+_, _-_, _/_, _≤_, _<_}
 use native.Mathlib.Omega.{arith}
 use mathlib.Core.List.{List, _++_}
 use lib.ListN.{length, take, drop, length-append}
 use lib.Seq.{take-at, drop-at}
+use borrow.Author.Tests.{eq-eqb}
 use Rattle.octets.specs.Octets.{part, Bytes}
 use Rattle.octets.proofs.Numbers.{bytes-take, bytes-drop}
 use Rattle.octets.proofs.Stores.{length-part}
-use Rattle.ttlv_types.specs.Types.{structure, tagLead}
+use Rattle.ttlv_types.specs.Types.{structure}
+use Rattle.tags.specs.Tags.{tagLead}
 use Rattle.ttlv.specs.Items.{Items, nil, value, group, head, encode, wellFormed}
 use Rattle.ttlv.specs.Parse.{firstOf, depthMost}
 use Rattle.ttlv.specs.Tree.{isRun, treeOf}
@@ -20,15 +22,11 @@ use Rattle.ttlv.proofs.Well.{parse-well}
 use Rattle.ttlv.proofs.Back.{parse-back}
 use Rattle.ttlv.proofs.Fine.{FineValue, FineGroup, well-value, value-well, well-group, group-well}
 use Rattle.ttlv.proofs.Tree.{Tree, t-end, t-value, tree, run-parse, parse-run, tree-value, tree-group, group-rest, body-run}
-use Rattle.ttlv_put.specs.Write.{tagOf, join, WroteValue, WroteHead, Holds}
+use Rattle.ttlv_put.specs.Write.{join, WroteValue, WroteHead, Holds}
 use Rattle.ttlv.proofs.Sizes.{length-head}
 use Rattle.ttlv_put.proofs.Sizes.{length-value, encode-value, encode-join}
 use Rattle.ttlv_put.proofs.Holds.{holds-value, holds-head}
 use Rattle.rewrite.specs.Again.{Again}
-
--- the last two bytes of a tag that starts with 42 hex give the tag
-pub tag-back : (tag : ℕ) → tag / 65536 ≡ tagLead → tagOf (tag % 65536) ≡ tag
-tag-back tag h = omega arith
 
 -- well-formed runs joined are well-formed
 well-join : (d : ℕ) (t u : Items) → wellFormed (suc d) t ≡ true → wellFormed (suc d) u ≡ true → wellFormed (suc d) (join t u) ≡ true
@@ -72,7 +70,7 @@ module _ (t : List ℕ) (b : Bytes t) (h : isRun t ≡ true) where
     pub value-fine : FineValue tag kind (part t 8 n)
     value-fine = value-parts .0
 
-    pub value-again : {room after : List ℕ} {r : ℕ} → length t ≤ length room → WroteValue true (tag % 65536) kind (part t 8 n) room after r → Again t room after r
+    pub value-again : {room after : List ℕ} {r : ℕ} → length t ≤ length room → WroteValue true tag kind (part t 8 n) room after r → Again t room after r
     value-again l w =
         let v = part t 8 n in
         let rest = treeOf (drop next t) in
@@ -80,8 +78,8 @@ module _ (t : List ℕ) (b : Bytes t) (h : isRun t ≡ true) where
         let s : t ≡ encode (value tag kind v nil) ++ encode rest = sym spells ∙ ap encode (tree-value t h e) ∙ encode-value tag kind v rest in
         let k : length t ≡ length (encode (value tag kind v nil)) + length (encode rest) = ap length s ∙ length-append (encode (value tag kind v nil)) (encode rest) in
         let m = length-value tag kind v in
-        let x = holds-value true (tag % 65536) kind v refl (f .short) (omega arith) w in
-        front-again t (encode (value tag kind v nil)) rest s (value-parts .1) (omega arith) (rw (tag-back tag (f .lead)) at x)
+        let x = holds-value true tag kind v (eq-eqb (tag / 65536) tagLead (f .lead)) refl (f .short) (omega arith) w in
+        front-again t (encode (value tag kind v nil)) rest s (value-parts .1) (omega arith) x
 
   -- ---- a structure at the front
 
@@ -89,7 +87,7 @@ module _ (t : List ℕ) (b : Bytes t) (h : isRun t ≡ true) where
     group-parts : FineGroup tag (length (encode (treeOf (part t 8 (next - 8))))) × (wellFormed 7 (treeOf (part t 8 (next - 8))) ≡ true) × (wellFormed depthMost (treeOf (drop next t)) ≡ true)
     group-parts = well-group 7 tag (treeOf (part t 8 (next - 8))) (treeOf (drop next t)) (rw (tree-group t h e) at well)
 
-    pub group-again : {room after : List ℕ} {r : ℕ} → length t ≤ length room → WroteHead (tag % 65536) (next - 8) room after r → Again t room after r
+    pub group-again : {room after : List ℕ} {r : ℕ} → length t ≤ length room → WroteHead tag (next - 8) room after r → Again t room after r
     unfolding encode
     group-again l w =
         let rest = treeOf (drop next t) in
@@ -103,9 +101,9 @@ module _ (t : List ℕ) (b : Bytes t) (h : isRun t ≡ true) where
         let hd = head tag structure (next - 8) in
         let f = group-parts .0 in
         let s : t ≡ hd ++ encode (join body rest) = sym spells ∙ ap encode (tree-group t h e) ∙ rw (← n, encode-join) in
-        let x = holds-head (tag % 65536) (next - 8) body n (rw n (f .short)) (omega (arith, g .past, g .within)) w in
+        let x = holds-head tag (next - 8) body (eq-eqb (tag / 65536) tagLead (f .lead)) n (rw n (f .short)) (omega (arith, g .past, g .within)) w in
         let wj = well-join 7 body rest (parse-well depthMost p body pb (run-parse p pr)) (group-parts .2) in
-        front-again t hd (join body rest) s wj (omega (arith, length-head tag structure (next - 8))) (rw (tag-back tag (f .lead)) at x)
+        front-again t hd (join body rest) s wj (omega (arith, length-head tag structure (next - 8))) x
 
 -- where a value ends
 value-ends : (t : List ℕ) (u : Items) (tag kind n next : ℕ) → Tree t u (Value tag kind n next) → 8 + n ≤ length t

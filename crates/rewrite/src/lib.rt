@@ -11,7 +11,7 @@ ghost use Rattle.ttlv_put.specs.Write.{WroteNumber, WroteValue};
 ghost use Rattle.rewrite.specs.Again.{Again, Rewrote};
 
 // A number of four bytes by the writer of its type. `rewrite_value` shows that the type has four.
-fn rewrite_word(out: &mut [u8], tag: u16, kind: u8, bits: u32) -> usize
+fn rewrite_word(out: &mut [u8], tag: u32, kind: u8, bits: u32) -> usize
     requires { ⌜ isWord kind ≡ true ⌝ }
     ensures { λ r. ⌜ WroteNumber 4 tag kind bits (now (out .entry)) (now (out .exit)) r ⌝ }
 {
@@ -25,7 +25,7 @@ fn rewrite_word(out: &mut [u8], tag: u16, kind: u8, bits: u32) -> usize
 }
 
 // A number of eight bytes by the writer of its type. `rewrite_value` shows that the type has eight, and that a Boolean is 0 or 1.
-fn rewrite_long(out: &mut [u8], tag: u16, kind: u8, bits: u64) -> usize
+fn rewrite_long(out: &mut [u8], tag: u32, kind: u8, bits: u64) -> usize
     requires { ⌜ (isLong kind ≡ true) × (kind ≡ boolean → bits ≤ 1) ⌝ }
     ensures { λ r. ⌜ WroteNumber 8 tag kind bits (now (out .entry)) (now (out .exit)) r ⌝ }
 {
@@ -42,7 +42,7 @@ fn rewrite_long(out: &mut [u8], tag: u16, kind: u8, bits: u64) -> usize
 }
 
 // A value by the writer of its type. `rewrite_first` shows that the type allows it.
-fn rewrite_value(out: &mut [u8], tag: u16, kind: u8, v: &[u8]) -> usize
+fn rewrite_value(out: &mut [u8], tag: u32, kind: u8, v: &[u8]) -> usize
     requires { ⌜ (kind ≡ structure → ⊥) × (lengthOk kind (length (now v)) ≡ true) × (valueOk kind (now v) ≡ true) ⌝ }
     ensures { λ r. ⌜ WroteValue true tag kind (now (v .entry)) (now (out .entry)) (now (out .exit)) r ⌝ }
 {
@@ -76,11 +76,9 @@ fn rewrite_first(out: &mut [u8], t: &[u8]) -> usize
             next: _,
         } => {
             let stop = 8 + len;
-            rewrite_value(out, (tag % 65536) as u16, kind, &t[8..stop])
+            rewrite_value(out, tag, kind, &t[8..stop])
         }
-        First::Group { tag, next } => {
-            ttlv_put::write_structure(out, (tag % 65536) as u16, next - 8)
-        }
+        First::Group { tag, next } => { ttlv_put::write_structure(out, tag, next - 8) }
     }
 }
 

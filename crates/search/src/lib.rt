@@ -1,9 +1,7 @@
 // Searches of the stored table: a record by its serial, and where a new key goes.
-// It knows nothing of TTLV and nothing of what may happen to a key. What the functions ask, the size of the table, was shown by the check of it before any of them is called.
+// It knows nothing of TTLV and nothing of what may happen to a key.
 ghost use mathlib.Core.Path.{_≡_};
-ghost use Prim.Native.Nat.{_+_, _≤_};
-ghost use lib.ListN.{length};
-ghost use Rattle.table.specs.Layout.{lineSize, lineOf, sizeOf};
+ghost use Rattle.table.specs.Layout.{HasLine, Table};
 ghost use Rattle.table.specs.Records.{stateAt};
 ghost use Rattle.search.specs.Search.{first, hasSerial, isNothing, find, isDestroyed, freePlace, destroyedPlace, newPlace};
 use table::Layout;
@@ -16,11 +14,11 @@ pub enum Found {
 
 // The state of place i, read by itself.
 fn state_at(t: &[u8], i: usize) -> u8
-    requires { ⌜ lineOf i + lineSize ≤ length (now t) ⌝ }
+    requires { ⌜ HasLine (now t) i ⌝ }
     ensures { λ r. ⌜ r ≡ stateAt (now (t .entry)) i ⌝ }
 {
     let at = Layout::line(i);
-    octets::number_at(t, at + 4, 1) as u8
+    octets::number_at(t, at + Layout::STATE_IN, 1) as u8
 }
 
 // Whether a state is 5 or 6.
@@ -32,7 +30,7 @@ pub fn is_destroyed(state: u8) -> bool
 
 // The lowest place whose serial is this one; zero finds a free place.
 fn place_with(t: &[u8], n: usize, serial: u32) -> Found
-    requires { ⌜ length (now t) ≡ sizeOf n ⌝ }
+    requires { ⌜ Table n (now t) ⌝ }
     ensures { λ r. ⌜ r ≡ first n (hasSerial (now (t .entry)) serial) ⌝ }
 {
     let mut i: usize = 0;
@@ -47,7 +45,7 @@ fn place_with(t: &[u8], n: usize, serial: u32) -> Found
 
 // The place of the record with this serial; zero is no record's serial.
 pub fn find(t: &[u8], n: usize, serial: u32) -> Found
-    requires { ⌜ length (now t) ≡ sizeOf n ⌝ }
+    requires { ⌜ Table n (now t) ⌝ }
     ensures { λ r. ⌜ r ≡ find n (now (t .entry)) serial ⌝ }
 {
     if serial == 0 {
@@ -58,7 +56,7 @@ pub fn find(t: &[u8], n: usize, serial: u32) -> Found
 
 // The lowest free place.
 fn free_place(t: &[u8], n: usize) -> Found
-    requires { ⌜ length (now t) ≡ sizeOf n ⌝ }
+    requires { ⌜ Table n (now t) ⌝ }
     ensures { λ r. ⌜ r ≡ freePlace n (now (t .entry)) ⌝ }
 {
     place_with(t, n, 0)
@@ -66,7 +64,7 @@ fn free_place(t: &[u8], n: usize) -> Found
 
 // The lowest place in state 5 or 6.
 fn destroyed_place(t: &[u8], n: usize) -> Found
-    requires { ⌜ length (now t) ≡ sizeOf n ⌝ }
+    requires { ⌜ Table n (now t) ⌝ }
     ensures { λ r. ⌜ r ≡ destroyedPlace n (now (t .entry)) ⌝ }
 {
     let mut place: usize = 0;
@@ -90,7 +88,7 @@ fn is_nothing(found: Found) -> bool
 
 // Where a new key goes: the lowest free place, or if none is free the lowest place in state 5 or 6.
 pub fn new_place(t: &[u8], n: usize) -> Found
-    requires { ⌜ length (now t) ≡ sizeOf n ⌝ }
+    requires { ⌜ Table n (now t) ⌝ }
     ensures { λ r. ⌜ r ≡ newPlace n (now (t .entry)) ⌝ }
 {
     let free = free_place(t, n);

@@ -16,7 +16,7 @@ use Rattle.octets.proofs.If.{ifb-true, ifb-false}
 use Rattle.table.specs.declared.Record.{Record}
 use Rattle.search.specs.declared.Found.{Found}
 use Rattle.search.specs.declared.Found.the-variants.{At, Nothing}
-use Rattle.table.specs.Layout.{lineOf, lineSize, sizeOf}
+use Rattle.table.specs.Layout.{lineOf, lineSize, sizeOf, Table}
 use Rattle.table.specs.Records.{placeAt, serialAt, lastSerial, placesSaid}
 use Rattle.search.specs.Search.{find}
 use Rattle.table.proofs.Places.{serial-is}
@@ -134,11 +134,11 @@ module _ (n : ℕ) (t : List ℕ) where
 
   -- ---- what the functions go by
 
-  pub whole-size : wholeRight n t ≡ true → length t ≡ sizeOf n
+  pub whole-size : wholeRight n t ≡ true → Table n t
   unfolding wholeRight sizeRight
   whole-size e = eqb-true (length t) (sizeOf n) (and-l _ (countRight n t) (and-l _ (leadRight n t) e))
 
-  pub whole-sized : length t ≡ sizeOf n → wholeRight n t ≡ (countRight n t && leadRight n t)
+  pub whole-sized : Table n t → wholeRight n t ≡ (countRight n t && leadRight n t)
   unfolding wholeRight sizeRight
   whole-sized e = ap (λ (b : Bool). b && countRight n t && leadRight n t) (eq-eqb (length t) (sizeOf n) e)
 

@@ -15,8 +15,8 @@ use Rattle.octets.specs.Octets.{part, allZero}
 use Rattle.table.specs.declared.Record.{Record}
 use Rattle.search.specs.declared.Found.{Found}
 use Rattle.search.specs.declared.Found.the-variants.{At, Nothing}
-use Rattle.table.specs.Layout.{lineSize, bodySize, lineOf, bodyOf, sizeOf}
-use Rattle.table.specs.Records.{placeAt, serialAt, isFree, zerosIn, lastSerial, placesSaid, leadZeros}
+use Rattle.table.specs.Layout.{lineSize, bodySize, lineOf, bodyOf, sizeOf, Table, zerosIn}
+use Rattle.table.specs.Records.{placeAt, serialAt, isFree, lastSerial, placesSaid, leadZeros}
 use Rattle.search.specs.Search.{isNothing, find}
 use Rattle.search.proofs.First.{isNothing-is, none-fails, fails-none}
 use Rattle.table.proofs.Places.{serial-is}
@@ -40,7 +40,7 @@ pub record Empty (n : ℕ) (t : List ℕ) (i : ℕ) : Type 0 where
 
 -- a table of n places that breaks no rule
 pub record Sound (n : ℕ) (t : List ℕ) : Type 0 where
-  pub size : length t ≡ sizeOf n
+  pub size : Table n t
   pub count : placesSaid t ≡ n
   pub lead : allZero (leadZeros t) ≡ true
   pub free : (i : ℕ) → i < n → serialAt t i ≡ 0 → Empty n t i

@@ -1,5 +1,6 @@
 -- What the check asks of the whole table and of one place after the other, each place once; that it asks what `sound` asks is a law.
 -- Assumes nothing.
+use mathlib.Core.Path.{_≡_}
 use Prim.Native.Nat.{ℕ, _≤_, _<_}
 use mathlib.Core.Bool.{Bool, false, _&&_}
 use mathlib.Core.List.{List}
@@ -8,6 +9,7 @@ use Rattle.octets.specs.If.{ifb}
 use Rattle.table.specs.declared.Record.{Record}
 use Rattle.search.specs.declared.Found.{Found}
 use Rattle.search.specs.declared.Found.the-variants.{At, Nothing}
+use Rattle.table.specs.Layout.{Place}
 use Rattle.table.specs.Records.{placeAt, serialAt, isFree, lastSerial}
 use Rattle.search.specs.Search.{find}
 use Rattle.record_rules.specs.Checked.{valuesRight, materialRight, namesRight}
@@ -34,3 +36,27 @@ standingRight n t i r =
 -- rules 4 to 16 at place i
 unfoldable pub placeRight : ℕ → List ℕ → ℕ → Bool
 placeRight n t i = ifb (isFree t i) (freeRight n t i) (standingRight n t i (placeAt n t i))
+
+-- ---- what the functions at a place ask; the check shows it as it counts the places
+
+-- p is the record at place i
+pub record RecordAt (n : ℕ) (t : List ℕ) (i : ℕ) (p : Record) : Type 0 where
+  pub place : Place n t i
+  pub held : p ≡ placeAt n t i
+
+-- the serial is that of place i, and `top` is as high as any below
+pub record Owns (n : ℕ) (t : List ℕ) (i top serial : ℕ) : Type 0 where
+  pub place : Place n t i
+  pub own : serial ≡ serialAt t i
+  pub highest : TopBelow t i top
+
+-- the check has come to place i: `last` is the last serial issued, and `top` is as high as any below
+pub record Reached (n : ℕ) (t : List ℕ) (i last top : ℕ) : Type 0 where
+  pub place : Place n t i
+  pub issued : last ≡ lastSerial t
+  pub highest : TopBelow t i top
+
+-- and p is the record there
+pub record ReachedRecord (n : ℕ) (t : List ℕ) (i last top : ℕ) (p : Record) : Type 0 where
+  pub reached : Reached n t i last top
+  pub held : p ≡ placeAt n t i

@@ -12,8 +12,8 @@ use Rattle.octets.specs.Octets.{part, allZero}
 use Rattle.table.specs.declared.Record.{Record}
 use Rattle.search.specs.declared.Found.{Found}
 use Rattle.search.specs.declared.Found.the-variants.{At, Nothing}
-use Rattle.table.specs.Layout.{lineSize, bodySize, lineOf, bodyOf, sizeOf}
-use Rattle.table.specs.Records.{placeAt, serialAt, isFree, zerosIn, lastSerial, placesSaid, leadZeros}
+use Rattle.table.specs.Layout.{lineSize, bodySize, lineOf, bodyOf, sizeOf, zerosIn}
+use Rattle.table.specs.Records.{placeAt, serialAt, isFree, lastSerial, placesSaid, leadZeros}
 use Rattle.search.specs.Search.{first, isNothing, find}
 use Rattle.record_rules.specs.Rules.{stateRight, bitsRight, maskRight, limitRight, tailRight, wipedRight, replacedRight, replacementRight}
 

@@ -1,15 +1,13 @@
 // The soundness check of a stored table. Its rules of a record by itself are those of record_rules.
 // It writes nothing, and takes a table of any size and any content.
 ghost use mathlib.Core.Path.{_≡_};
-ghost use Prim.Native.Nat.{_<_, max};
-ghost use lib.ListN.{length};
+ghost use Prim.Native.Nat.{max};
 ghost use lib.Dec.{eqb};
-ghost use Rattle.table.specs.Layout.{sizeOf};
-ghost use Rattle.table.specs.Records.{placeAt, serialAt, lastSerial};
+ghost use Rattle.table.specs.Layout.{sizeOf, Table, Place};
 ghost use Rattle.search.specs.Search.{find};
 ghost use Rattle.record_rules.specs.Checked.{materialRight};
 ghost use Rattle.soundness.specs.Sound.{freeRight, zerosRight, ifStands, namesReplacement, namesReplaced, sound};
-ghost use Rattle.soundness.specs.Checked.{wholeRight, isAt, TopBelow, standingRight, placeRight};
+ghost use Rattle.soundness.specs.Checked.{wholeRight, isAt, standingRight, placeRight, RecordAt, Owns, Reached, ReachedRecord};
 use search::Found;
 use table::Layout;
 use table::Record;
@@ -37,14 +35,15 @@ fn whole_right(t: &[u8], n: usize) -> bool
     if !size_right(t.len(), n) {
         return false;
     }
-    (table::places_said(t) as usize == n) & octets::all_zero(&t[8..Layout::LEAD])
+    (table::places_said(t) as usize == n)
+        & octets::all_zero(&t[Layout::LEAD_ZEROS_IN..Layout::LEAD])
 }
 
-// ---- the rules at a place. They ask for the size, and for a place of the table: the check has tested the one and counts the other.
+// ---- the rules at a place: the check has tested the table's size and counts its places
 
 // Rule 4, of a free place.
 fn free_right(t: &[u8], n: usize, i: usize) -> bool
-    requires { ⌜ (length (now t) ≡ sizeOf n) × (i < n) ⌝ }
+    requires { ⌜ Place n (now t) i ⌝ }
     ensures { λ r. ⌜ r ≡ freeRight n (now (t .entry)) i ⌝ }
 {
     let layout = Layout { places: n };
@@ -56,7 +55,7 @@ fn free_right(t: &[u8], n: usize, i: usize) -> bool
 
 // Rule 5: the four zeros behind the mask.
 fn zeros_right(t: &[u8], n: usize, i: usize) -> bool
-    requires { ⌜ (length (now t) ≡ sizeOf n) × (i < n) ⌝ }
+    requires { ⌜ Place n (now t) i ⌝ }
     ensures { λ r. ⌜ r ≡ zerosRight n (now (t .entry)) i ⌝ }
 {
     let layout = Layout { places: n };
@@ -66,7 +65,7 @@ fn zeros_right(t: &[u8], n: usize, i: usize) -> bool
 
 // Rules 12 and 13, of the record p that stands at place i: its material is looked at where it stands.
 fn material_right(t: &[u8], n: usize, i: usize, p: Record) -> bool
-    requires { ⌜ (length (now t) ≡ sizeOf n) × ((i < n) × (p ≡ placeAt n (now t) i)) ⌝ }
+    requires { ⌜ RecordAt n (now t) i p ⌝ }
     ensures { λ r. ⌜ r ≡ materialRight p ⌝ }
 {
     let layout = Layout { places: n };
@@ -78,7 +77,7 @@ fn material_right(t: &[u8], n: usize, i: usize, p: Record) -> bool
 
 // Rule 6: the search for the serial of place i gives place i. A serial above all that stand at lower places needs no search: `top` is as high as any of them.
 fn own_place(t: &[u8], n: usize, i: usize, top: u32, serial: u32) -> bool
-    requires { ⌜ (length (now t) ≡ sizeOf n) × ((i < n) × ((serial ≡ serialAt (now t) i) × TopBelow (now t) i top)) ⌝ }
+    requires { ⌜ Owns n (now t) i top serial ⌝ }
     ensures { λ r. ⌜ r ≡ isAt i (find n (now (t .entry)) serial) ⌝ }
 {
     if top < serial {
@@ -92,7 +91,7 @@ fn own_place(t: &[u8], n: usize, i: usize, top: u32, serial: u32) -> bool
 
 // The first half of rule 16: the record that was replaced, if it stands, names this serial.
 fn back_right(t: &[u8], n: usize, serial: u32, replaced: u32) -> bool
-    requires { ⌜ length (now t) ≡ sizeOf n ⌝ }
+    requires { ⌜ Table n (now t) ⌝ }
     ensures { λ r. ⌜ r ≡ ifStands (namesReplacement n (now (t .entry)) serial) (find n (now (t .entry)) replaced) ⌝ }
 {
     match search::find(t, n, replaced) {
@@ -103,7 +102,7 @@ fn back_right(t: &[u8], n: usize, serial: u32, replaced: u32) -> bool
 
 // The second half of rule 16: the replacement, if it stands, names this serial.
 fn forth_right(t: &[u8], n: usize, serial: u32, replacement: u32) -> bool
-    requires { ⌜ length (now t) ≡ sizeOf n ⌝ }
+    requires { ⌜ Table n (now t) ⌝ }
     ensures { λ r. ⌜ r ≡ ifStands (namesReplaced n (now (t .entry)) serial) (find n (now (t .entry)) replacement) ⌝ }
 {
     match search::find(t, n, replacement) {
@@ -114,7 +113,7 @@ fn forth_right(t: &[u8], n: usize, serial: u32, replacement: u32) -> bool
 
 // Rules 5 to 16, of the record p that stands at place i, where `last` is the last serial issued: the check has read both, and `top` from the serials of the lower places.
 fn standing_right(t: &[u8], n: usize, i: usize, last: u32, top: u32, p: Record) -> bool
-    requires { ⌜ (length (now t) ≡ sizeOf n) × ((i < n) × ((last ≡ lastSerial (now t)) × ((p ≡ placeAt n (now t) i) × TopBelow (now t) i top))) ⌝ }
+    requires { ⌜ ReachedRecord n (now t) i last top p ⌝ }
     ensures { λ r. ⌜ r ≡ standingRight n (now (t .entry)) i p ⌝ }
 {
     let alone = zeros_right(t, n, i)
@@ -127,7 +126,7 @@ fn standing_right(t: &[u8], n: usize, i: usize, last: u32, top: u32, p: Record) 
 
 // Rules 4 to 16 at place i.
 fn place_right(t: &[u8], n: usize, i: usize, last: u32, top: u32) -> bool
-    requires { ⌜ (length (now t) ≡ sizeOf n) × ((i < n) × ((last ≡ lastSerial (now t)) × TopBelow (now t) i top)) ⌝ }
+    requires { ⌜ Reached n (now t) i last top ⌝ }
     ensures { λ r. ⌜ r ≡ placeRight n (now (t .entry)) i ⌝ }
 {
     if table::serial_at(t, i) == 0 {

@@ -10,8 +10,8 @@ use lib.Seq.{drop-drop}
 use Rattle.octets.specs.Octets.{be, part, allZero, Bytes}
 use Rattle.octets.proofs.Numbers.{length-be, be-zero, fromBe-be, be-bytes, bytes-append}
 use Rattle.table.specs.declared.Record.{Record}
-use Rattle.table.specs.Layout.{lineSize, bodySize, materialSize, lineOf, bodyOf, sizeOf}
-use Rattle.table.specs.Records.{line, body, lineBytes, bodyBytes, recordOf, placeAt, serialAt, zerosIn, lastSerial, placesSaid, leadZeros, blank}
+use Rattle.table.specs.Layout.{lineSize, bodySize, materialSize, lineOf, bodyOf, sizeOf, Table, leadZerosIn, zerosIn}
+use Rattle.table.specs.Records.{line, body, lineBytes, bodyBytes, recordOf, placeAt, serialAt, lastSerial, placesSaid, leadZeros, blank}
 use Rattle.octets.proofs.Zeros.{zeros-pass, pass-zeros, part-zeros, bytes-zeros}
 use Rattle.table.proofs.Lines.{InRange, recordOf-bytes}
 use Rattle.table.proofs.Places.{length-line-at, length-body-at, line-is, body-is, serial-is}
@@ -55,7 +55,7 @@ zero-range = record {
   bytes = bytes-zeros materialSize;
 }
 
-module _ (n : ℕ) (t : List ℕ) (i : ℕ) (big : length t ≡ sizeOf n) (lo : i < n) where
+module _ (n : ℕ) (t : List ℕ) (i : ℕ) (big : Table n t) (lo : i < n) where
   -- zero bytes are the record of zeros
   pub zero-place : allZero (part t (lineOf i) lineSize) ≡ true → allZero (part t (bodyOf n i) bodySize) ≡ true → placeAt n t i ≡ zeroRecord
   unfolding placeAt
@@ -81,7 +81,7 @@ test-zeros s l e = pass-zeros s e ∙ ap (λ (k : ℕ). replicate k 0) l ∙ sym
 
 -- ---- the blank table
 
-pub length-blank : (n : ℕ) → length (blank n) ≡ sizeOf n
+pub length-blank : (n : ℕ) → Table n (blank n)
 unfolding blank
 length-blank n = rw (length-append, length-append, length-be 4 0, length-be 4 n, length-replicate) (omega arith)
 
@@ -111,7 +111,7 @@ part-blank n at w a h =
     ∙ part-zeros (sizeOf n - 8) (at - 8) w (omega arith)
 
 pub lead-blank : (n : ℕ) → leadZeros (blank n) ≡ replicate 8 0
-lead-blank n = part-blank n 8 8 (omega arith) (omega arith)
+lead-blank n = part-blank n leadZerosIn 8 (omega arith) (omega arith)
 
 module _ (n i : ℕ) (lo : i < n) where
   pub line-blank : part (blank n) (lineOf i) lineSize ≡ replicate lineSize 0

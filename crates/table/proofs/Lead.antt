@@ -11,51 +11,51 @@ use Rattle.octets.specs.Octets.{be, fromBe, part, Bytes}
 use Rattle.octets.proofs.Numbers.{length-be, be-bytes, fromBe-be}
 use Rattle.octets.proofs.Stores.{part-sets-same, part-sets-above}
 use Rattle.table.specs.declared.Record.{Record}
-use Rattle.table.specs.Layout.{lineSize, bodySize, materialSize, lineOf, bodyOf, sizeOf}
-use Rattle.table.specs.Records.{lineBytes, bodyBytes, recordOf, zerosIn, placeAt, withPlace, serialAt, stateAt, lastSerial, withLast, placesSaid, leadZeros}
+use Rattle.table.specs.Layout.{lineSize, bodySize, materialSize, lineOf, bodyOf, Table, lastIn, placesIn, leadZerosIn, serialIn, stateIn, zerosIn}
+use Rattle.table.specs.Records.{lineBytes, bodyBytes, recordOf, placeAt, withPlace, serialAt, stateAt, lastSerial, withLast, placesSaid, leadZeros}
 use Rattle.octets.proofs.Zeros.{bytes-sets}
 use Rattle.table.proofs.Places.{part-with, sets-swap}
 
 -- ---- a store at a place keeps the lead
 
-module _ (n : ℕ) (t : List ℕ) (i : ℕ) (r : Record) (big : length t ≡ sizeOf n) (lo : i < n) (m : length (r .material) ≡ materialSize) where
+module _ (n : ℕ) (t : List ℕ) (i : ℕ) (r : Record) (big : Table n t) (lo : i < n) (m : length (r .material) ≡ materialSize) where
   pub last-with : lastSerial (withPlace n t i r) ≡ lastSerial t
   unfolding lastSerial
-  last-with = ap fromBe (part-with n t i r big lo m 0 4 (inl (omega arith)) (inl (omega arith)))
+  last-with = ap fromBe (part-with n t i r big lo m lastIn 4 (inl (omega arith)) (inl (omega arith)))
 
   pub said-with : placesSaid (withPlace n t i r) ≡ placesSaid t
   unfolding placesSaid
-  said-with = ap fromBe (part-with n t i r big lo m 4 4 (inl (omega arith)) (inl (omega arith)))
+  said-with = ap fromBe (part-with n t i r big lo m placesIn 4 (inl (omega arith)) (inl (omega arith)))
 
   pub lead-with : leadZeros (withPlace n t i r) ≡ leadZeros t
-  lead-with = part-with n t i r big lo m 8 8 (inl (omega arith)) (inl (omega arith))
+  lead-with = part-with n t i r big lo m leadZerosIn 8 (inl (omega arith)) (inl (omega arith))
 
 -- ---- a new last serial
 
 pub length-last : (t : List ℕ) (s : ℕ) → length (withLast t s) ≡ length t
 unfolding withLast
-length-last t s = length-sets t 0 (be 4 s)
+length-last t s = length-sets t lastIn (be 4 s)
 
 pub bytes-last : (t : List ℕ) (s : ℕ) → Bytes t → Bytes (withLast t s)
 unfolding withLast
-bytes-last t s h = bytes-sets t 0 (be 4 s) h (be-bytes 4 s)
+bytes-last t s h = bytes-sets t lastIn (be 4 s) h (be-bytes 4 s)
 
 pub last-last : (t : List ℕ) (s : ℕ) → 4 ≤ length t → s < 256 ^ 4 → lastSerial (withLast t s) ≡ s
 unfolding lastSerial withLast
-last-last t s l h = ap fromBe (part-sets-same t 0 (be 4 s) 4 (length-be 4 s) l) ∙ fromBe-be 4 s h
+last-last t s l h = ap fromBe (part-sets-same t lastIn (be 4 s) 4 (length-be 4 s) l) ∙ fromBe-be 4 s h
 
 -- it keeps what stands behind it
-pub part-last : (t : List ℕ) (s a k : ℕ) → 4 ≤ a → part (withLast t s) a k ≡ part t a k
+pub part-last : (t : List ℕ) (s a k : ℕ) → placesIn ≤ a → part (withLast t s) a k ≡ part t a k
 unfolding withLast
-part-last t s a k h = part-sets-above t 0 (be 4 s) a k (rw length-be h)
+part-last t s a k h = part-sets-above t lastIn (be 4 s) a k (rw length-be h)
 
 module _ (t : List ℕ) (s : ℕ) where
   pub said-last : placesSaid (withLast t s) ≡ placesSaid t
   unfolding placesSaid
-  said-last = ap fromBe (part-last t s 4 4 (omega arith))
+  said-last = ap fromBe (part-last t s placesIn 4 (omega arith))
 
   pub lead-last : leadZeros (withLast t s) ≡ leadZeros t
-  lead-last = part-last t s 8 8 (omega arith)
+  lead-last = part-last t s leadZerosIn 8 (omega arith)
 
   module _ (i : ℕ) where
     pub line-last : part (withLast t s) (lineOf i) lineSize ≡ part t (lineOf i) lineSize
@@ -63,11 +63,11 @@ module _ (t : List ℕ) (s : ℕ) where
 
     pub serial-last : serialAt (withLast t s) i ≡ serialAt t i
     unfolding serialAt
-    serial-last = ap fromBe (part-last t s (lineOf i) 4 (omega arith))
+    serial-last = ap fromBe (part-last t s (lineOf i + serialIn) 4 (omega arith))
 
     pub state-last : stateAt (withLast t s) i ≡ stateAt t i
     unfolding stateAt
-    state-last = ap fromBe (part-last t s (lineOf i + 4) 1 (omega arith))
+    state-last = ap fromBe (part-last t s (lineOf i + stateIn) 1 (omega arith))
 
     module _ (n : ℕ) where
       pub body-last : part (withLast t s) (bodyOf n i) bodySize ≡ part t (bodyOf n i) bodySize
@@ -85,5 +85,5 @@ pub last-swap : (n : ℕ) (t : List ℕ) (i : ℕ) (r : Record) (s : ℕ) → wi
 unfolding withLast withPlace
 last-swap n t i r s =
     let e : length (be 4 s) ≡ 4 = length-be 4 s in
-    sets-swap (sets t (lineOf i) (lineBytes r)) (bodyOf n i) (bodyBytes r) 0 (be 4 s) (inr (omega arith))
-    ∙ ap (λ (l : List ℕ). sets l (bodyOf n i) (bodyBytes r)) (sets-swap t (lineOf i) (lineBytes r) 0 (be 4 s) (inr (omega arith)))
+    sets-swap (sets t (lineOf i) (lineBytes r)) (bodyOf n i) (bodyBytes r) lastIn (be 4 s) (inr (omega arith))
+    ∙ ap (λ (l : List ℕ). sets l (bodyOf n i) (bodyBytes r)) (sets-swap t (lineOf i) (lineBytes r) lastIn (be 4 s) (inr (omega arith)))

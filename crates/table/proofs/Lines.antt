@@ -2,7 +2,7 @@
 -- Assumes nothing.
 use mathlib.Core.Path.{_≡_, refl, sym, ap, ap₂, _∙_}
 use Prim.Native.Nat.{ℕ, _+_, _-_, _^_, _≤_, _<_}
-use native.Mathlib.Nat.{add-assoc, le-of-eq}
+use native.Mathlib.Nat.{add-assoc, add-zero, le-of-eq}
 use native.Mathlib.Omega.{arith}
 use mathlib.Core.List.{List, _++_}
 use lib.ListN.{length, take, drop, length-append}
@@ -11,8 +11,8 @@ use Rattle.octets.specs.Octets.{be, fromBe, part, Bytes}
 use Rattle.octets.proofs.Numbers.{length-be, be-bytes, be-part, fromBe-be, fromBe-lt, bytes-append, bytes-take, bytes-drop}
 use Rattle.octets.proofs.Stores.{sets-append, length-part}
 use Rattle.table.specs.declared.Record.{Record}
-use Rattle.table.specs.Layout.{lineSize, bodySize, materialSize}
-use Rattle.table.specs.Records.{line, body, lineBytes, bodyBytes, recordOf, zerosIn}
+use Rattle.table.specs.Layout.{lineSize, bodySize, materialSize, serialIn, stateIn, unitIn, bitsIn, replacedIn, replacementIn, totalIn, countIn, maskIn, zerosIn, materialIn}
+use Rattle.table.specs.Records.{line, body, lineBytes, bodyBytes, recordOf}
 
 pub length-line : (r : Record) → length (lineBytes r) ≡ lineSize
 unfolding line
@@ -39,43 +39,43 @@ pub record InRange (r : Record) : Type 0 where
 
 -- each field, by computation: the bytes of a line or a body are written out where `be` unfolds
 module _ (r : Record) (h : InRange r) where
-  at-serial : fromBe (part (lineBytes r) 0 4) ≡ r .serial
+  at-serial : fromBe (part (lineBytes r) serialIn 4) ≡ r .serial
   unfolding line be
   at-serial = fromBe-be 4 (r .serial) (h .serial)
 
-  at-state : fromBe (part (lineBytes r) 4 1) ≡ r .state
+  at-state : fromBe (part (lineBytes r) stateIn 1) ≡ r .state
   unfolding line be
   at-state = fromBe-be 1 (r .state) (h .state)
 
-  at-unit : fromBe (part (lineBytes r) 5 1) ≡ r .unit
+  at-unit : fromBe (part (lineBytes r) unitIn 1) ≡ r .unit
   unfolding line be
   at-unit = fromBe-be 1 (r .unit) (h .unit)
 
-  at-bits : fromBe (part (lineBytes r) 6 2) ≡ r .bits
+  at-bits : fromBe (part (lineBytes r) bitsIn 2) ≡ r .bits
   unfolding line be
   at-bits = fromBe-be 2 (r .bits) (h .bits)
 
-  at-replaced : fromBe (part (lineBytes r) 8 4) ≡ r .replaced
+  at-replaced : fromBe (part (lineBytes r) replacedIn 4) ≡ r .replaced
   unfolding line be
   at-replaced = fromBe-be 4 (r .replaced) (h .replaced)
 
-  at-replacement : fromBe (part (lineBytes r) 12 4) ≡ r .replacement
+  at-replacement : fromBe (part (lineBytes r) replacementIn 4) ≡ r .replacement
   unfolding line be
   at-replacement = fromBe-be 4 (r .replacement) (h .replacement)
 
-  at-total : fromBe (part (bodyBytes r) 0 8) ≡ r .total
+  at-total : fromBe (part (bodyBytes r) totalIn 8) ≡ r .total
   unfolding body be
   at-total = fromBe-be 8 (r .total) (h .total)
 
-  at-count : fromBe (part (bodyBytes r) 8 8) ≡ r .count
+  at-count : fromBe (part (bodyBytes r) countIn 8) ≡ r .count
   unfolding body be
   at-count = fromBe-be 8 (r .count) (h .count)
 
-  at-mask : fromBe (part (bodyBytes r) 16 4) ≡ r .mask
+  at-mask : fromBe (part (bodyBytes r) maskIn 4) ≡ r .mask
   unfolding body be
   at-mask = fromBe-be 4 (r .mask) (h .mask)
 
-  at-material : part (bodyBytes r) 24 materialSize ≡ r .material
+  at-material : part (bodyBytes r) materialIn materialSize ≡ r .material
   unfolding body be
   at-material = take-all materialSize (r .material) (le-of-eq (h .long))
 
@@ -109,69 +109,73 @@ bytes-part s at w h = bytes-take w (drop at s) (bytes-drop at s h)
 field-lt : (s : List ℕ) (at w : ℕ) → at + w ≤ length s → Bytes s → fromBe (part s at w) < 256 ^ w
 field-lt s at w l h = let e : length (part s at w) ≡ w = length-part s at w l in rw e at (fromBe-lt (part s at w) (bytes-part s at w h))
 
+-- a run of bytes, and then what follows it
+run-back : (s : List ℕ) (at v w : ℕ) (run rest : List ℕ) → run ≡ part s at v → rest ≡ part s (at + v) w → run ++ rest ≡ part s at (v + w)
+run-back s at v w run rest d e =
+    ap₂ (λ (x y : List ℕ). x ++ y) d (e ∙ ap (λ (x : List ℕ). take w x) (sym (drop-drop v at s)))
+    ∙ sym (take-add v w (drop at s))
+
 -- a field is written as it was read, and so is what follows it
 field-back : (s : List ℕ) (at v w : ℕ) (rest : List ℕ) → at + v ≤ length s → Bytes s → rest ≡ part s (at + v) w → be v (fromBe (part s at v)) ++ rest ≡ part s at (v + w)
-field-back s at v w rest l h e =
-    ap₂ (λ (x y : List ℕ). x ++ y) (be-part v at s l h) (e ∙ ap (λ (x : List ℕ). take w x) (sym (drop-drop v at s)))
-    ∙ sym (take-add v w (drop at s))
+field-back s at v w rest l h e = run-back s at v w _ rest (be-part v at s l h) e
 
 module _ (l b : List ℕ) (el : length l ≡ lineSize) (eb : length b ≡ bodySize) (hl : Bytes l) (hb : Bytes b) where
   pub recordOf-range : InRange (recordOf l b)
   unfolding recordOf
   recordOf-range = record {
-    serial = field-lt l 0 4 (omega arith) hl;
-    state = field-lt l 4 1 (omega arith) hl;
-    unit = field-lt l 5 1 (omega arith) hl;
-    bits = field-lt l 6 2 (omega arith) hl;
-    replaced = field-lt l 8 4 (omega arith) hl;
-    replacement = field-lt l 12 4 (omega arith) hl;
-    total = field-lt b 0 8 (omega arith) hb;
-    count = field-lt b 8 8 (omega arith) hb;
-    mask = field-lt b 16 4 (omega arith) hb;
-    long = length-part b 24 materialSize (omega arith);
-    bytes = bytes-part b 24 materialSize hb;
+    serial = field-lt l serialIn 4 (omega arith) hl;
+    state = field-lt l stateIn 1 (omega arith) hl;
+    unit = field-lt l unitIn 1 (omega arith) hl;
+    bits = field-lt l bitsIn 2 (omega arith) hl;
+    replaced = field-lt l replacedIn 4 (omega arith) hl;
+    replacement = field-lt l replacementIn 4 (omega arith) hl;
+    total = field-lt b totalIn 8 (omega arith) hb;
+    count = field-lt b countIn 8 (omega arith) hb;
+    mask = field-lt b maskIn 4 (omega arith) hb;
+    long = length-part b materialIn materialSize (omega arith);
+    bytes = bytes-part b materialIn materialSize hb;
   }
 
   -- a line is written as it was read
   pub line-back : lineBytes (recordOf l b) ≡ l
   unfolding recordOf line
   line-back =
-      field-back l 0 4 12 _ (omega arith) hl
-      (field-back l 4 1 11 _ (omega arith) hl
-      (field-back l 5 1 10 _ (omega arith) hl
-      (field-back l 6 2 8 _ (omega arith) hl
-      (field-back l 8 4 4 _ (omega arith) hl
-      (be-part 4 12 l (omega arith) hl)))))
+      field-back l serialIn 4 (lineSize - stateIn) _ (omega arith) hl
+      (field-back l stateIn 1 (lineSize - unitIn) _ (omega arith) hl
+      (field-back l unitIn 1 (lineSize - bitsIn) _ (omega arith) hl
+      (field-back l bitsIn 2 (lineSize - replacedIn) _ (omega arith) hl
+      (field-back l replacedIn 4 (lineSize - replacementIn) _ (omega arith) hl
+      (be-part 4 replacementIn l (omega arith) hl)))))
       ∙ take-all lineSize l (le-of-eq el)
 
   -- and so is a body in which the zeros stand
   pub body-back : part b zerosIn 4 ≡ be 4 0 → bodyBytes (recordOf l b) ≡ b
   unfolding recordOf body
   body-back z =
-      field-back b 0 8 48 _ (omega arith) hb
-      (field-back b 8 8 40 _ (omega arith) hb
-      (field-back b 16 4 36 _ (omega arith) hb
-      (ap (λ (x : List ℕ). x ++ part b 24 materialSize) (sym z) ∙ ap (λ (x : List ℕ). part b zerosIn 4 ++ take materialSize x) (sym (drop-drop 4 zerosIn b)) ∙ sym (take-add 4 materialSize (drop zerosIn b)))))
+      field-back b totalIn 8 (bodySize - countIn) _ (omega arith) hb
+      (field-back b countIn 8 (bodySize - maskIn) _ (omega arith) hb
+      (field-back b maskIn 4 (bodySize - zerosIn) _ (omega arith) hb
+      (run-back b zerosIn 4 (bodySize - materialIn) _ _ (sym z) refl)))
       ∙ take-all bodySize b (le-of-eq eb)
 
 -- ---- fields that are written one by one
 
 pub line-sets : (t : List ℕ) (at a b c d e f : ℕ)
-    → sets (sets (sets (sets (sets (sets t at (be 4 a)) (at + 4) (be 1 b)) (at + 5) (be 1 c)) (at + 6) (be 2 d)) (at + 8) (be 4 e)) (at + 12) (be 4 f) ≡ sets t at (line a b c d e f)
+    → sets (sets (sets (sets (sets (sets t (at + serialIn) (be 4 a)) (at + stateIn) (be 1 b)) (at + unitIn) (be 1 c)) (at + bitsIn) (be 2 d)) (at + replacedIn) (be 4 e)) (at + replacementIn) (be 4 f) ≡ sets t at (line a b c d e f)
 unfolding line
-line-sets t at a b c d e f = sym (simp (sets-append, length-be, add-assoc))
+line-sets t at a b c d e f = sym (simp (sets-append, length-be, add-assoc, add-zero))
 
 pub body-sets : (t : List ℕ) (at a b c : ℕ) (m : List ℕ)
-    → sets (sets (sets (sets (sets t at (be 8 a)) (at + 8) (be 8 b)) (at + 16) (be 4 c)) (at + zerosIn) (be 4 0)) (at + 24) m ≡ sets t at (body a b c m)
+    → sets (sets (sets (sets (sets t (at + totalIn) (be 8 a)) (at + countIn) (be 8 b)) (at + maskIn) (be 4 c)) (at + zerosIn) (be 4 0)) (at + materialIn) m ≡ sets t at (body a b c m)
 unfolding body
-body-sets t at a b c m = sym (simp (sets-append, length-be, add-assoc))
+body-sets t at a b c m = sym (simp (sets-append, length-be, add-assoc, add-zero))
 
 -- the same, of the tables between, as the calls leave them
 module _ (t : List ℕ) {t₁ t₂ t₃ t₄ t₅ : List ℕ} (at : ℕ) where
-  pub line-chain : {t₆ : List ℕ} (a b c d e f : ℕ) → t₁ ≡ sets t at (be 4 a) → t₂ ≡ sets t₁ (at + 4) (be 1 b) → t₃ ≡ sets t₂ (at + 5) (be 1 c) → t₄ ≡ sets t₃ (at + 6) (be 2 d)
-      → t₅ ≡ sets t₄ (at + 8) (be 4 e) → t₆ ≡ sets t₅ (at + 12) (be 4 f) → t₆ ≡ sets t at (line a b c d e f)
+  pub line-chain : {t₆ : List ℕ} (a b c d e f : ℕ) → t₁ ≡ sets t (at + serialIn) (be 4 a) → t₂ ≡ sets t₁ (at + stateIn) (be 1 b) → t₃ ≡ sets t₂ (at + unitIn) (be 1 c) → t₄ ≡ sets t₃ (at + bitsIn) (be 2 d)
+      → t₅ ≡ sets t₄ (at + replacedIn) (be 4 e) → t₆ ≡ sets t₅ (at + replacementIn) (be 4 f) → t₆ ≡ sets t at (line a b c d e f)
   line-chain a b c d e f e₁ e₂ e₃ e₄ e₅ e₆ = cc (line-sets t at a b c d e f)
 
-  pub body-chain : (a b c : ℕ) (m : List ℕ) → t₁ ≡ sets t at (be 8 a) → t₂ ≡ sets t₁ (at + 8) (be 8 b) → t₃ ≡ sets t₂ (at + 16) (be 4 c) → t₄ ≡ sets t₃ (at + zerosIn) (be 4 0)
-      → t₅ ≡ sets t₄ (at + 24) m → t₅ ≡ sets t at (body a b c m)
+  pub body-chain : (a b c : ℕ) (m : List ℕ) → t₁ ≡ sets t (at + totalIn) (be 8 a) → t₂ ≡ sets t₁ (at + countIn) (be 8 b) → t₃ ≡ sets t₂ (at + maskIn) (be 4 c) → t₄ ≡ sets t₃ (at + zerosIn) (be 4 0)
+      → t₅ ≡ sets t₄ (at + materialIn) m → t₅ ≡ sets t at (body a b c m)
   body-chain a b c m e₁ e₂ e₃ e₄ e₅ = cc (body-sets t at a b c m)

@@ -6,14 +6,14 @@ use Prim.Native.Nat.{ℕ, _+_, _≤_, _<_}
 use native.Mathlib.Omega.{arith}
 use native.Mathlib.Decide.{decLe, ℕ-discrete}
 use mathlib.Core.List.{List}
-use lib.ListN.{length, drop}
-use lib.Seq.{sets, length-sets, take-take}
+use lib.ListN.{length}
+use lib.Seq.{sets, length-sets}
 use lib.Dec.{lit≤}
 use Rattle.octets.specs.Octets.{be, fromBe, part, Bytes}
 use Rattle.octets.proofs.Stores.{sets-comm, part-sets-same, part-sets-below, part-sets-above, part-part, length-part}
 use Rattle.table.specs.declared.Record.{Record}
-use Rattle.table.specs.Layout.{lineSize, bodySize, materialSize, lineOf, bodyOf, sizeOf}
-use Rattle.table.specs.Records.{lineBytes, bodyBytes, recordOf, zerosIn, placeAt, withPlace, serialAt, stateAt}
+use Rattle.table.specs.Layout.{lineSize, bodySize, materialSize, lineOf, bodyOf, sizeOf, Table, serialIn, stateIn, unitIn, bitsIn, replacedIn, replacementIn, totalIn, countIn, maskIn, zerosIn, materialIn}
+use Rattle.table.specs.Records.{lineBytes, bodyBytes, recordOf, placeAt, withPlace, serialAt, stateAt}
 use Rattle.octets.proofs.Zeros.{bytes-sets}
 use Rattle.table.proofs.Lines.{InRange, recordOf-bytes, recordOf-range, line-back, body-back, zeros-body, length-line, length-body, bytes-line, bytes-body, bytes-part}
 
@@ -26,13 +26,13 @@ apart j i ne = elim (decLe j i) [ yes h ↦ inl (omega arith) | no h ↦ inr (om
 -- the serial and the state, read by themselves
 pub serial-is : (n : ℕ) (t : List ℕ) (i : ℕ) → serialAt t i ≡ placeAt n t i .serial
 unfolding serialAt placeAt recordOf
-serial-is n t i = ap fromBe (sym (take-take 4 lineSize (drop (lineOf i) t) (lit≤ tt)))
+serial-is n t i = ap fromBe (sym (part-part t (lineOf i) lineSize serialIn 4 (lit≤ tt)))
 
 pub state-is : (n : ℕ) (t : List ℕ) (i : ℕ) → stateAt t i ≡ placeAt n t i .state
 unfolding stateAt placeAt recordOf
-state-is n t i = ap fromBe (sym (part-part t (lineOf i) lineSize 4 1 (lit≤ tt)))
+state-is n t i = ap fromBe (sym (part-part t (lineOf i) lineSize stateIn 1 (lit≤ tt)))
 
-module _ (n : ℕ) (t : List ℕ) (i : ℕ) (big : length t ≡ sizeOf n) (lo : i < n) where
+module _ (n : ℕ) (t : List ℕ) (i : ℕ) (big : Table n t) (lo : i < n) where
   pub length-line-at : length (part t (lineOf i) lineSize) ≡ lineSize
   length-line-at = length-part t (lineOf i) lineSize (omega arith)
 
@@ -65,7 +65,7 @@ pub bytes-with : (n : ℕ) (t : List ℕ) (i : ℕ) (r : Record) → Bytes t →
 unfolding withPlace
 bytes-with n t i r h g = bytes-sets _ (bodyOf n i) (bodyBytes r) (bytes-sets t (lineOf i) (lineBytes r) h (bytes-line r)) (bytes-body r g)
 
-module _ (n : ℕ) (t : List ℕ) (i : ℕ) (r : Record) (big : length t ≡ sizeOf n) (lo : i < n) (m : length (r .material) ≡ materialSize) where
+module _ (n : ℕ) (t : List ℕ) (i : ℕ) (r : Record) (big : Table n t) (lo : i < n) (m : length (r .material) ≡ materialSize) where
   -- the bytes of the place itself
   pub line-with : part (withPlace n t i r) (lineOf i) lineSize ≡ lineBytes r
   unfolding withPlace
@@ -121,7 +121,7 @@ module _ (n : ℕ) (t : List ℕ) (i : ℕ) (r : Record) (big : length t ≡ siz
     pub state-other : stateAt (withPlace n t i r) j ≡ stateAt t j
     state-other = state-is n (withPlace n t i r) j ∙ ap (λ (x : Record). x .state) place-other ∙ sym (state-is n t j)
 
-module _ (n : ℕ) (t : List ℕ) (i : ℕ) (r : Record) (big : length t ≡ sizeOf n) (lo : i < n) (h : InRange r) where
+module _ (n : ℕ) (t : List ℕ) (i : ℕ) (r : Record) (big : Table n t) (lo : i < n) (h : InRange r) where
   pub place-same : placeAt n (withPlace n t i r) i ≡ r
   unfolding placeAt
   place-same = ap₂ recordOf (line-with n t i r big lo (h .long)) (body-with n t i r big lo (h .long)) ∙ recordOf-bytes r h
@@ -171,16 +171,16 @@ with-swap n t i j r q mr mq h k ne = ⊎-elim (λ l. with-comm n t i j r q mr mq
 pub place-fields : (n : ℕ) (t : List ℕ) (i : ℕ) → let l = lineOf i in let b = bodyOf n i in
     _≡_ {A = Record}
     (record {
-      serial = fromBe (part t l 4);
-      state = fromBe (part t (l + 4) 1);
-      unit = fromBe (part t (l + 5) 1);
-      bits = fromBe (part t (l + 6) 2);
-      replaced = fromBe (part t (l + 8) 4);
-      replacement = fromBe (part t (l + 12) 4);
-      total = fromBe (part t b 8);
-      count = fromBe (part t (b + 8) 8);
-      mask = fromBe (part t (b + 16) 4);
-      material = part t (b + 24) materialSize;
+      serial = fromBe (part t (l + serialIn) 4);
+      state = fromBe (part t (l + stateIn) 1);
+      unit = fromBe (part t (l + unitIn) 1);
+      bits = fromBe (part t (l + bitsIn) 2);
+      replaced = fromBe (part t (l + replacedIn) 4);
+      replacement = fromBe (part t (l + replacementIn) 4);
+      total = fromBe (part t (b + totalIn) 8);
+      count = fromBe (part t (b + countIn) 8);
+      mask = fromBe (part t (b + maskIn) 4);
+      material = part t (b + materialIn) materialSize;
     })
     (placeAt n t i)
 unfolding placeAt recordOf
@@ -188,14 +188,14 @@ place-fields n t i =
     let l = lineOf i in
     let b = bodyOf n i in
     cc (
-      take-take 4 lineSize (drop l t) (lit≤ tt),
-      part-part t l lineSize 4 1 (lit≤ tt),
-      part-part t l lineSize 5 1 (lit≤ tt),
-      part-part t l lineSize 6 2 (lit≤ tt),
-      part-part t l lineSize 8 4 (lit≤ tt),
-      part-part t l lineSize 12 4 (lit≤ tt),
-      take-take 8 bodySize (drop b t) (lit≤ tt),
-      part-part t b bodySize 8 8 (lit≤ tt),
-      part-part t b bodySize 16 4 (lit≤ tt),
-      part-part t b bodySize 24 materialSize (lit≤ tt),
+      part-part t l lineSize serialIn 4 (lit≤ tt),
+      part-part t l lineSize stateIn 1 (lit≤ tt),
+      part-part t l lineSize unitIn 1 (lit≤ tt),
+      part-part t l lineSize bitsIn 2 (lit≤ tt),
+      part-part t l lineSize replacedIn 4 (lit≤ tt),
+      part-part t l lineSize replacementIn 4 (lit≤ tt),
+      part-part t b bodySize totalIn 8 (lit≤ tt),
+      part-part t b bodySize countIn 8 (lit≤ tt),
+      part-part t b bodySize maskIn 4 (lit≤ tt),
+      part-part t b bodySize materialIn materialSize (lit≤ tt),
     )

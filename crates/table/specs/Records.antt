@@ -8,7 +8,7 @@ use lib.Seq.{sets}
 use lib.Dec.{eqb}
 use Rattle.octets.specs.Octets.{be, fromBe, part}
 use Rattle.table.specs.declared.Record.{Record}
-use Rattle.table.specs.Layout.{lineSize, bodySize, lineOf, bodyOf, sizeOf, materialSize}
+use Rattle.table.specs.Layout.{lineSize, bodySize, lineOf, bodyOf, sizeOf, materialSize, lastIn, placesIn, leadZerosIn, serialIn, stateIn, unitIn, bitsIn, replacedIn, replacementIn, totalIn, countIn, maskIn, materialIn}
 
 -- "serial (4, zero means free), state (1), unit (1), length in bits (2), replaced serial (4), replacement serial (4)"
 unfoldable pub line : ℕ → ℕ → ℕ → ℕ → ℕ → ℕ → List ℕ
@@ -27,21 +27,17 @@ bodyBytes r = body (r .total) (r .count) (r .mask) (r .material)
 -- what a line and a body say
 unfoldable pub recordOf : List ℕ → List ℕ → Record
 recordOf l b = record {
-  serial = fromBe (part l 0 4);
-  state = fromBe (part l 4 1);
-  unit = fromBe (part l 5 1);
-  bits = fromBe (part l 6 2);
-  replaced = fromBe (part l 8 4);
-  replacement = fromBe (part l 12 4);
-  total = fromBe (part b 0 8);
-  count = fromBe (part b 8 8);
-  mask = fromBe (part b 16 4);
-  material = part b 24 materialSize;
+  serial = fromBe (part l serialIn 4);
+  state = fromBe (part l stateIn 1);
+  unit = fromBe (part l unitIn 1);
+  bits = fromBe (part l bitsIn 2);
+  replaced = fromBe (part l replacedIn 4);
+  replacement = fromBe (part l replacementIn 4);
+  total = fromBe (part b totalIn 8);
+  count = fromBe (part b countIn 8);
+  mask = fromBe (part b maskIn 4);
+  material = part b materialIn materialSize;
 }
-
--- where the four zeros stand in a body
-abbrev pub zerosIn : ℕ
-zerosIn = 20
 
 -- the record at place i of a table of n places
 unfoldable pub placeAt : ℕ → List ℕ → ℕ → Record
@@ -53,11 +49,11 @@ withPlace n t i r = sets (sets t (lineOf i) (lineBytes r)) (bodyOf n i) (bodyByt
 
 -- the serial of place i, read by itself
 unfoldable pub serialAt : List ℕ → ℕ → ℕ
-serialAt t i = fromBe (part t (lineOf i) 4)
+serialAt t i = fromBe (part t (lineOf i + serialIn) 4)
 
 -- the state of place i, read by itself
 unfoldable pub stateAt : List ℕ → ℕ → ℕ
-stateAt t i = fromBe (part t (lineOf i + 4) 1)
+stateAt t i = fromBe (part t (lineOf i + stateIn) 1)
 
 -- "serial .. zero means free"
 abbrev pub isFree : List ℕ → ℕ → Bool
@@ -66,16 +62,16 @@ isFree t i = eqb (serialAt t i) 0
 -- ---- the lead: "last serial issued (4), place count 64 (4), zeros (8)"
 
 unfoldable pub lastSerial : List ℕ → ℕ
-lastSerial t = fromBe (part t 0 4)
+lastSerial t = fromBe (part t lastIn 4)
 
 unfoldable pub withLast : List ℕ → ℕ → List ℕ
-withLast t serial = sets t 0 (be 4 serial)
+withLast t serial = sets t lastIn (be 4 serial)
 
 unfoldable pub placesSaid : List ℕ → ℕ
-placesSaid t = fromBe (part t 4 4)
+placesSaid t = fromBe (part t placesIn 4)
 
 abbrev pub leadZeros : List ℕ → List ℕ
-leadZeros t = part t 8 8
+leadZeros t = part t leadZerosIn 8
 
 -- "A blank table is .. all zero but the place count"
 unfoldable pub blank : ℕ → List ℕ

@@ -1,12 +1,14 @@
 // The stored table: lent bytes with a lead, a line for each place and a body for each place.
-// It knows nothing of TTLV and nothing of what may happen to a key. What the functions ask, the size of the table, was shown by the check of it before any of them is called; that a place is one of the table's, by the search that gave it.
+// It knows nothing of TTLV and nothing of what may happen to a key. Where a field stands in the
+// lead, a line or a body is said here and nowhere else.
 ghost use mathlib.Core.Path.{_≡_};
 ghost use Prim.Native.Nat.{_+_, _^_, _≤_, _<_};
 ghost use lib.ListN.{length};
-ghost use Rattle.table.specs.Layout.{leadSize, lineSize, lineOf, bodyOf, sizeOf};
+ghost use Rattle.table.specs.Layout.{HasLead, HasLine, lineOf, bodyOf, sizeOf};
 ghost use Rattle.table.specs.Records.{serialAt, lastSerial, withLast, placesSaid};
 
-// The layout of a table of so many places: constants for sizes, and the offsets of a place's line and body.
+// The layout of a table of so many places: constants for sizes and for where each field stands, and
+// the offsets of a place's line and body.
 pub struct Layout {
     pub places: usize,
 }
@@ -20,7 +22,38 @@ impl Layout {
 
     pub const MATERIAL: usize = 32;
 
-    // Where the four zeros and the material stand in a body.
+    // The places of the table that the engine keeps, and its bytes.
+    pub const PLACES: usize = 64;
+
+    pub const SIZE: usize = Self::LEAD + (Self::LINE + Self::BODY) * Self::PLACES;
+
+    // Where the fields stand in the lead.
+    pub const LAST_IN: usize = 0;
+
+    pub const PLACES_IN: usize = 4;
+
+    pub const LEAD_ZEROS_IN: usize = 8;
+
+    // Where the fields stand in a line.
+    pub const SERIAL_IN: usize = 0;
+
+    pub const STATE_IN: usize = 4;
+
+    pub const UNIT_IN: usize = 5;
+
+    pub const BITS_IN: usize = 6;
+
+    pub const REPLACED_IN: usize = 8;
+
+    pub const REPLACEMENT_IN: usize = 12;
+
+    // Where the fields stand in a body.
+    pub const TOTAL_IN: usize = 0;
+
+    pub const COUNT_IN: usize = 8;
+
+    pub const MASK_IN: usize = 16;
+
     pub const ZEROS_IN: usize = 20;
 
     pub const MATERIAL_IN: usize = 24;
@@ -66,33 +99,33 @@ pub struct Record {
 
 // The last serial issued.
 pub fn last_serial(t: &[u8]) -> u32
-    requires { ⌜ leadSize ≤ length (now t) ⌝ }
+    requires { ⌜ HasLead (now t) ⌝ }
     ensures { λ r. ⌜ r ≡ lastSerial (now (t .entry)) ⌝ }
 {
-    octets::number_at(t, 0, 4) as u32
+    octets::number_at(t, Layout::LAST_IN, 4) as u32
 }
 
 // Makes this serial the last one issued.
 pub fn set_last_serial(t: &mut [u8], serial: u32)
-    requires { ⌜ leadSize ≤ length (now t) ⌝ }
+    requires { ⌜ HasLead (now t) ⌝ }
     ensures { λ _. ⌜ now (t .exit) ≡ withLast (now (t .entry)) serial ⌝ }
 {
-    octets::put(t, 0, 4, serial as u64);
+    octets::put(t, Layout::LAST_IN, 4, serial as u64);
 }
 
 // The place count that the lead says.
 pub fn places_said(t: &[u8]) -> u32
-    requires { ⌜ leadSize ≤ length (now t) ⌝ }
+    requires { ⌜ HasLead (now t) ⌝ }
     ensures { λ r. ⌜ r ≡ placesSaid (now (t .entry)) ⌝ }
 {
-    octets::number_at(t, 4, 4) as u32
+    octets::number_at(t, Layout::PLACES_IN, 4) as u32
 }
 
 // The serial of place i, read by itself.
 pub fn serial_at(t: &[u8], i: usize) -> u32
-    requires { ⌜ lineOf i + lineSize ≤ length (now t) ⌝ }
+    requires { ⌜ HasLine (now t) i ⌝ }
     ensures { λ r. ⌜ r ≡ serialAt (now (t .entry)) i ⌝ }
 {
     let at = Layout::line(i);
-    octets::number_at(t, at, 4) as u32
+    octets::number_at(t, at + Layout::SERIAL_IN, 4) as u32
 }

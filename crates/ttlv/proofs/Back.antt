@@ -12,7 +12,8 @@ use borrow.Author.Tests.{eq-eqb}
 use Rattle.octets.specs.If.{ifb}
 use Rattle.octets.specs.Octets.{be, part, all, allZero}
 use Rattle.octets.proofs.Numbers.{fromBe-be}
-use Rattle.ttlv_types.specs.Types.{structure, tagLead, padded, lengthOk}
+use Rattle.ttlv_types.specs.Types.{structure, padded, lengthOk}
+use Rattle.tags.specs.Tags.{tagLead}
 use Rattle.ttlv.specs.Items.{Items, nil, value, group, head, padding, encode, wellFormed}
 use Rattle.ttlv.specs.Parse.{firstOf, putValue, putGroup, more, walk, parse}
 use Rattle.ttlv.specs.declared.First.the-variants.{Value, Group}

@@ -7,8 +7,9 @@ use mathlib.Core.List.{List}
 use lib.ListN.{length}
 use lib.Dec.{ltb, eqb}
 use borrow.Author.Tests.{eqb-true, eqb-false, ltb-true, not-true, eq-eqb, ne-eqb, lt-ltb}
-use Rattle.ttlv_types.specs.Types.{structure, tagLead, lengthOk, valueOk}
-use Rattle.ttlv.specs.Items.{Items, value, group, encode, tagOk, itemOk, wellFormed}
+use Rattle.ttlv_types.specs.Types.{structure, lengthOk, valueOk}
+use Rattle.tags.specs.Tags.{tagLead, tagOk}
+use Rattle.ttlv.specs.Items.{Items, value, group, encode, itemOk, wellFormed}
 use Rattle.octets.proofs.Bools.{both, and-i}
 
 -- an item that can be written

@@ -10,7 +10,8 @@ use lib.Dec.{leb, eqb}
 use borrow.Author.Tests.{leb-true, eqb-true, eqb-false, le-leb, lt-leb, eq-eqb, ne-eqb}
 use Rattle.octets.proofs.If.{ifb-true, ifb-false, on-if}
 use Rattle.octets.specs.Octets.{fromBe, part, allZero}
-use Rattle.ttlv_types.specs.Types.{structure, tagLead, padded, lengthOk, valueOk}
+use Rattle.ttlv_types.specs.Types.{structure, padded, lengthOk, valueOk}
+use Rattle.tags.specs.Tags.{tagLead}
 use Rattle.ttlv.specs.Parse.{headed, firstOf}
 use Rattle.ttlv.specs.declared.First.{First}
 use Rattle.ttlv.specs.declared.First.the-variants.{End, Bad, Value, Group}

@@ -10,7 +10,8 @@ use lib.ListN.{length, drop, getD}
 use Rattle.octets.specs.Octets.{fromBe, fromBeAfter, part, Bytes}
 use Rattle.octets.proofs.Numbers.{fromBe-lt, bytes-take, bytes-drop}
 use Rattle.octets.proofs.Stores.{length-part}
-use Rattle.ttlv_types.specs.Types.{structure, tagLead, padded}
+use Rattle.ttlv_types.specs.Types.{structure, padded}
+use Rattle.tags.specs.Tags.{tagLead}
 use Rattle.ttlv.specs.Items.{Items, nil, encode, wellFormed}
 use Rattle.ttlv.specs.Parse.{firstOf, more, walk, parse}
 use Rattle.ttlv.specs.declared.First.{First}

@@ -1,12 +1,13 @@
 -- 01, "TTLV": items, how they are written, and which can be written.
 -- Assumes nothing.
-use Prim.Native.Nat.{ℕ, zero, suc, _-_, _/_, _^_}
+use Prim.Native.Nat.{ℕ, zero, suc, _-_, _^_}
 use mathlib.Core.Bool.{Bool, true, false, not, _&&_}
 use mathlib.Core.List.{List, [], _∷_, _++_}
 use lib.ListN.{length, replicate}
 use lib.Dec.{ltb, eqb}
 use Rattle.octets.specs.Octets.{be}
-use Rattle.ttlv_types.specs.Types.{structure, tagLead, padded, lengthOk, valueOk}
+use Rattle.ttlv_types.specs.Types.{structure, padded, lengthOk, valueOk}
+use Rattle.tags.specs.Tags.{tagOk}
 
 -- a run of items: none; or an item with its tag, type and value, and the rest; or a structure with its tag and its own run, and the rest
 pub data Items : Type 0 where
@@ -33,10 +34,6 @@ unfoldable pub encode : Items → List ℕ
 encode nil = []
 encode (value tag kind v rest) = head tag kind (length v) ++ (v ++ (padding (length v) ++ encode rest))
 encode (group tag body rest) = head tag structure (length (encode body)) ++ (encode body ++ encode rest)
-
--- a tag of three bytes that starts with 42 hex
-abbrev pub tagOk : ℕ → Bool
-tagOk tag = eqb (tag / 65536) tagLead
 
 -- an item that is no structure and keeps the type table
 unfoldable pub itemOk : ℕ → ℕ → List ℕ → Bool

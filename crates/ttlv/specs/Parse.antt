@@ -9,7 +9,8 @@ use lib.Dec.{leb, eqb}
 use Rattle.octets.specs.If.{ifb}
 use Rattle.octets.specs.Maybe.{_>>=_, _>>_}
 use Rattle.octets.specs.Octets.{fromBe, part, allZero}
-use Rattle.ttlv_types.specs.Types.{structure, tagLead, padded, lengthOk, valueOk}
+use Rattle.ttlv_types.specs.Types.{structure, padded, lengthOk, valueOk}
+use Rattle.tags.specs.Tags.{tagLead}
 use Rattle.ttlv.specs.Items.{Items, nil, value, group}
 use Rattle.ttlv.specs.declared.First.{First}
 use Rattle.ttlv.specs.declared.First.the-variants.{End, Bad, Value, Group}

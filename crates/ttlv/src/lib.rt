@@ -7,9 +7,6 @@ ghost use Rattle.octets.specs.Maybe.{isSome};
 ghost use Rattle.octets.specs.Octets.{part, allZero};
 ghost use Rattle.ttlv.specs.Parse.{headed, firstOf, parse, message};
 
-// The first byte of every tag.
-const TAG_LEAD: u8 = 0x42;
-
 // How deep an item may stand: the outermost has depth 1, and an item at depth 9 is malformed.
 const DEPTH_MOST: usize = 8;
 
@@ -86,7 +83,7 @@ pub fn read_first(s: &[u8]) -> First
     if s.len() < 8 {
         return First::Bad;
     }
-    if s[0] != TAG_LEAD {
+    if s[0] != tags::LEAD {
         return First::Bad;
     }
     let tag = octets::number(&s[0..3]) as u32;

@@ -12,10 +12,11 @@ use Rattle.octets.specs.Octets.{over}
 use Rattle.octets.specs.If.{ifb}
 use Rattle.octets.proofs.If.{ifb-true}
 use Rattle.octets.proofs.Over.{length-over, over-front, lent, lent-then}
+use Rattle.tags.specs.Tags.{tagOk}
 use Rattle.ttlv_types.specs.Types.{structure, padded, lengthOk}
 use Rattle.ttlv.specs.Items.{Items, nil, group, head, encode}
 use Rattle.ttlv.proofs.Back.{eights}
-use Rattle.ttlv_put.specs.Write.{tagOf, item, numberItem, join, spelled, fits, valueFits, Wrote, WroteNumber, WroteValue, WroteHead, Holds}
+use Rattle.ttlv_put.specs.Write.{item, numberItem, join, spelled, fits, valueFits, Wrote, WroteNumber, WroteValue, WroteHead, Holds}
 use Rattle.ttlv.proofs.Sizes.{length-head}
 use Rattle.ttlv_put.proofs.Sizes.{length-value, length-number, encode-join, encode-group}
 
@@ -37,26 +38,28 @@ holds-none room = record { size = refl; bytes = refl; within = omega arith }
 pub holds-wrote : {ok : Bool} {size r : ℕ} {b room after : List ℕ} → ok ≡ true → size ≡ length b → size ≤ length room → Wrote ok size b room after r → Holds b room after r
 holds-wrote h e l w = record { size = wrote-size h w ∙ e; bytes = wrote-bytes h w; within = rw (wrote-size h w) l }
 
-pub holds-number : (width tag kind bits : ℕ) {room after : List ℕ} {r : ℕ} → 0 < width → width ≤ 8 → 16 ≤ length room
+pub holds-number : (width tag kind bits : ℕ) {room after : List ℕ} {r : ℕ} → tagOk tag ≡ true → 0 < width → width ≤ 8 → 16 ≤ length room
     → WroteNumber width tag kind bits room after r → Holds (encode (numberItem width tag kind bits)) room after r
-holds-number width tag kind bits {room} h k l w = holds-wrote (le-leb 16 (length room) l) (sym (length-number width tag kind bits h k)) l w
+holds-number width tag kind bits {room} t h k l w =
+    let ok : (tagOk tag && fits room 16) ≡ true = rw (t, le-leb 16 (length room) l) in
+    holds-wrote ok (sym (length-number width tag kind bits h k)) l w
 
-pub holds-value : (right : Bool) (tag kind : ℕ) (v : List ℕ) {room after : List ℕ} {r : ℕ} → right ≡ true → length v < 256 ^ 4 → 8 + padded (length v) ≤ length room
+pub holds-value : (right : Bool) (tag kind : ℕ) (v : List ℕ) {room after : List ℕ} {r : ℕ} → tagOk tag ≡ true → right ≡ true → length v < 256 ^ 4 → 8 + padded (length v) ≤ length room
     → WroteValue right tag kind v room after r → Holds (encode (item tag kind v)) room after r
-holds-value right tag kind v {room} e n l w =
-    let ok : (right && valueFits room (length v)) ≡ true = rw (e, lt-ltb (length v) (256 ^ 4) n, le-leb (8 + padded (length v)) (length room) l) in
-    holds-wrote ok (sym (length-value (tagOf tag) kind v)) l w
+holds-value right tag kind v {room} t e n l w =
+    let ok : (tagOk tag && right && valueFits room (length v)) ≡ true = rw (t, e, lt-ltb (length v) (256 ^ 4) n, le-leb (8 + padded (length v)) (length room) l) in
+    holds-wrote ok (sym (length-value tag kind v)) l w
 
 body-length : (n : ℕ) → n % 8 ≡ 0 → lengthOk structure n ≡ true
 unfolding lengthOk ifb
 body-length n e = eq-eqb (n % 8) 0 e
 
 -- the head of a body that is items
-pub holds-head : (tag n : ℕ) (b : Items) {room after : List ℕ} {r : ℕ} → n ≡ length (encode b) → n < 256 ^ 4 → 8 ≤ length room
-    → WroteHead tag n room after r → Holds (head (tagOf tag) structure n) room after r
-holds-head tag n b {room} e s l w =
-    let ok : (spelled n && lengthOk structure n && fits room 8) ≡ true = rw (lt-ltb n (256 ^ 4) s, body-length n (rw e (eights b)), le-leb 8 (length room) l) in
-    holds-wrote ok (sym (length-head (tagOf tag) structure n)) l w
+pub holds-head : (tag n : ℕ) (b : Items) {room after : List ℕ} {r : ℕ} → tagOk tag ≡ true → n ≡ length (encode b) → n < 256 ^ 4 → 8 ≤ length room
+    → WroteHead tag n room after r → Holds (head tag structure n) room after r
+holds-head tag n b {room} t e s l w =
+    let ok : (tagOk tag && spelled n && lengthOk structure n && fits room 8) ≡ true = rw (t, lt-ltb n (256 ^ 4) s, body-length n (rw e (eights b)), le-leb 8 (length room) l) in
+    holds-wrote ok (sym (length-head tag structure n)) l w
 
 -- ---- one behind another
 

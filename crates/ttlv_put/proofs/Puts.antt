@@ -7,7 +7,7 @@ use native.Mathlib.Omega.{arith}
 use mathlib.Core.List.{List, [], _∷_, _++_, append-assoc, append-nil}
 use lib.ListN.{length, length-append}
 use lib.Seq.{sets}
-use mathlib.Core.Bool.{Bool, true, false}
+use mathlib.Core.Bool.{Bool, true, false, and-false}
 use Rattle.octets.specs.Octets.{be, over}
 use Rattle.octets.proofs.If.{ifb-true, ifb-false}
 use Rattle.octets.proofs.Numbers.{length-be, be-zero}
@@ -69,4 +69,4 @@ module _ (right : Bool) (tag kind : ℕ) (v room : List ℕ) where
   wrote-right e w = rw e w
 
   pub wrote-wrong : right ≡ false → WroteValue right tag kind v room room 0
-  wrote-wrong e = wrote-none _ (8 + padded (length v)) (encode (item tag kind v)) room (rw e)
+  wrote-wrong e = wrote-none _ (8 + padded (length v)) (encode (item tag kind v)) room (rw (e, and-false))

@@ -10,7 +10,7 @@ use Rattle.octets.proofs.Numbers.{length-be}
 use Rattle.ttlv_types.specs.Types.{structure, padded}
 use Rattle.ttlv.specs.Items.{Items, nil, value, group, head, encode}
 use Rattle.ttlv.proofs.Sizes.{size, size-nil, size-value, size-group}
-use Rattle.ttlv_put.specs.Write.{tagOf, numberItem, join}
+use Rattle.ttlv_put.specs.Write.{numberItem, join}
 
 -- ---- sizes
 
@@ -22,7 +22,7 @@ pub length-value : (tag kind : ℕ) (v : List ℕ) → size (value tag kind v ni
 length-value tag kind v = size-value tag kind v nil ∙ rw size-nil (omega arith)
 
 pub length-number : (width tag kind bits : ℕ) → 0 < width → width ≤ 8 → length (encode (numberItem width tag kind bits)) ≡ 16
-length-number width tag kind bits h l = length-value (tagOf tag) kind (be width bits) ∙ rw (length-be width bits) (omega arith)
+length-number width tag kind bits h l = length-value tag kind (be width bits) ∙ rw (length-be width bits) (omega arith)
 
 -- a structure is its head and its body
 pub encode-group : (tag : ℕ) (b : Items) → encode (group tag b nil) ≡ head tag structure (length (encode b)) ++ encode b

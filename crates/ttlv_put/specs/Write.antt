@@ -8,18 +8,15 @@ use lib.ListN.{length}
 use lib.Dec.{leb, ltb}
 use Rattle.octets.specs.If.{ifb}
 use Rattle.octets.specs.Octets.{be, over}
+use Rattle.tags.specs.Tags.{tagOk}
 use Rattle.ttlv_types.specs.Types.{structure, padded, lengthOk}
 use Rattle.ttlv.specs.Items.{Items, nil, value, group, head, encode}
-
--- a tag by its last two bytes; the first is 42 hex
-abbrev pub tagOf : ℕ → ℕ
-tagOf tag = 0x420000 + tag
 
 -- ---- items
 
 -- one item, alone
 abbrev pub item : ℕ → ℕ → List ℕ → Items
-item tag kind v = value (tagOf tag) kind v nil
+item tag kind v = value tag kind v nil
 
 -- an item whose value is a number: 4 bytes of an Integer, an Enumeration or an Interval, 8 of a Long Integer, a Boolean or a Date-Time
 abbrev pub numberItem : ℕ → ℕ → ℕ → ℕ → Items
@@ -54,18 +51,18 @@ pub record Wrote (ok : Bool) (size : ℕ) (b room after : List ℕ) (r : ℕ) : 
   pub bytes : after ≡ ifb ok (over b room) room
   pub within : r ≤ length room
 
--- a number of 1 to 8 bytes, which takes 16 in all
+-- a number of 1 to 8 bytes, which takes 16 in all, if the tag is one
 abbrev pub WroteNumber : ℕ → ℕ → ℕ → ℕ → List ℕ → List ℕ → ℕ → Type 0
-WroteNumber width tag kind bits room after r = Wrote (fits room 16) 16 (encode (numberItem width tag kind bits)) room after r
+WroteNumber width tag kind bits room after r = Wrote (tagOk tag && fits room 16) 16 (encode (numberItem width tag kind bits)) room after r
 
--- an item with the value v, if its type allows it
+-- an item with the value v, if the tag is one and the type allows the value
 abbrev pub WroteValue : Bool → ℕ → ℕ → List ℕ → List ℕ → List ℕ → ℕ → Type 0
 WroteValue right tag kind v room after r =
-    Wrote (right && valueFits room (length v)) (8 + padded (length v)) (encode (item tag kind v)) room after r
+    Wrote (tagOk tag && right && valueFits room (length v)) (8 + padded (length v)) (encode (item tag kind v)) room after r
 
--- the head of a structure with a body of n bytes, if a body can have so many
+-- the head of a structure with a body of n bytes, if the tag is one and a body can have so many
 abbrev pub WroteHead : ℕ → ℕ → List ℕ → List ℕ → ℕ → Type 0
-WroteHead tag n room after r = Wrote (spelled n && lengthOk structure n && fits room 8) 8 (head (tagOf tag) structure n) room after r
+WroteHead tag n room after r = Wrote (tagOk tag && spelled n && lengthOk structure n && fits room 8) 8 (head tag structure n) room after r
 
 -- ---- what a room holds after writes
 

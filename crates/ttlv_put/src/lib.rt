@@ -1,31 +1,31 @@
 // The writer of one TTLV item of any type over the front of lent room: a number, a value of any length, the head of a structure. It knows nothing of keys.
-// Assumes nothing. A tag is given by its last two bytes; a writer answers the bytes written, or 0 with the room as it was.
+// Assumes nothing. A writer answers the bytes written, or 0 with the room as it was; so it does where the tag is none.
 ghost use mathlib.Core.Path.{_≡_};
 ghost use mathlib.Core.Bool.{true};
 ghost use Prim.Native.Nat.{_≤_, _<_};
 ghost use lib.ListN.{length};
 ghost use lib.Seq.{sets};
 ghost use Rattle.ttlv.specs.Items.{head};
-ghost use Rattle.ttlv_put.specs.Write.{tagOf, WroteNumber, WroteValue, WroteHead};
-
-// The first byte of every tag, before the two that are given.
-const TAG_LEAD: u64 = 0x420000;
+ghost use Rattle.ttlv_put.specs.Write.{WroteNumber, WroteValue, WroteHead};
 
 // The head of an item. Each caller shows the room.
-fn put_head(out: &mut [u8], tag: u16, kind: u8, n: usize)
+fn put_head(out: &mut [u8], tag: u32, kind: u8, n: usize)
     requires { ⌜ 8 ≤ length (now out) ⌝ }
-    ensures { λ _. ⌜ now (out .exit) ≡ sets (now (out .entry)) 0 (head (tagOf tag) kind n) ⌝ }
+    ensures { λ _. ⌜ now (out .exit) ≡ sets (now (out .entry)) 0 (head tag kind n) ⌝ }
 {
-    octets::put(out, 0, 3, TAG_LEAD + tag as u64);
+    octets::put(out, 0, 3, tag as u64);
     octets::put(out, 3, 1, kind as u64);
     octets::put(out, 4, 4, n as u64);
 }
 
 // An item with a value of `width` bytes, which takes 16 in all. Each caller shows that these are 1 to 8.
-pub fn write_number(out: &mut [u8], tag: u16, kind: u8, width: usize, bits: u64) -> usize
+pub fn write_number(out: &mut [u8], tag: u32, kind: u8, width: usize, bits: u64) -> usize
     requires { ⌜ (0 < width) × (width ≤ 8) ⌝ }
     ensures { λ r. ⌜ WroteNumber width tag kind bits (now (out .entry)) (now (out .exit)) r ⌝ }
 {
+    if !tags::tag_ok(tag) {
+        return 0;
+    }
     if out.len() < 16 {
         return 0;
     }
@@ -36,9 +36,12 @@ pub fn write_number(out: &mut [u8], tag: u16, kind: u8, width: usize, bits: u64)
 }
 
 // An item with a value of any length. Each caller looks at whether its type allows the value.
-pub fn write_value(out: &mut [u8], tag: u16, kind: u8, s: &[u8]) -> usize
+pub fn write_value(out: &mut [u8], tag: u32, kind: u8, s: &[u8]) -> usize
     ensures { λ r. ⌜ WroteValue true tag kind (now (s .entry)) (now (out .entry)) (now (out .exit)) r ⌝ }
 {
+    if !tags::tag_ok(tag) {
+        return 0;
+    }
     let n = s.len();
     if n > 0xFFFFFFFF {
         return 0;
@@ -55,9 +58,12 @@ pub fn write_value(out: &mut [u8], tag: u16, kind: u8, s: &[u8]) -> usize
 }
 
 // The head of a structure whose body has len bytes; the body stands behind it, or is written there next.
-pub fn write_structure(out: &mut [u8], tag: u16, len: usize) -> usize
+pub fn write_structure(out: &mut [u8], tag: u32, len: usize) -> usize
     ensures { λ r. ⌜ WroteHead tag len (now (out .entry)) (now (out .exit)) r ⌝ }
 {
+    if !tags::tag_ok(tag) {
+        return 0;
+    }
     if len > 0xFFFFFFFF {
         return 0;
     }

@@ -40,10 +40,6 @@ interval = 0x0A
 abbrev pub dateTimeExtended : ℕ
 dateTimeExtended = 0x0B
 
--- the first byte of every tag
-abbrev pub tagLead : ℕ
-tagLead = 0x42
-
 -- n rounded up to a multiple of 8: a value with its padding
 abbrev pub padded : ℕ → ℕ
 padded n = (n + 7) / 8 * 8

@@ -25,7 +25,7 @@ act-at-requires : tie.Need-act-at-requires
 act-at-requires c κs =
     let a = c .before .before .before .before .before .before .before .before .before .args in
     let e : find (a .n) (a .t .now) (sought (a .holder) (a .target)) ≡ At (c .before .before .i .given .0 .0) = ap (find (a .n) (a .t .now)) (sym (c .before .before .before .before .before .before .sought .ensures)) ∙ sym (c .before .before .before .before .find .ensures) ∙ c .before .before .i .given .1 in
-    (c .before .before .before .before .before .before .before .before .before .pre, find-below (a .n) (a .t .now) (sought (a .holder) (a .target)) _ e)
+    record { sized = c .before .before .before .before .before .before .before .before .before .pre; below = find-below (a .n) (a .t .now) (sought (a .holder) (a .target)) _ e }
 
 enum-told : tie.Need-enum-told
 enum-told c = search needs

@@ -42,7 +42,7 @@ put-heir-requires : tie.Need-put-heir-requires
 put-heir-requires c κs =
     let a = c .before .before .before .before .before .before .before .before .before .before .before .args in
     let e : roomFor (a .n) (a .t .now) ≡ At (c .before .before .before .before .before .place .given .0 .0) = sym (c .before .before .before .before .before .before .before .room .ensures) ∙ c .before .before .before .before .before .place .given .1 in
-    (c .before .before .before .before .before .before .before .before .before .before .before .pre .0, (c .before .before .before .before .before .before .before .before .before .before .before .pre .1, new-below (a .n) (a .t .now) _ (room-place (a .n) (a .t .now) _ e)))
+    record { old = c .before .before .before .before .before .before .before .before .before .before .before .pre; below = new-below (a .n) (a .t .now) _ (room-place (a .n) (a .t .now) _ e) }
 
 enum-told : tie.Need-enum-told
 enum-told c = search needs

@@ -1,6 +1,8 @@
 -- `answer_write::write_answer`. The body, and its head in front.
 -- Assumes nothing.
 use native.Mathlib.Omega.{arith}
+use mathlib.Core.Path.{refl}
+use Rattle.tags.specs.Tags.{batchItem}
 use Rattle.attributes_write.proofs.Compose.{puts-group}
 use borrow.Author.Needs.{needs}
 use Rattle.answer_write.proofs.write_answer.Statement.{statement}
@@ -29,7 +31,9 @@ same-length c = search needs
 
 returns : tie.Need-returns
 returns c =
-    puts-group 0x0F (c .before .before .before .before .before .before .before .before .before .args .out .now) (c .before .before .before .before .before .before .write-answer-items .ensures) (c .before .before .write-structure .ensures) (omega arith) (omega arith)
+    let head = c .before .before in
+    let body = head .before .before .before .before in
+    puts-group batchItem refl (body .before .before .before .args .out .now) (body .write-answer-items .ensures) (head .write-structure .ensures) (omega arith) (omega arith)
 
 pub write-answer-spec : {M : Type 1} → statement M
 write-answer-spec =

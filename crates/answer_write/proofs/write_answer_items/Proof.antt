@@ -2,7 +2,7 @@
 -- Assumes nothing.
 use native.Mathlib.Omega.{arith}
 use Rattle.ttlv_types.specs.Types.{enumeration}
-use Rattle.frame.specs.Tags.{operationTag}
+use Rattle.tags.specs.Tags.{operationTag}
 use lib.ListN.{take}
 use Rattle.ttlv_put.specs.Write.{join}
 use Rattle.answer.specs.Respond.{answerItems, outcomeItems}

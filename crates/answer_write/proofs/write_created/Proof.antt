@@ -1,9 +1,13 @@
 -- `answer_write::write_created`. The Object Type, and the name behind it.
 -- Assumes nothing.
 use native.Mathlib.Omega.{arith}
+use mathlib.Core.Path.{refl}
 use Rattle.ttlv_types.specs.Types.{enumeration}
-use Rattle.payload.specs.Tags.{objectType, symmetricKey}
+use Rattle.tags.specs.Tags.{objectType, uniqueIdentifier}
+use Rattle.payload.specs.Payload.{symmetricKey}
 use Rattle.ttlv_put.specs.Write.{join}
+use Rattle.ttlv_put.proofs.Holds.{holds-left}
+use Rattle.attributes_write.proofs.Parts.{puts-named}
 use Rattle.attributes_write.proofs.Compose.{puts-word, puts-then}
 use borrow.Author.Needs.{needs}
 use Rattle.answer_write.proofs.write_created.Statement.{statement}
@@ -33,7 +37,11 @@ same-length c = search needs
 returns : tie.Need-returns
 unfolding join
 returns c =
-    puts-then (puts-word objectType enumeration symmetricKey (c .before .before .before .before .before .before .write-enumeration .ensures) (omega arith)) (c .before .before .write-named .ensures)
+    let name = c .before .before in
+    let kind = name .before .before .before .before in
+    let a = kind .before .before .before .args in
+    let typed = puts-word objectType enumeration symmetricKey (kind .write-enumeration .ensures) (omega arith) in
+    puts-then typed (puts-named uniqueIdentifier (a .serial) refl (name .write-named .ensures) (omega (arith, holds-left (typed .holds))))
 
 pub write-created-spec : {M : Type 1} → statement M
 write-created-spec =

@@ -4,7 +4,7 @@ use native.Mathlib.Omega.{arith}
 use mathlib.Core.Path.{_≡_}
 use Rattle.ttlv_types.specs.Types.{enumeration}
 use Rattle.rules.specs.Numbers.{reasonNumber}
-use Rattle.answer.specs.Tags.{resultStatus, resultReason}
+use Rattle.tags.specs.Tags.{resultStatus, resultReason}
 use Rattle.ttlv_put.specs.Write.{join}
 use Rattle.answer.specs.Respond.{operationFailed, outcomeItems}
 use Rattle.attributes_write.proofs.Compose.{puts-word, then-word}

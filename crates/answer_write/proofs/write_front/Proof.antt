@@ -1,7 +1,9 @@
 -- `answer_write::write_front`. The head of the message, and the header behind it.
 -- Assumes nothing.
 use native.Mathlib.Omega.{arith}
+use mathlib.Core.Path.{refl}
 use Prim.Native.Nat.{_+_}
+use Rattle.tags.specs.Tags.{responseMessage}
 use Rattle.ttlv_put.proofs.Holds.{holds-then}
 use Rattle.answer.specs.Front.{headerSize, front}
 use Rattle.attributes_write.proofs.Compose.{holds-structure}
@@ -33,9 +35,11 @@ same-length c = search needs
 returns : tie.Need-returns
 unfolding front
 returns c =
-    let a = c .before .before .before .before .before .before .before .before .before .args in
-    let message = holds-structure 0x7B (headerSize + a .n) (c .before .before .before .before .before .before .write-structure .ensures) (omega arith) (omega arith) (omega arith) in
-    holds-then message (c .before .before .write-header .ensures .holds) .bytes
+    let header = c .before .before in
+    let head = header .before .before .before .before in
+    let a = head .before .before .before .args in
+    let message = holds-structure responseMessage (headerSize + a .n) refl (head .write-structure .ensures) (omega arith) (omega arith) (omega arith) in
+    holds-then message (header .write-header .ensures .holds) .bytes
 
 pub write-front-spec : {M : Type 1} → statement M
 write-front-spec =

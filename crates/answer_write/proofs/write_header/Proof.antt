@@ -1,6 +1,8 @@
 -- `answer_write::write_header`. The body, and its head in front.
 -- Assumes nothing.
 use native.Mathlib.Omega.{arith}
+use mathlib.Core.Path.{refl}
+use Rattle.tags.specs.Tags.{responseHeader}
 use Rattle.attributes_write.proofs.Compose.{puts-group}
 use borrow.Author.Needs.{needs}
 use Rattle.answer_write.proofs.write_header.Statement.{statement}
@@ -29,7 +31,9 @@ same-length c = search needs
 
 returns : tie.Need-returns
 returns c =
-    puts-group 0x7A (c .before .before .before .before .before .before .before .before .before .args .out .now) (c .before .before .before .before .before .before .write-header-items .ensures) (c .before .before .write-structure .ensures) (omega arith) (omega arith)
+    let head = c .before .before in
+    let body = head .before .before .before .before in
+    puts-group responseHeader refl (body .before .before .before .args .out .now) (body .write-header-items .ensures) (head .write-structure .ensures) (omega arith) (omega arith)
 
 pub write-header-spec : {M : Type 1} → statement M
 write-header-spec =

@@ -2,8 +2,7 @@
 -- Assumes nothing.
 use native.Mathlib.Omega.{arith}
 use Rattle.ttlv_types.specs.Types.{integer, dateTime}
-use Rattle.frame.specs.Tags.{batchCount}
-use Rattle.answer.specs.Tags.{timeStamp}
+use Rattle.tags.specs.Tags.{batchCount, timeStamp}
 use Rattle.ttlv_put.specs.Write.{join}
 use Rattle.answer.specs.Respond.{headerItems, versionItems}
 use Rattle.attributes_write.proofs.Compose.{then-long, then-word}

@@ -1,13 +1,43 @@
 -- `answer_write::write_outcome`. Each outcome by its writer; a payload first, and then what opens it.
 -- Assumes nothing.
 use native.Mathlib.Omega.{arith}
-use Rattle.answer.specs.Respond.{outcomeItems}
+use Prim.Native.Nat.{ℕ, _-_}
+use mathlib.Core.List.{List}
+use lib.ListN.{length}
+use borrow.Rule.Slice.PartMut.{midOf}
+use Rattle.tags.specs.Tags.{uniqueIdentifier}
+use Rattle.ttlv.specs.Items.{nil}
+use Rattle.answer.specs.Respond.{named, outcomeItems}
+use Rattle.attributes_write.specs.Puts.{Puts}
 use Rattle.attributes_write.proofs.Compose.{puts-within}
-use Rattle.answer_write.proofs.Success.{opening-room, puts-succeeded}
+use Rattle.answer_write.proofs.Success.{puts-name, opening-room, puts-succeeded}
 use Rattle.answer_write.proofs.Parts.{puts-outcome}
 use borrow.Author.Needs.{needs}
 use Rattle.answer_write.proofs.write_outcome.Statement.{statement}
 use Rattle.answer_write.proofs.write_outcome.Tie as tie
+
+-- the room, from the place where an arm has written its payload
+abbrev created-arm : tie.After-write-created → tie.After-outcome2
+created-arm c = c .before .before .before
+
+abbrev created-room : tie.After-write-created → List ℕ
+created-room c = created-arm c .before .before .before .args .out .now
+
+abbrev name-arm : tie.After-write-named → tie.After-outcome3
+name-arm c = c .before .before .before
+
+abbrev name-room : tie.After-write-named → List ℕ
+name-room c = name-arm c .before .before .before .args .out .now
+
+abbrev showed-arm : tie.After-write-showed → tie.After-outcome4
+showed-arm c = c .before .before .before
+
+abbrev showed-room : tie.After-write-showed → List ℕ
+showed-room c = showed-arm c .before .before .before .args .out .now
+
+-- the payload of an arm that writes a name alone
+name : (c : tie.After-write-named) → Puts 16 (named uniqueIdentifier (name-arm c .outcome3 .given .0 .0) nil) (midOf 24 (length (name-room c) - 24) (name-room c)) (c .write-named .last .0) (c .write-named .result)
+name c = puts-name (name-room c) _ (c .write-named .ensures) (omega arith)
 
 enum-known-outcome : tie.Need-enum-known-outcome
 enum-known-outcome c = search needs
@@ -32,7 +62,8 @@ write-created-requires c κs = search needs
 
 write-success-requires : tie.Need-write-success-requires
 write-success-requires c κs =
-    opening-room (c .before .before .before .before .before .before .before .before .before .args .out .now) (c .before .before .before .write-created .ensures) (omega arith) (omega arith)
+    let at = c .before .before .before in
+    opening-room (created-room at) (at .write-created .ensures) (omega arith) (omega arith)
 
 enum-known-outcome-3 : tie.Need-enum-known-outcome-3
 enum-known-outcome-3 c = search needs
@@ -51,7 +82,7 @@ write-named-requires c κs = search needs
 
 write-success-requires-2 : tie.Need-write-success-requires-2
 write-success-requires-2 c κs =
-    opening-room (c .before .before .before .before .before .before .before .before .before .args .out .now) (c .before .before .before .write-named .ensures) (omega arith) (omega arith)
+    opening-room (name-room (c .before .before .before)) (name (c .before .before .before)) (omega arith) (omega arith)
 
 enum-known-outcome-4 : tie.Need-enum-known-outcome-4
 enum-known-outcome-4 c = search needs
@@ -70,7 +101,7 @@ write-showed-requires c κs = search needs
 
 write-success-requires-3 : tie.Need-write-success-requires-3
 write-success-requires-3 c κs =
-    opening-room (c .before .before .before .before .before .before .before .before .before .args .out .now) (c .before .before .before .write-showed .ensures) (omega arith) (omega arith)
+    opening-room (showed-room (c .before .before .before)) (c .before .before .before .write-showed .ensures) (omega arith) (omega arith)
 
 same-length : tie.Need-same-length
 same-length c = search needs
@@ -85,9 +116,9 @@ same-length-2 c = search needs
 returns-2 : tie.Need-returns-2
 unfolding outcomeItems
 returns-2 c =
-    let payload = c .before .before .before .before .before .before .write-created .ensures in
-    let opens = c .before .before .write-success .ensures in
-    puts-outcome (c .before .before .before .before .before .before .before .before .before .outcome2 .given .1) (puts-succeeded 248 (c .before .before .before .before .before .before .before .before .before .before .before .before .args .out .now) payload opens (omega arith) (omega arith))
+    let opened = c .before .before in
+    let written = opened .before .before .before .before in
+    puts-outcome (created-arm written .outcome2 .given .1) (puts-succeeded 248 (created-room written) (written .write-created .ensures) (opened .write-success .ensures) (omega arith) (omega arith))
 
 same-length-3 : tie.Need-same-length-3
 same-length-3 c = search needs
@@ -95,9 +126,9 @@ same-length-3 c = search needs
 returns-3 : tie.Need-returns-3
 unfolding outcomeItems
 returns-3 c =
-    let payload = c .before .before .before .before .before .before .write-named .ensures in
-    let opens = c .before .before .write-success2 .ensures in
-    puts-outcome (c .before .before .before .before .before .before .before .before .before .outcome3 .given .1) (puts-succeeded 248 (c .before .before .before .before .before .before .before .before .before .before .before .before .args .out .now) payload opens (omega arith) (omega arith))
+    let opened = c .before .before in
+    let written = opened .before .before .before .before in
+    puts-outcome (name-arm written .outcome3 .given .1) (puts-succeeded 248 (name-room written) (name written) (opened .write-success2 .ensures) (omega arith) (omega arith))
 
 same-length-4 : tie.Need-same-length-4
 same-length-4 c = search needs
@@ -105,9 +136,9 @@ same-length-4 c = search needs
 returns-4 : tie.Need-returns-4
 unfolding outcomeItems
 returns-4 c =
-    let payload = c .before .before .before .before .before .before .write-showed .ensures in
-    let opens = c .before .before .write-success3 .ensures in
-    puts-outcome (c .before .before .before .before .before .before .before .before .before .outcome4 .given .1) (puts-succeeded 248 (c .before .before .before .before .before .before .before .before .before .before .before .before .args .out .now) payload opens (omega arith) (omega arith))
+    let opened = c .before .before in
+    let written = opened .before .before .before .before in
+    puts-outcome (showed-arm written .outcome4 .given .1) (puts-succeeded 248 (showed-room written) (written .write-showed .ensures) (opened .write-success3 .ensures) (omega arith) (omega arith))
 
 pub write-outcome-spec : {M : Type 1} → statement M
 write-outcome-spec =

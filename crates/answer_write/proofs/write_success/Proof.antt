@@ -3,7 +3,7 @@
 use native.Mathlib.Omega.{arith}
 use mathlib.Core.Path.{refl}
 use Rattle.ttlv_types.specs.Types.{enumeration}
-use Rattle.answer.specs.Tags.{resultStatus}
+use Rattle.tags.specs.Tags.{resultStatus, responsePayload}
 use Rattle.ttlv_put.proofs.Holds.{holds-then, holds-left}
 use Rattle.answer.specs.Respond.{success}
 use Rattle.attributes_write.proofs.Compose.{puts-word, holds-structure}
@@ -34,9 +34,11 @@ same-length c = search needs
 
 returns : tie.Need-returns
 returns c =
-    let a = c .before .before .before .before .before .before .before .before .before .args in
-    let status = puts-word resultStatus enumeration success (c .before .before .before .before .before .before .write-enumeration .ensures) (omega arith) in
-    let opens = holds-structure 0x7C (a .n) (c .before .before .write-structure .ensures) (omega arith) (omega arith) (omega (arith, holds-left (status .holds))) in
+    let payload = c .before .before in
+    let first = payload .before .before .before .before in
+    let a = first .before .before .before .args in
+    let status = puts-word resultStatus enumeration success (first .write-enumeration .ensures) (omega arith) in
+    let opens = holds-structure responsePayload (a .n) refl (payload .write-structure .ensures) (omega arith) (omega arith) (omega (arith, holds-left (status .holds))) in
     (refl, holds-then (status .holds) opens)
 
 pub write-success-spec : {M : Type 1} → statement M

@@ -1,6 +1,8 @@
 -- `answer_write::write_version`. The body, and its head in front.
 -- Assumes nothing.
 use native.Mathlib.Omega.{arith}
+use mathlib.Core.Path.{refl}
+use Rattle.tags.specs.Tags.{protocolVersion}
 use Rattle.answer.specs.Respond.{versionItems}
 use Rattle.attributes_write.proofs.Compose.{puts-group}
 use borrow.Author.Needs.{needs}
@@ -31,7 +33,9 @@ same-length c = search needs
 returns : tie.Need-returns
 unfolding versionItems
 returns c =
-    puts-group 0x69 (c .before .before .before .before .before .before .before .before .before .args .out .now) (c .before .before .before .before .before .before .write-version-body .ensures) (c .before .before .write-structure .ensures) (omega arith) (omega arith)
+    let head = c .before .before in
+    let body = head .before .before .before .before in
+    puts-group protocolVersion refl (body .before .before .before .args .out .now) (body .write-version-body .ensures) (head .write-structure .ensures) (omega arith) (omega arith)
 
 pub write-version-spec : {M : Type 1} → statement M
 write-version-spec =

@@ -2,7 +2,7 @@
 -- Assumes nothing.
 use native.Mathlib.Omega.{arith}
 use Rattle.ttlv_types.specs.Types.{integer}
-use Rattle.frame.specs.Tags.{protocolVersionMajor, protocolVersionMinor}
+use Rattle.tags.specs.Tags.{protocolVersionMajor, protocolVersionMinor}
 use Rattle.ttlv_put.specs.Write.{join}
 use Rattle.attributes_write.proofs.Compose.{puts-word, then-word}
 use borrow.Author.Needs.{needs}

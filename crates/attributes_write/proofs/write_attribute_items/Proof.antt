@@ -1,9 +1,8 @@
 -- `attributes_write::write_attribute_items`. The numbers, then the limits, then the links.
 -- Assumes nothing.
 use Rattle.ttlv_put.specs.Write.{join}
-use Rattle.answer.specs.Respond.{attributeItems, linkItems}
+use Rattle.answer.specs.Respond.{attributeItems, linkItems, replacedObjectLink, replacementObjectLink}
 use Rattle.ttlv.specs.Items.{nil}
-use Rattle.answer.specs.Tags.{replacedObjectLink, replacementObjectLink}
 use Rattle.attributes_write.proofs.Compose.{puts-then}
 use Rattle.attributes_write.proofs.Parts.{limit-join}
 use borrow.Author.Needs.{needs}

@@ -1,6 +1,8 @@
 -- `attributes_write::write_attributes`. The body, and its head in front.
 -- Assumes nothing.
 use native.Mathlib.Omega.{arith}
+use mathlib.Core.Path.{refl}
+use Rattle.tags.specs.Tags.{attributes}
 use Rattle.attributes_write.proofs.Compose.{puts-group}
 use borrow.Author.Needs.{needs}
 use Rattle.attributes_write.proofs.write_attributes.Statement.{statement}
@@ -29,7 +31,9 @@ same-length c = search needs
 
 returns : tie.Need-returns
 returns c =
-    puts-group 0x125 (c .before .before .before .before .before .before .before .before .before .args .out .now) (c .before .before .before .before .before .before .write-attribute-items .ensures) (c .before .before .write-structure .ensures) (omega arith) (omega arith)
+    let head = c .before .before in
+    let body = head .before .before .before .before in
+    puts-group attributes refl (body .before .before .before .args .out .now) (body .write-attribute-items .ensures) (head .write-structure .ensures) (omega arith) (omega arith)
 
 pub write-attributes-spec : {M : Type 1} → statement M
 write-attributes-spec =

@@ -2,7 +2,7 @@
 -- Assumes nothing.
 use native.Mathlib.Omega.{arith}
 use Rattle.ttlv_types.specs.Types.{longInteger, enumeration}
-use Rattle.payload.specs.Tags.{usageLimitsTotal, usageLimitsCount, usageLimitsUnit}
+use Rattle.tags.specs.Tags.{usageLimitsTotal, usageLimitsCount, usageLimitsUnit}
 use Rattle.ttlv_put.specs.Write.{join}
 use Rattle.attributes_write.proofs.Compose.{puts-long, then-long, then-word}
 use borrow.Author.Needs.{needs}

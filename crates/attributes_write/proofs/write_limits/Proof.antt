@@ -1,6 +1,8 @@
 -- `attributes_write::write_limits`. Nothing without a unit; else the body, and its head in front.
 -- Assumes nothing.
 use native.Mathlib.Omega.{arith}
+use mathlib.Core.Path.{refl}
+use Rattle.tags.specs.Tags.{usageLimits}
 use borrow.Author.Tests.{eq-eqb, ne-eqb}
 use Rattle.answer.specs.Respond.{limitItems}
 use Rattle.attributes_write.proofs.Compose.{puts-absent, puts-present, puts-group}
@@ -40,8 +42,11 @@ same-length c = search needs
 returns-2 : tie.Need-returns-2
 unfolding limitItems
 returns-2 c =
-    let a = c .before .before .before .before .before .before .before .before .before .before .before .before .args in
-    puts-present (ne-eqb (a .shown .unit) 0 (c .before .before .before .before .before .before .before .before .before .if1 .left)) (puts-group 0x95 (a .out .now) (c .before .before .before .before .before .before .write-limit-body .ensures) (c .before .before .write-structure .ensures) (omega arith) (omega arith))
+    let head = c .before .before in
+    let body = head .before .before .before .before in
+    let given = body .before .before .before in
+    let a = given .before .before .before .args in
+    puts-present (ne-eqb (a .shown .unit) 0 (given .if1 .left)) (puts-group usageLimits refl (a .out .now) (body .write-limit-body .ensures) (head .write-structure .ensures) (omega arith) (omega arith))
 
 pub write-limits-spec : {M : Type 1} → statement M
 write-limits-spec =

@@ -1,6 +1,8 @@
 -- `attributes_write::write_link`. Nothing without a serial; else the body, and its head in front.
 -- Assumes nothing.
 use native.Mathlib.Omega.{arith}
+use mathlib.Core.Path.{refl}
+use Rattle.tags.specs.Tags.{link}
 use borrow.Author.Tests.{eq-eqb, ne-eqb}
 use Rattle.answer.specs.Respond.{linkItems}
 use Rattle.attributes_write.proofs.Compose.{puts-absent, puts-present, puts-group}
@@ -37,8 +39,11 @@ same-length c = search needs
 returns-2 : tie.Need-returns-2
 unfolding linkItems
 returns-2 c =
-    let a = c .before .before .before .before .before .before .before .before .before .before .args in
-    puts-present (ne-eqb (a .serial) 0 (c .before .before .before .before .before .before .before .before .if1 .left)) (puts-group 0x4A (a .out .now) (c .before .before .before .before .before .before .write-link-body .ensures) (c .before .before .write-structure .ensures) (omega arith) (omega arith))
+    let head = c .before .before in
+    let body = head .before .before .before .before in
+    let given = body .before .before in
+    let a = given .before .before .args in
+    puts-present (ne-eqb (a .serial) 0 (given .if1 .left)) (puts-group link refl (a .out .now) (body .write-link-body .ensures) (head .write-structure .ensures) (omega arith) (omega arith))
 
 pub write-link-spec : {M : Type 1} → statement M
 write-link-spec =

@@ -1,9 +1,12 @@
 -- `attributes_write::write_link_body`. The type, and the name behind it.
 -- Assumes nothing.
 use native.Mathlib.Omega.{arith}
+use mathlib.Core.Path.{refl}
 use Rattle.ttlv_types.specs.Types.{enumeration}
-use Rattle.answer.specs.Tags.{linkType}
+use Rattle.tags.specs.Tags.{linkType, linkedObjectIdentifier}
 use Rattle.ttlv_put.specs.Write.{join}
+use Rattle.ttlv_put.proofs.Holds.{holds-left}
+use Rattle.attributes_write.proofs.Parts.{puts-named}
 use Rattle.attributes_write.proofs.Compose.{puts-word, puts-then}
 use borrow.Author.Needs.{needs}
 use Rattle.attributes_write.proofs.write_link_body.Statement.{statement}
@@ -33,7 +36,11 @@ same-length c = search needs
 returns : tie.Need-returns
 unfolding join
 returns c =
-    puts-then (puts-word linkType enumeration (c .before .before .before .before .before .before .before .before .before .args .kind) (c .before .before .before .before .before .before .write-enumeration .ensures) (omega arith)) (c .before .before .write-named .ensures)
+    let name = c .before .before in
+    let kind = name .before .before .before .before in
+    let a = kind .before .before .before .args in
+    let typed = puts-word linkType enumeration (a .kind) (kind .write-enumeration .ensures) (omega arith) in
+    puts-then typed (puts-named linkedObjectIdentifier (a .serial) refl (name .write-named .ensures) (omega (arith, holds-left (typed .holds))))
 
 pub write-link-body-spec : {M : Type 1} → statement M
 write-link-body-spec =

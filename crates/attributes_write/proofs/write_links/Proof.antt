@@ -1,8 +1,7 @@
 -- `attributes_write::write_links`. The second link behind the first.
 -- Assumes nothing.
 use Rattle.ttlv.specs.Items.{nil}
-use Rattle.answer.specs.Tags.{replacedObjectLink, replacementObjectLink}
-use Rattle.answer.specs.Respond.{linkItems}
+use Rattle.answer.specs.Respond.{linkItems, replacedObjectLink, replacementObjectLink}
 use Rattle.attributes_write.proofs.Compose.{puts-then}
 use Rattle.attributes_write.proofs.Parts.{link-join}
 use borrow.Author.Needs.{needs}

@@ -1,7 +1,6 @@
 -- `attributes_write::write_named`. The text of the serial.
 -- Assumes nothing.
-use native.Mathlib.Omega.{arith}
-use Rattle.attributes_write.proofs.Parts.{puts-named}
+use Rattle.attributes_write.proofs.Parts.{wrote-named}
 use borrow.Author.Needs.{needs}
 use Rattle.attributes_write.proofs.write_named.Statement.{statement}
 use Rattle.attributes_write.proofs.write_named.Tie as tie
@@ -20,9 +19,10 @@ same-length c = search needs
 
 returns : tie.Need-returns
 returns c =
-    let a = c .before .before .before .before .before .before .before .args in
-    let text = c .before .before .before .before .before .text-of in
-    puts-named (a .tag) (a .serial) (text .result) (text .ensures) (c .before .before .write-text .ensures) (omega arith)
+    let at = c .before .before in
+    let read = at .before .before .before in
+    let a = read .before .before .args in
+    wrote-named (a .tag) (a .serial) (read .text-of .result) (read .text-of .ensures) (at .write-text .ensures)
 
 pub write-named-spec : {M : Type 1} → statement M
 write-named-spec =

@@ -11,7 +11,7 @@ use borrow.Author.Tests.{not-true, not-false}
 use Rattle.fields.proofs.Found.{body-ends}
 use Rattle.fields.proofs.Lift.{body-rest, body-is-run}
 use Rattle.frame.specs.declared.ItemsRead.the-variants.{Items as Counted}
-use Rattle.frame.specs.Tags.{batchItem}
+use Rattle.tags.specs.Tags.{batchItem}
 use Rattle.frame.specs.Frame.{itemsIn}
 use Rattle.frame.specs.Readers.{itemsRead}
 use Rattle.fields.proofs.Runs.{run-behind}

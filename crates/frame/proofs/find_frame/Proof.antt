@@ -6,7 +6,7 @@ use native.Mathlib.Omega.{arith}
 use mathlib.Core.Option.{Option}
 use Rattle.fields.proofs.Found.{body-ends}
 use Rattle.fields.proofs.Lift.{body-is-run}
-use Rattle.frame.specs.Tags.{requestHeader, requestMessage}
+use Rattle.tags.specs.Tags.{requestHeader, requestMessage}
 use Rattle.frame.specs.Frame.{Frame}
 use Rattle.frame.specs.Readers.{itemsAt, frameRead}
 use Rattle.fields.proofs.Runs.{tail, length-tail}

@@ -4,7 +4,7 @@ use mathlib.Core.Path.{refl, sym, ap, _∙_}
 use Prim.Native.Nat.{_-_}
 use native.Mathlib.Omega.{arith}
 use Rattle.ttlv_types.specs.Types.{enumeration}
-use Rattle.frame.specs.Tags.{operationTag}
+use Rattle.tags.specs.Tags.{operationTag}
 use Rattle.octets.proofs.Numbers.{bytes-of}
 use Rattle.fields.proofs.Found.{number-ends}
 use Rattle.fields.proofs.Lift.{word-below}

@@ -3,7 +3,7 @@
 use mathlib.Core.Path.{sym, ap, _∙_}
 use Prim.Native.Nat.{_-_}
 use native.Mathlib.Omega.{arith}
-use Rattle.frame.specs.Tags.{protocolVersion}
+use Rattle.tags.specs.Tags.{protocolVersion}
 use Rattle.fields.proofs.Found.{body-ends}
 use Rattle.fields.proofs.Lift.{body-is-run}
 use Rattle.frame.specs.Readers.{headerRead}

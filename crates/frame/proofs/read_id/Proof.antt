@@ -7,7 +7,7 @@ use Rattle.octets.proofs.If.{ifb-true, ifb-false}
 use Rattle.ttlv_types.specs.Types.{byteString}
 use Rattle.octets.proofs.Bools.{and-i, and-no, and-second}
 use Rattle.fields.proofs.Found.{bytes-starts}
-use Rattle.frame.specs.Tags.{uniqueBatchItemId}
+use Rattle.tags.specs.Tags.{uniqueBatchItemId}
 use Rattle.frame.specs.Readers.{idSpan, idAt}
 use borrow.Author.Needs.{needs}
 use Rattle.frame.proofs.read_id.Statement.{statement}

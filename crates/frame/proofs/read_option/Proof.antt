@@ -4,7 +4,7 @@ use mathlib.Core.Path.{sym, _∙_}
 use Rattle.octets.proofs.If.{ifb-true, ifb-false}
 use Rattle.ttlv_types.specs.Types.{enumeration}
 use Rattle.fields.proofs.Found.{number-starts}
-use Rattle.frame.specs.Tags.{batchErrorContinuationOption}
+use Rattle.tags.specs.Tags.{batchErrorContinuationOption}
 use Rattle.frame.specs.Readers.{optionAt}
 use borrow.Author.Needs.{needs}
 use Rattle.frame.proofs.read_option.Statement.{statement}

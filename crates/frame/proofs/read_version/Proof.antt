@@ -4,7 +4,7 @@ use mathlib.Core.Path.{sym, ap, _∙_}
 use Prim.Native.Nat.{_-_}
 use native.Mathlib.Omega.{arith}
 use Rattle.ttlv_types.specs.Types.{integer}
-use Rattle.frame.specs.Tags.{protocolVersionMajor}
+use Rattle.tags.specs.Tags.{protocolVersionMajor}
 use Rattle.fields.proofs.Found.{number-ends}
 use Rattle.frame.specs.Readers.{versionRead}
 use Rattle.frame.proofs.Header.{version-no-major, version-no-minor, version-more, version-is}

@@ -2,7 +2,7 @@
 -- Assumes nothing.
 use mathlib.Core.Path.{sym, ap, _∙_}
 use native.Mathlib.Omega.{arith}
-use Rattle.payload.specs.Tags.{usageLimits}
+use Rattle.tags.specs.Tags.{usageLimits}
 use Rattle.payload.specs.Readers.{limitsRead}
 use Rattle.payload.proofs.Steps.{whole}
 use Rattle.payload.proofs.Wanted.{limits-empty, limits-other, limits-is}

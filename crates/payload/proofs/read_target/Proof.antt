@@ -8,7 +8,7 @@ use Rattle.octets.specs.Octets.{part}
 use Rattle.octets.proofs.If.{ifb-true, ifb-false}
 use Rattle.fields.proofs.Found.{bytes-ends}
 use Rattle.identifier.specs.Identifier.{serialOf}
-use Rattle.payload.specs.Tags.{uniqueIdentifier}
+use Rattle.tags.specs.Tags.{uniqueIdentifier}
 use Rattle.ttlv_types.specs.Types.{textString}
 use Rattle.payload.specs.Readers.{targetSpan, targetAt}
 use Rattle.payload.specs.declared.Target.the-variants.{Serial}

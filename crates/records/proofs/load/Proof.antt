@@ -4,7 +4,7 @@ use Prim.Native.Nat.{ℕ, _+_}
 use mathlib.Core.Path.{_≡_}
 use mathlib.Core.List.{List}
 use Rattle.octets.specs.Octets.{fromBe, part}
-use Rattle.table.specs.Layout.{lineOf, bodyOf, materialSize}
+use Rattle.table.specs.Layout.{lineOf, bodyOf, materialSize, serialIn, stateIn, unitIn, bitsIn, replacedIn, replacementIn, totalIn, countIn, maskIn, materialIn}
 use Rattle.table.specs.Records.{placeAt}
 use Rattle.table.specs.declared.Record.{Record}
 use Rattle.table.proofs.Places.{place-fields}
@@ -18,14 +18,17 @@ line-requires c κs = search needs
 body-requires : tie.Need-body-requires
 body-requires c κs = search needs
 
+add-number-at : tie.Need-add-number-at
+add-number-at c = search needs
+
 number-at-requires : tie.Need-number-at-requires
 number-at-requires c κs = search needs
 
 cast-serial : tie.Need-cast-serial
 cast-serial c = search needs
 
-add-number-at : tie.Need-add-number-at
-add-number-at c = search needs
+add-number-at-2 : tie.Need-add-number-at-2
+add-number-at-2 c = search needs
 
 number-at-requires-2 : tie.Need-number-at-requires-2
 number-at-requires-2 c κs = search needs
@@ -33,8 +36,8 @@ number-at-requires-2 c κs = search needs
 cast-state : tie.Need-cast-state
 cast-state c = search needs
 
-add-number-at-2 : tie.Need-add-number-at-2
-add-number-at-2 c = search needs
+add-number-at-3 : tie.Need-add-number-at-3
+add-number-at-3 c = search needs
 
 number-at-requires-3 : tie.Need-number-at-requires-3
 number-at-requires-3 c κs = search needs
@@ -42,8 +45,8 @@ number-at-requires-3 c κs = search needs
 cast-unit : tie.Need-cast-unit
 cast-unit c = search needs
 
-add-number-at-3 : tie.Need-add-number-at-3
-add-number-at-3 c = search needs
+add-number-at-4 : tie.Need-add-number-at-4
+add-number-at-4 c = search needs
 
 number-at-requires-4 : tie.Need-number-at-requires-4
 number-at-requires-4 c κs = search needs
@@ -51,8 +54,8 @@ number-at-requires-4 c κs = search needs
 cast-bits : tie.Need-cast-bits
 cast-bits c = search needs
 
-add-number-at-4 : tie.Need-add-number-at-4
-add-number-at-4 c = search needs
+add-number-at-5 : tie.Need-add-number-at-5
+add-number-at-5 c = search needs
 
 number-at-requires-5 : tie.Need-number-at-requires-5
 number-at-requires-5 c κs = search needs
@@ -60,8 +63,8 @@ number-at-requires-5 c κs = search needs
 cast-replaced : tie.Need-cast-replaced
 cast-replaced c = search needs
 
-add-number-at-5 : tie.Need-add-number-at-5
-add-number-at-5 c = search needs
+add-number-at-6 : tie.Need-add-number-at-6
+add-number-at-6 c = search needs
 
 number-at-requires-6 : tie.Need-number-at-requires-6
 number-at-requires-6 c κs = search needs
@@ -69,17 +72,20 @@ number-at-requires-6 c κs = search needs
 cast-replacement : tie.Need-cast-replacement
 cast-replacement c = search needs
 
+add-number-at-7 : tie.Need-add-number-at-7
+add-number-at-7 c = search needs
+
 number-at-requires-7 : tie.Need-number-at-requires-7
 number-at-requires-7 c κs = search needs
 
-add-number-at-6 : tie.Need-add-number-at-6
-add-number-at-6 c = search needs
+add-number-at-8 : tie.Need-add-number-at-8
+add-number-at-8 c = search needs
 
 number-at-requires-8 : tie.Need-number-at-requires-8
 number-at-requires-8 c κs = search needs
 
-add-number-at-7 : tie.Need-add-number-at-7
-add-number-at-7 c = search needs
+add-number-at-9 : tie.Need-add-number-at-9
+add-number-at-9 c = search needs
 
 number-at-requires-9 : tie.Need-number-at-requires-9
 number-at-requires-9 c κs = search needs
@@ -95,25 +101,40 @@ material-at-requires c κs = search needs
 
 -- the fields, each read where it stands
 fields-read : (n : ℕ) (t : List ℕ) (i : ℕ) {l b serial state unit bits replaced replacement total count mask : ℕ} {material : List ℕ} → l ≡ lineOf i → b ≡ bodyOf n i
-    → serial ≡ fromBe (part t l 4)
-    → state ≡ fromBe (part t (l + 4) 1)
-    → unit ≡ fromBe (part t (l + 5) 1)
-    → bits ≡ fromBe (part t (l + 6) 2)
-    → replaced ≡ fromBe (part t (l + 8) 4)
-    → replacement ≡ fromBe (part t (l + 12) 4)
-    → total ≡ fromBe (part t b 8)
-    → count ≡ fromBe (part t (b + 8) 8)
-    → mask ≡ fromBe (part t (b + 16) 4)
-    → material ≡ part t (b + 24) materialSize
+    → serial ≡ fromBe (part t (l + serialIn) 4)
+    → state ≡ fromBe (part t (l + stateIn) 1)
+    → unit ≡ fromBe (part t (l + unitIn) 1)
+    → bits ≡ fromBe (part t (l + bitsIn) 2)
+    → replaced ≡ fromBe (part t (l + replacedIn) 4)
+    → replacement ≡ fromBe (part t (l + replacementIn) 4)
+    → total ≡ fromBe (part t (b + totalIn) 8)
+    → count ≡ fromBe (part t (b + countIn) 8)
+    → mask ≡ fromBe (part t (b + maskIn) 4)
+    → material ≡ part t (b + materialIn) materialSize
     → _≡_ {A = Record} (record { serial = serial; state = state; unit = unit; bits = bits; replaced = replaced; replacement = replacement; total = total; count = count; mask = mask; material = material }) (placeAt n t i)
 fields-read n t i hl hb e₁ e₂ e₃ e₄ e₅ e₆ e₇ e₈ e₉ e₁₀ = rw (e₁, e₂, e₃, e₄, e₅, e₆, e₇, e₈, e₉, e₁₀, hl, hb) (place-fields n t i)
 
 returns : tie.Need-returns
 returns c =
-    let a = c .before .before .before .before .before .before .before .before .before .before .before .before .before .args in
-    let line = c .before .before .before .before .before .before .before .before .before .before .before .line in
-    let body = c .before .before .before .before .before .before .before .before .before .before .body in
-    fields-read (a .n) (a .t .now) (a .i) (line .ensures) (body .ensures) (c .before .before .before .before .before .before .before .before .before .number-at .ensures .0) (c .before .before .before .before .before .before .before .before .number-at2 .ensures .0) (c .before .before .before .before .before .before .before .number-at3 .ensures .0) (c .before .before .before .before .before .before .number-at4 .ensures .0) (c .before .before .before .before .before .number-at5 .ensures .0) (c .before .before .before .before .number-at6 .ensures .0) (c .before .before .before .number-at7 .ensures .0) (c .before .before .number-at8 .ensures .0) (c .before .number-at9 .ensures .0) (c .material-at .ensures)
+    let at-mask = c .before in
+    let at-total = at-mask .before .before in
+    let at-replaced = at-total .before .before in
+    let at-unit = at-replaced .before .before in
+    let at-serial = at-unit .before .before in
+    let at-body = at-serial .before in
+    let at-line = at-body .before in
+    let a = at-line .before .before .args in
+    fields-read (a .n) (a .t .now) (a .i) (at-line .line .ensures) (at-body .body .ensures)
+    (at-serial .number-at .ensures .0)
+    (at-unit .before .number-at2 .ensures .0)
+    (at-unit .number-at3 .ensures .0)
+    (at-replaced .before .number-at4 .ensures .0)
+    (at-replaced .number-at5 .ensures .0)
+    (at-total .before .number-at6 .ensures .0)
+    (at-total .number-at7 .ensures .0)
+    (at-mask .before .number-at8 .ensures .0)
+    (at-mask .number-at9 .ensures .0)
+    (c .material-at .ensures)
 
 pub load-spec : {M : Type 1} → statement M
 load-spec =
@@ -121,27 +142,29 @@ load-spec =
     (tie.spec
     line-requires
     body-requires
+    add-number-at
     number-at-requires
     cast-serial
-    add-number-at
+    add-number-at-2
     number-at-requires-2
     cast-state
-    add-number-at-2
+    add-number-at-3
     number-at-requires-3
     cast-unit
-    add-number-at-3
+    add-number-at-4
     number-at-requires-4
     cast-bits
-    add-number-at-4
+    add-number-at-5
     number-at-requires-5
     cast-replaced
-    add-number-at-5
+    add-number-at-6
     number-at-requires-6
     cast-replacement
-    number-at-requires-7
-    add-number-at-6
-    number-at-requires-8
     add-number-at-7
+    number-at-requires-7
+    add-number-at-8
+    number-at-requires-8
+    add-number-at-9
     number-at-requires-9
     cast-mask
     add-material-at

@@ -3,6 +3,7 @@
 use Prim.Native.Nat.{ℕ, _+_}
 use mathlib.Core.Path.{ap, _∙_}
 use Rattle.octets.specs.Octets.{fromBe, part}
+use Rattle.table.specs.Layout.{replacedIn}
 use Rattle.table.specs.declared.Record.{Record}
 use Rattle.table.proofs.Places.{place-fields}
 use borrow.Author.Needs.{needs}
@@ -25,7 +26,7 @@ returns : tie.Need-returns
 returns c =
     let a = c .before .before .before .args in
     c .number-at .ensures .0
-    ∙ ap (λ (line : ℕ). fromBe (part (a .t .now) (line + 8) 4)) (c .before .line .ensures)
+    ∙ ap (λ (line : ℕ). fromBe (part (a .t .now) (line + replacedIn) 4)) (c .before .line .ensures)
     ∙ ap (λ (r : Record). r .replaced) (place-fields (a .n) (a .t .now) (a .i))
 
 pub replaced-spec : {M : Type 1} → statement M

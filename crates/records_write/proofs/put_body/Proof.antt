@@ -5,23 +5,26 @@ use borrow.Author.Needs.{needs}
 use Rattle.records_write.proofs.put_body.Statement.{statement}
 use Rattle.records_write.proofs.put_body.Tie as tie
 
-put-requires : tie.Need-put-requires
-put-requires c κs = search needs
-
 add-put : tie.Need-add-put
 add-put c = search needs
 
-put-requires-2 : tie.Need-put-requires-2
-put-requires-2 c κs = search needs
+put-requires : tie.Need-put-requires
+put-requires c κs = search needs
 
 add-put-2 : tie.Need-add-put-2
 add-put-2 c = search needs
 
-put-requires-3 : tie.Need-put-requires-3
-put-requires-3 c κs = search needs
+put-requires-2 : tie.Need-put-requires-2
+put-requires-2 c κs = search needs
 
 add-put-3 : tie.Need-add-put-3
 add-put-3 c = search needs
+
+put-requires-3 : tie.Need-put-requires-3
+put-requires-3 c κs = search needs
+
+add-put-4 : tie.Need-add-put-4
+add-put-4 c = search needs
 
 put-requires-4 : tie.Need-put-requires-4
 put-requires-4 c κs = search needs
@@ -40,24 +43,30 @@ same-length c = search needs
 
 returns : tie.Need-returns
 returns c =
-    let a = c .before .before .before .before .before .before .before .before .before .before .before .before .before .before .before .before .before .before .before .before .before .before .args in
+    let at-material = c .before .before in
+    let at-zeros = at-material .before .before .before .before .before in
+    let at-mask = at-zeros .before .before .before .before in
+    let at-count = at-mask .before .before .before .before in
+    let at-total = at-count .before .before .before .before in
+    let a = at-total .before .before .before .args in
     body-chain (a .t .now) (a .at) (a .total) (a .count) (a .mask) _
-    (c .before .before .before .before .before .before .before .before .before .before .before .before .before .before .before .before .before .before .before .put .ensures)
-    (c .before .before .before .before .before .before .before .before .before .before .before .before .before .before .before .put2 .ensures)
-    (c .before .before .before .before .before .before .before .before .before .before .before .put3 .ensures)
-    (c .before .before .before .before .before .before .before .put4 .ensures)
-    (c .before .before .put-all .ensures)
+    (at-total .put .ensures)
+    (at-count .put2 .ensures)
+    (at-mask .put3 .ensures)
+    (at-zeros .put4 .ensures)
+    (at-material .put-all .ensures)
 
 pub put-body-spec : {M : Type 1} → statement M
 put-body-spec =
     tie.close
     (tie.spec
-    put-requires
     add-put
-    put-requires-2
+    put-requires
     add-put-2
-    put-requires-3
+    put-requires-2
     add-put-3
+    put-requires-3
+    add-put-4
     put-requires-4
     add-put-all
     slice-aggregate-put-all

@@ -34,10 +34,12 @@ both-stored n t i r hl hb e₁ e₂ = rw (e₂, e₁, hl, hb)
 
 returns : tie.Need-returns
 returns c =
-    let a = c .before .before .before .before .before .before .before .before .before .before .before .before .args in
-    let line = c .before .before .before .before .before .before .before .before .before .before .line in
-    let body = c .before .before .before .before .before .before .before .before .before .body in
-    both-stored (a .n) (a .t .now) (a .i) (a .r) (line .ensures) (body .ensures) (c .before .before .before .before .before .before .put-line .ensures) (c .before .before .put-body .ensures)
+    let at-body-put = c .before .before in
+    let at-line-put = at-body-put .before .before .before .before in
+    let at-body = at-line-put .before .before .before in
+    let at-line = at-body .before in
+    let a = at-line .before .before .args in
+    both-stored (a .n) (a .t .now) (a .i) (a .r) (at-line .line .ensures) (at-body .body .ensures) (at-line-put .put-line .ensures) (at-body-put .put-body .ensures)
 
 pub store-spec : {M : Type 1} → statement M
 store-spec =

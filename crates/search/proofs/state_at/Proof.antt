@@ -3,6 +3,7 @@
 use mathlib.Core.Path.{ap, _∙_}
 use Prim.Native.Nat.{ℕ, _+_}
 use Rattle.octets.specs.Octets.{fromBe, part}
+use Rattle.table.specs.Layout.{stateIn}
 use Rattle.table.specs.Records.{stateAt}
 use borrow.Author.Needs.{needs}
 use Rattle.search.proofs.state_at.Statement.{statement}
@@ -24,7 +25,7 @@ returns : tie.Need-returns
 unfolding stateAt
 returns c =
     let t = c .before .before .before .args .t .now in
-    c .number-at .ensures .0 ∙ ap (λ (at : ℕ). fromBe (part t (at + 4) 1)) (c .before .line .ensures)
+    c .number-at .ensures .0 ∙ ap (λ (at : ℕ). fromBe (part t (at + stateIn) 1)) (c .before .line .ensures)
 
 pub state-at-spec : {M : Type 1} → statement M
 state-at-spec = tie.close (tie.spec line-requires add-number-at number-at-requires cast-result returns)

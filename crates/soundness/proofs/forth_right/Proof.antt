@@ -20,7 +20,10 @@ enum-known-j c = search needs
 replaced-requires : tie.Need-replaced-requires
 replaced-requires c κs =
     let a = c .before .before .before .before .before .args in
-    (c .before .before .before .before .before .pre, find-below (a .n) (a .t .now) (a .replacement) _ (sym (c .before .before .before .find .ensures) ∙ c .before .j .given .1))
+    record {
+      sized = c .before .before .before .before .before .pre;
+      below = find-below (a .n) (a .t .now) (a .replacement) _ (sym (c .before .before .before .find .ensures) ∙ c .before .j .given .1);
+    }
 
 enum-told : tie.Need-enum-told
 enum-told c = search needs

@@ -4,10 +4,9 @@ use Prim.Native.Nat.{_+_, _-_, _≤_, _<_, max}
 use mathlib.Core.Path.{_≡_, sym, ap, _∙_, subst}
 use native.Mathlib.Nat.{not-suc-le-zero}
 use native.Mathlib.Omega.{arith}
-use lib.ListN.{length}
 use borrow.Author.Needs.{needs}
 use borrow.Author.Tests.{not-true, not-false}
-use Rattle.table.specs.Layout.{sizeOf}
+use Rattle.table.specs.Layout.{Table}
 use Rattle.table.specs.Records.{serialAt}
 use Rattle.soundness.specs.Checked.{TopBelow}
 use Rattle.soundness.proofs.Checked.{Passed, passed-more, top-more, whole-size, checked-sound, unsound-whole, unsound-place}
@@ -31,7 +30,7 @@ returns c =
 last-serial-requires : tie.Need-last-serial-requires Inv-loop μ-loop
 last-serial-requires c κs =
     let a = c .before .before .before .args in
-    let sized : length (a .t .now) ≡ sizeOf (a .n) = whole-size (a .n) (a .t .now) (sym (c .before .whole-right .ensures) ∙ not-false _ (c .if1 .left)) in
+    let sized : Table (a .n) (a .t .now) = whole-size (a .n) (a .t .now) (sym (c .before .whole-right .ensures) ∙ not-false _ (c .if1 .left)) in
     omega arith
 
 loop-holds : tie.Need-loop-holds Inv-loop μ-loop
@@ -40,8 +39,12 @@ loop-holds c = (omega arith, (λ k l. absurd (not-suc-le-zero l), λ j l. absurd
 place-right-requires : tie.Need-place-right-requires Inv-loop μ-loop
 place-right-requires c κs =
     let a = c .before .before .before .before .before .before .args in
-    let sized : length (a .t .now) ≡ sizeOf (a .n) = whole-size (a .n) (a .t .now) (sym (c .before .before .before .before .whole-right .ensures) ∙ not-false _ (c .before .before .before .if1 .left)) in
-    (sized, (c .loop-test .taken, (c .before .before .last-serial .ensures, c .before .loop .inv .1 .1)))
+    let sized : Table (a .n) (a .t .now) = whole-size (a .n) (a .t .now) (sym (c .before .before .before .before .whole-right .ensures) ∙ not-false _ (c .before .before .before .if1 .left)) in
+    record {
+      place = record { sized = sized; below = c .loop-test .taken };
+      issued = c .before .before .last-serial .ensures;
+      highest = c .before .loop .inv .1 .1;
+    }
 
 returns-2 : tie.Need-returns-2 Inv-loop μ-loop
 returns-2 c =
@@ -52,7 +55,7 @@ serial-at-requires : tie.Need-serial-at-requires Inv-loop μ-loop
 serial-at-requires c κs =
     let a = c .before .before .before .before .before .before .before .before .args in
     let l = c .before .before .before .loop in
-    let sized : length (a .t .now) ≡ sizeOf (a .n) = whole-size (a .n) (a .t .now) (sym (c .before .before .before .before .before .before .whole-right .ensures) ∙ not-false _ (c .before .before .before .before .before .if1 .left)) in
+    let sized : Table (a .n) (a .t .now) = whole-size (a .n) (a .t .now) (sym (c .before .before .before .before .before .before .whole-right .ensures) ∙ not-false _ (c .before .before .before .before .before .if1 .left)) in
     let low : l .i < a .n = c .before .before .loop-test .taken in
     omega arith
 

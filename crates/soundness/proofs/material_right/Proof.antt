@@ -43,7 +43,7 @@ returns c =
     let p = c .before .before .before .before .before .pre in
     let z = c .before .before .zeros-from in
     c .all-zero .ensures
-    ∙ ap allZero (material-lent (a .n) (a .t .now) (a .i) (a .p) (c .before .before .before .body .result) (z .result) (p .0) (p .1 .0) (p .1 .1) (c .before .before .before .body .ensures) (z .ensures))
+    ∙ ap allZero (material-lent (a .n) (a .t .now) (a .i) (a .p) (c .before .before .before .body .result) (z .result) (p .place) (p .held) (c .before .before .before .body .ensures) (z .ensures))
     ∙ sym (material-zeros (a .p))
 
 pub material-right-spec : {M : Type 1} → statement M

@@ -12,7 +12,7 @@ returns : tie.Need-returns
 returns c =
     let a = c .before .before .args in
     let p = c .before .before .pre in
-    sym (top-own (a .n) (a .t .now) (a .i) (a .top) (a .serial) (p .1 .0) (p .1 .1 .0) (p .1 .1 .1) (c .if1 .taken))
+    sym (top-own (a .n) (a .t .now) (a .i) (a .top) (a .serial) (p .place .below) (p .own) (p .highest) (c .if1 .taken))
 
 find-requires : tie.Need-find-requires
 find-requires c κs = search needs

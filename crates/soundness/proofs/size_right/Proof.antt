@@ -1,12 +1,12 @@
 -- `soundness::size_right`. The early answers are those of lengths that cannot be the size.
 -- Assumes nothing.
-use Prim.Native.Nat.{_-_, _/_, _<_}
+use Prim.Native.Nat.{_+_, _-_, _/_, _<_}
 use mathlib.Core.Path.{sym, ap}
 use native.Mathlib.Omega.{arith}
 use lib.Dec.{eqb}
 use borrow.Author.Needs.{needs}
 use borrow.Author.Tests.{ne-eqb}
-use Rattle.table.specs.Layout.{sizeOf}
+use Rattle.table.specs.Layout.{leadSize, lineSize, bodySize, sizeOf}
 use Rattle.soundness.proofs.size_right.Statement.{statement}
 use Rattle.soundness.proofs.size_right.Tie as tie
 
@@ -22,7 +22,7 @@ div-if2 c = search needs
 returns-2 : tie.Need-returns-2
 returns-2 c =
     let a = c .before .before .args in
-    let few : (a .len - 16) / 72 < a .n = c .if2 .taken in
+    let few : (a .len - leadSize) / (lineSize + bodySize) < a .n = c .if2 .taken in
     sym (ne-eqb (a .len) (sizeOf (a .n)) (λ e. omega arith))
 
 size-requires : tie.Need-size-requires

@@ -31,13 +31,17 @@ own-place-requires : tie.Need-own-place-requires
 own-place-requires c κs =
     let a = c .before .before .before .before .before .before .before .args in
     let p = c .before .before .before .before .before .before .before .pre in
-    (p .0, (p .1 .0, (ap (λ (r : Record). r .serial) (p .1 .1 .1 .0) ∙ sym (serial-is (a .n) (a .t .now) (a .i)), p .1 .1 .1 .1)))
+    record {
+      place = p .reached .place;
+      own = ap (λ (r : Record). r .serial) (p .held) ∙ sym (serial-is (a .n) (a .t .now) (a .i));
+      highest = p .reached .highest;
+    }
 
 returns : tie.Need-returns
 returns c =
     let a = c .before .before .before .before .before .before .before .before .args in
     standing-parts (a .n) (a .t .now) (a .i) (a .last) (a .p)
-    (c .before .before .before .before .before .before .before .before .pre .1 .1 .0)
+    (c .before .before .before .before .before .before .before .before .pre .reached .issued)
     (c .before .before .before .before .before .before .zeros-right .ensures)
     (c .before .before .before .before .before .values-right .ensures)
     (c .before .before .before .before .material-right .ensures)

@@ -3,11 +3,10 @@
 use Prim.Native.Nat.{ℕ, _-_}
 use mathlib.Core.Path.{_≡_, sym, ap, _∙_}
 use native.Mathlib.Omega.{arith}
-use lib.ListN.{length}
 use lib.Dec.{eqb}
 use borrow.Author.Needs.{needs}
 use borrow.Author.Tests.{eqb-true, not-true, not-false}
-use Rattle.table.specs.Layout.{sizeOf}
+use Rattle.table.specs.Layout.{Table}
 use Rattle.soundness.specs.Sound.{countRight, leadRight}
 use Rattle.octets.proofs.Bools.{and-cong}
 use Rattle.soundness.proofs.Checked.{whole-sized, whole-unsized}
@@ -25,7 +24,7 @@ returns c =
 places-said-requires : tie.Need-places-said-requires
 places-said-requires c κs =
     let a = c .before .before .before .args in
-    let sized : length (a .t .now) ≡ sizeOf (a .n) = eqb-true _ _ (sym (c .before .size-right .ensures) ∙ not-false _ (c .if1 .left)) in
+    let sized : Table (a .n) (a .t .now) = eqb-true _ _ (sym (c .before .size-right .ensures) ∙ not-false _ (c .if1 .left)) in
     omega arith
 
 cast-result : tie.Need-cast-result
@@ -40,7 +39,7 @@ part-all-zero-start c = search needs
 part-all-zero-end : tie.Need-part-all-zero-end
 part-all-zero-end c =
     let a = c .before .before .before .before .args in
-    let sized : length (a .t .now) ≡ sizeOf (a .n) = eqb-true _ _ (sym (c .before .before .size-right .ensures) ∙ not-false _ (c .before .if1 .left)) in
+    let sized : Table (a .n) (a .t .now) = eqb-true _ _ (sym (c .before .before .size-right .ensures) ∙ not-false _ (c .before .if1 .left)) in
     omega arith
 
 all-zero-requires : tie.Need-all-zero-requires
@@ -50,7 +49,7 @@ returns-2 : tie.Need-returns-2
 unfolding countRight leadRight
 returns-2 c =
     let a = c .before .before .before .before .before .before .args in
-    let sized : length (a .t .now) ≡ sizeOf (a .n) = eqb-true _ _ (sym (c .before .before .before .before .size-right .ensures) ∙ not-false _ (c .before .before .before .if1 .left)) in
+    let sized : Table (a .n) (a .t .now) = eqb-true _ _ (sym (c .before .before .before .before .size-right .ensures) ∙ not-false _ (c .before .before .before .if1 .left)) in
     and-cong (ap (λ (x : ℕ). eqb x (a .n)) (c .before .before .places-said .ensures)) (c .all-zero .ensures) ∙ sym (whole-sized (a .n) (a .t .now) sized)
 
 pub whole-right-spec : {M : Type 1} → statement M

@@ -4,8 +4,7 @@ use Prim.Native.Nat.{ℕ, _+_, _-_}
 use mathlib.Core.Path.{ap, _∙_}
 use borrow.Author.Needs.{needs}
 use Rattle.octets.specs.Octets.{allZero}
-use Rattle.table.specs.Layout.{bodyOf}
-use Rattle.table.specs.Records.{zerosIn}
+use Rattle.table.specs.Layout.{bodyOf, zerosIn}
 use Rattle.soundness.specs.Sound.{zerosRight}
 use Rattle.soundness.proofs.Parts.{lent-part}
 use Rattle.soundness.proofs.zeros_right.Statement.{statement}

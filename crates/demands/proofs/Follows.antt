@@ -1,0 +1,84 @@
+-- What demand 3 gives for the runs of any box that meets it: the books are in order at every point, and what is gone stays gone.
+-- Assumes nothing.
+use Prim.Native.Nat.{ℕ, _≤_}
+use native.Mathlib.Omega.{arith}
+use mathlib.Core.Path.{_≡_, refl, sym, _∙_}
+use mathlib.Core.Bool.{Bool, true, false}
+use mathlib.Core.List.{List, [], _∷_}
+use Rattle.table.specs.Layout.{placeCount}
+use Rattle.table.specs.Records.{blank}
+use Rattle.engine.specs.Effects.{Effect}
+use Rattle.demands.specs.Box.{Call, Box, Lent}
+use Rattle.demands.specs.Log.{Event, commandOf, issuedBy, issued, granted, onto, logged}
+use Rattle.demands.specs.Demand3.{Run, begins, calls, Stands, takes, Tame, InOrder, Path, arrived, went, Demand3}
+use Rattle.demands.proofs.Logged.{granted-more, issued-now, issued-before}
+use Rattle.demands.proofs.Ordered.{inv-order}
+use Rattle.demands.proofs.Runs.{blank-inv}
+
+-- ---- along a path
+
+-- the books are in order behind it
+path-order : {log events : List Event} {t v : List ℕ} → Path log t events v → InOrder log t → InOrder (onto events log) v
+unfolding onto
+path-order arrived o = o
+path-order (went ev u tame after rest) o = path-order rest after
+
+-- x was issued, does not stand, and has so many units
+pub record Gone (x units : ℕ) (log : List Event) (t : List ℕ) : Type 0 where
+  pub once : 1 ≤ issued x log
+  pub away : (i : ℕ) → Stands x t i → ⊥
+  pub same : granted x log ≡ units
+
+module _ (x units : ℕ) (z : x ≡ 0 → ⊥) where
+  -- an item does not bring it back
+  item-gone : (log : List Event) (t u : List ℕ) (ev : Event) → Tame ev t u → InOrder (ev ∷ log) u → Gone x units log t → Gone x units (ev ∷ log) u
+  item-gone log t u ev tame after g = record {
+    once = omega (arith, before, g .once);
+    away = λ i s. by-taking i s (takes ev t i) refl;
+    same = omega (arith, granted-more x ev log, tame .grants x z (g .away), g .same);
+  }
+    where
+      -- it is not issued again
+      anew : issuedBy (commandOf ev) (ev .answer .outcome) ≡ x → ⊥
+      anew e = omega (arith, issued-now x ev log e, after .once x z, g .once)
+
+      before : issued x (ev ∷ log) ≡ issued x log
+      before = issued-before x ev log anew
+
+      by-taking : (i : ℕ) → Stands x u i → (b : Bool) → takes ev t i ≡ b → ⊥
+      by-taking i s true e = anew (sym (tame .taken i (s .below) e .serial) ∙ s .serial)
+      by-taking i s false e = g .away i (record { below = s .below; serial = sym (tame .kept i (s .below) e) ∙ s .serial })
+
+  pub path-gone : {log events : List Event} {t v : List ℕ} → Path log t events v → Gone x units log t → Gone x units (onto events log) v
+  unfolding onto
+  path-gone arrived g = g
+  path-gone {log} {t = t} (went ev u tame after rest) g = path-gone rest (item-gone log t u ev tame after g)
+
+-- ---- along a run
+
+-- a later point of the same run
+pub data Later (B : Box) (log : List Event) (t : List ℕ) : List Event → List ℕ → Type 0 where
+  here : Later B log t log t
+  further : {log′ : List Event} {t′ : List ℕ} (c : Call) (e : Effect) → Later B log t log′ t′ → c .table ≡ t′ → Lent c → B c e → Later B log t (logged c e log′) (e .table)
+
+-- it is a point of the run
+later-run : {B : Box} {log log′ : List Event} {t t′ : List ℕ} → Run B log t → Later B log t log′ t′ → Run B log′ t′
+later-run r here = r
+later-run r (further c e l same lent b) = calls c e (later-run r l) same lent b
+
+module _ (B : Box) (d : Demand3 B) where
+  -- the books are in order at every point between two calls, as they are between two items
+  pub in-order : {log : List Event} {t : List ℕ} → Run B log t → InOrder log t
+  unfolding logged
+  in-order begins = inv-order [] (blank placeCount) blank-inv
+  in-order (calls {log} {t} c e r same lent b) = path-order (d .path log t r c e same lent b) (in-order r)
+
+  later-gone : (x units : ℕ) → (x ≡ 0 → ⊥) → {log log′ : List Event} {t t′ : List ℕ} → Run B log t → Gone x units log t → Later B log t log′ t′ → Gone x units log′ t′
+  unfolding logged
+  later-gone x units z r g here = g
+  later-gone x units z r g (further {log′} {t′} c e l same lent b) = path-gone x units z (d .path log′ t′ (later-run r l) c e same lent b) (later-gone x units z r g l)
+
+  -- "Once a newer object has taken the place, that identifier is granted nothing more", whatever calls follow
+  pub gone-for-good : (log : List Event) (t : List ℕ) → Run B log t → (x : ℕ) → (x ≡ 0 → ⊥) → 1 ≤ issued x log → ((i : ℕ) → Stands x t i → ⊥)
+      → (log′ : List Event) (t′ : List ℕ) → Later B log t log′ t′ → granted x log′ ≡ granted x log
+  gone-for-good log t r x z o away log′ t′ l = later-gone x (granted x log) z r (record { once = o; away = away; same = refl }) l .same

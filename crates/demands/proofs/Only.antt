@@ -1,0 +1,134 @@
+-- Demands 1 and 2 leave one box: what a call leaves follows from what is lent to it.
+-- Assumes nothing.
+use Prim.Native.Nat.{ℕ, suc, _+_, _≤_}
+use native.Mathlib.Omega.{arith}
+use mathlib.Core.Path.{_≡_, refl, sym, ap, subst, _∙_}
+use mathlib.Core.Bool.{Bool, true, false, not, _&&_}
+use mathlib.Core.List.{List, [], _∷_, _++_, map}
+use lib.ListN.{length, take, drop, take-append-drop}
+use lib.Seq.{length-take-le}
+use lib.Dec.{eqb}
+use borrow.Author.Tests.{eq-eqb, ne-eqb}
+use Rattle.octets.specs.If.{ifb}
+use Rattle.octets.specs.Octets.{over}
+use Rattle.octets.proofs.If.{ifb-true, ifb-false}
+use Rattle.octets.proofs.Bools.{and-i}
+use Rattle.octets.proofs.Maybe.{some-is}
+use Rattle.ttlv.specs.Items.{encode}
+use Rattle.frame.specs.Frame.{Asked, Frame, frameIn, optionOf, continue}
+use Rattle.act.specs.Act.{Did, isFailed}
+use Rattle.answer.specs.Respond.{Response, respond}
+use Rattle.engine.specs.Batch.{Ran, answerTo, lastly, firstly, endsBatch, batch, running}
+use Rattle.engine.specs.Effects.{Effect}
+use Rattle.engine.specs.Serving.{turnedAway, responseTo, answered}
+use Rattle.demands.specs.Box.{Call, Box, Lent}
+use Rattle.demands.specs.Demand1.{Demand1, Within}
+use Rattle.demands.specs.Demand2.{Demand2, Answered, Link, answerOf, linkAt, Chain, none-left, stops, goes-on}
+use Rattle.demands.specs.Demand3.{Demand3}
+use Rattle.demands.proofs.Chains.{due-step, ranFrom}
+use Rattle.demands.proofs.Ladder.{served, same-effect, served-number, Accepted, ranBy, Told, away, accepted, told}
+use Rattle.demands.proofs.Meets.{front-is}
+use Rattle.demands.proofs.Meets3.{meets-3}
+use Rattle.demands.proofs.Serve.{Serve, serve-right}
+
+-- ---- a chain is the batch
+
+module _ (c : Call) (option : ℕ) where
+  ends-yes : (did : Did) → isFailed (did .outcome) ≡ true → (option ≡ continue → ⊥) → endsBatch option did ≡ true
+  unfolding endsBatch
+  ends-yes did f o = and-i (isFailed (did .outcome)) (not (eqb option continue)) f (ap not (ne-eqb option continue o))
+
+  ends-no : (did : Did) → (isFailed (did .outcome) ≡ true → option ≡ continue) → endsBatch option did ≡ false
+  unfolding endsBatch
+  ends-no did o = go (isFailed (did .outcome)) refl
+    where
+      go : (b : Bool) → isFailed (did .outcome) ≡ b → (isFailed (did .outcome) && not (eqb option continue)) ≡ false
+      go true f = ap (λ (b : Bool). b && not (eqb option continue)) f ∙ ap not (eq-eqb option continue (o f))
+      go false f = ap (λ (b : Bool). b && not (eqb option continue)) f
+
+  abbrev turnOf : ℕ → Asked → List Asked → Did → Ran
+  turnOf i asked later x = ifb (endsBatch option x) (lastly (answerTo asked x) (x .table)) (firstly (answerTo asked x) (ranFrom c option (i + 1) (x .holder) (x .table) later))
+
+  abbrev ranOf : List Link → List ℕ → Ran
+  ranOf links u = record { answers = map answerOf links; table = u }
+
+  pub chain-one : {i holder : ℕ} {t u : List ℕ} {items : List Asked} {links : List Link} → Chain c option i holder t items links u → ranOf links u ≡ ranFrom c option i holder t items
+  unfolding batch answerOf
+  chain-one none-left = refl
+  chain-one (stops {i} {holder} {t} {later} asked did d f o) =
+      subst (λ (x : Did). ranOf (linkAt c i holder t asked did ∷ []) (did .table) ≡ turnOf i asked later x) (due-step (linkAt c i holder t asked did) d)
+      (sym (ifb-true (endsBatch option did) _ _ (ends-yes did f o)))
+  chain-one (goes-on {i} {holder} {t} {u} {later} {links} asked did d f rest) =
+      subst (λ (x : Did). ranOf (linkAt c i holder t asked did ∷ links) u ≡ turnOf i asked later x) (due-step (linkAt c i holder t asked did) d)
+      (ap (λ (r : Ran). firstly (answerTo asked did) r) (chain-one rest) ∙ sym (ifb-false (endsBatch option did) _ _ (ends-no did f)))
+
+-- ---- one effect
+
+module _ (c : Call) (e : Effect) (a : Accepted c) (g : Answered c e) where
+  same-frame : g .frame ≡ a .frame
+  same-frame = some-is (sym (g .framed) ∙ ap frameIn (some-is (sym (g .reads) ∙ a .reads)) ∙ a .framed)
+
+  ran-is : _≡_ {A = Ran} (record { answers = map answerOf (g .links); table = g .reached }) (ranBy c a)
+  unfolding running
+  ran-is =
+      chain-one c (optionOf (a .frame .header .option))
+      (subst (λ (f : Frame). Chain c (optionOf (f .header .option)) 0 0 (c .table) (f .items) (g .links) (g .reached)) same-frame
+      (subst (λ (t : List ℕ). Chain c (optionOf (g .frame .header .option)) 0 0 t (g .frame .items) (g .links) (g .reached)) (g .begins) (g .chain)))
+
+  abbrev due : Response
+  due = responseTo (c .clock) (ranBy c a)
+
+  front : take (e .length) (e .output) ≡ encode (respond due)
+  front = g .spelling ∙ ap (λ (x : Ran). encode (respond (responseTo (c .clock) x))) ran-is
+
+  module _ (w : Within c e) where
+    long : e .length ≡ length (encode (respond due))
+    long = sym (length-take-le (e .length) (e .output) (subst (λ (k : ℕ). e .length ≤ k) (sym (w .same-room)) (w .room))) ∙ ap length front
+
+    out : e .output ≡ over (encode (respond due)) (c .output)
+    out =
+        sym (take-append-drop (e .length) (e .output))
+        ∙ ap (λ (s : List ℕ). s ++ drop (e .length) (e .output)) front
+        ∙ ap (λ (s : List ℕ). encode (respond due) ++ s) (w .past)
+        ∙ ap (λ (k : ℕ). encode (respond due) ++ drop k (c .output)) long
+
+    pub only-accepted : e .number ≡ 0 → e ≡ answered (c .clock) (c .output) (ranBy c a)
+    unfolding answered
+    only-accepted n = same-effect e (answered (c .clock) (c .output) (ranBy c a)) n long (g .left ∙ ap (λ (x : Ran). x .table) ran-is) out
+
+-- ---- what demand 2 leaves of an accepted call
+
+-- the table and the response are those that the definitions give
+pub record AsDue (c : Call) (e : Effect) : Type 0 where
+  pub table : e .table ≡ served c .table
+  pub bytes : take (e .length) (e .output) ≡ take (served c .length) (served c .output)
+
+pub answered-due : (c : Call) (e : Effect) → Lent c → Answered c e → served c .number ≡ 0 → AsDue c e
+unfolding answered
+answered-due c e lent g n = let p = by-told (served c) (told c) n in record { table = p .0; bytes = p .1 }
+  where
+    by-told : (f : Effect) → Told c f → f .number ≡ 0 → (e .table ≡ f .table) × (take (e .length) (e .output) ≡ take (f .length) (f .output))
+    by-told f (away k) z = absurd (let q : suc k ≡ 0 = z in omega arith)
+    by-told f (accepted a) z = (g .left ∙ ap (λ (x : Ran). x .table) (ran-is c e a g), front c e a g ∙ sym (front-is c lent a))
+
+-- ---- one box
+
+module _ (B : Box) (d1 : Demand1 B) (d2 : Demand2 B) where
+  by-told : (c : Call) (e e′ : Effect) → Lent c → B c e → Told c e′ → e .number ≡ e′ .number → e ≡ e′
+  unfolding answered
+  by-told c e e′ lent b (away k) n =
+      let u = d1 .refused c e lent b (λ z. (let q : suc k ≡ 0 = sym n ∙ z in omega arith)) in
+      same-effect e (turnedAway (c .table) (c .output) (suc k)) n (u .length) (u .table) (u .output)
+  by-told c e e′ lent b (accepted a) n = only-accepted c e a (d2 .answered c e lent b n) (d1 .answered c e lent b n) n
+
+  -- "Number, length, output and table after a call follow from the inputs alone": a box that meets demands 1 and 2 leaves what the definitions say
+  pub only-box : (c : Call) (e : Effect) → Lent c → B c e → e ≡ served c
+  only-box c e lent b = by-told c e (served c) lent b (told c) (d2 .number c e lent b ∙ sym (served-number c))
+
+  -- so what it leaves of a call, the box that ships leaves of it
+  pub only-ours : (c : Call) (e : Effect) → Lent c → B c e → Serve c e
+  only-ours c e lent b = subst (Serve c) (sym (only-box c e lent b)) (serve-right c)
+
+  -- and the third demand follows from the first two
+  pub third-follows : Demand3 B
+  third-follows = meets-3 B only-box

@@ -1,0 +1,3 @@
+-- That the test of a tag has one answer.
+-- Assumes nothing.
+pub mod Unique

@@ -1,0 +1,3 @@
+-- The tags.
+-- Assumes nothing.
+pub mod Tags

@@ -1,0 +1,160 @@
+-- The boxes that 01 warns of and that demand 2 shuts out.
+-- Assumes nothing. Each is refuted by a call that is worked out: it leaves another table, or other bytes, than are due.
+use Prim.Native.Nat.{ℕ}
+use native.Mathlib.Omega.{arith}
+use mathlib.Core.Path.{_≡_, refl, sym, ap, _∙_}
+use mathlib.Core.Option.{Option, none, some}
+use mathlib.Core.List.{List}
+use lib.ListN.{length, take}
+use lib.Dec.{lit<}
+use Rattle.octets.specs.Octets.{fromBe, over}
+use Rattle.octets.proofs.Maybe.{some-is}
+use Rattle.table.specs.Layout.{placeCount}
+use Rattle.table.specs.Records.{placeAt, withPlace, serialAt, blank}
+use Rattle.answer.specs.Respond.{Response}
+use Rattle.answer.specs.Read.{answersIn}
+use Rattle.engine.specs.Effects.{Effect}
+use Rattle.engine.specs.Serving.{turnedAway}
+use Rattle.demands.specs.Box.{Call, Lent}
+use Rattle.demands.specs.Demand2.{Demand2, Answered, frameOf, refusalConditions, lowest}
+use Rattle.wrong_boxes.specs.Wrong.{orRefused, withTable, responding, ranUnder, Leaves, RefusesAll, DoesNothing, LeavesTable, allFailed, FailsAll, OneAnswer, AnswersFirst, RunsPastStop, withMaterialOf, SharesMaterial}
+use Rattle.cases.specs.Cards.{lifeRequest}
+use Rattle.cases.proofs.Cases.{opened}
+use Rattle.demands.proofs.Ladder.{served, served-number}
+use Rattle.demands.proofs.Only.{AsDue, answered-due}
+use Rattle.wrong_boxes.proofs.Calling.{calling, accepted-is, lent-life, life-accepted, pairCall, lent-pair, pair-accepted, pastRequest, pastCall, lent-past, past-accepted}
+
+zero-one : {A : Type 0} → _≡_ {A = ℕ} 0 1 → A
+zero-one e = absurd (omega arith)
+
+-- ---- what demand 2 asks of a box that refuses as it should
+
+module _ (made : Call → Effect) (d : Demand2 (λ c e. e ≡ orRefused c (made c))) (c : Call) (lent : Lent c) (taken : lowest 1 (refusalConditions c) ≡ 0) (zero : made c .number ≡ 0) where
+  given : Answered c (made c)
+  given = d .answered c (made c) lent (accepted-is c (made c) taken) zero
+
+  as-due : AsDue c (made c)
+  as-due = answered-due c (made c) lent given (served-number c ∙ taken)
+
+-- it gives a box that answers as it should the table that is due
+leaves-due : (made : Call → List ℕ → List ℕ) → Demand2 (Leaves made) → (c : Call) → Lent c → lowest 1 (refusalConditions c) ≡ 0 → made c (served c .table) ≡ served c .table
+unfolding withTable
+leaves-due made d c lent taken = as-due (λ x. withTable (made x) (served x)) d c lent taken (served-number c ∙ taken) .table
+
+-- ---- the life of a key, as it should go
+
+abbrev life : Call
+life = calling lifeRequest 0
+
+-- a key stands at place 0
+life-serial : serialAt (served life .table) 0 ≡ 1
+unfolding opened
+life-serial = refl
+
+-- none stands there before
+blank-serial : serialAt (blank placeCount) 0 ≡ 0
+unfolding opened
+blank-serial = refl
+
+-- five answers
+life-length : length (take (served life .length) (served life .output)) ≡ 416
+unfolding opened
+life-length = refl
+
+-- ---- the boxes
+
+-- a box that refuses everything refuses what has to be answered
+pub refuses-all : Demand2 RefusesAll → ⊥
+refuses-all d = zero-one (sym (life-accepted 0) ∙ sym (d .number life (turnedAway (life .table) (life .output) 1) (lent-life 0 (lit< tt)) refl))
+
+-- a box that does nothing gives no response
+pub does-nothing : Demand2 DoesNothing → ⊥
+does-nothing d =
+    let q = as-due (λ c. turnedAway (c .table) (c .output) 0) d life (lent-life 0 (lit< tt)) (life-accepted 0) refl in
+    let z : _≡_ {A = ℕ} 0 416 = ap length (q .bytes) ∙ life-length in
+    omega arith
+
+-- a box that answers as it should and leaves the table
+pub leaves-table : Demand2 LeavesTable → ⊥
+leaves-table d = zero-one (sym blank-serial ∙ ap (λ (t : List ℕ). serialAt t 0) (leaves-due (λ c due. c .table) d life (lent-life 0 (lit< tt)) (life-accepted 0)) ∙ life-serial)
+
+-- a box that fails every item
+pub fails-all : Demand2 FailsAll → ⊥
+fails-all d =
+    let q = as-due (λ c. responding c (allFailed (frameOf c)) (c .table)) d life (lent-life 0 (lit< tt)) (life-accepted 0) refl in
+    zero-one (sym blank-serial ∙ ap (λ (t : List ℕ). serialAt t 0) (q .table) ∙ life-serial)
+
+-- one answer for all has the wrong clock for one of two calls
+pub one-answer : (bytes : List ℕ) (tableOf : Call → List ℕ) → Demand2 (OneAnswer bytes tableOf) → ⊥
+one-answer bytes tableOf d = zero-one (sym (clock-of 0 a0) ∙ ap clockIn same ∙ clock-of 1 a1)
+  where
+    made : Call → Effect
+    made c = record { number = 0; length = length bytes; table = tableOf c; output = over bytes (c .output) }
+
+    clockIn : Option Response → ℕ
+    clockIn none = 0
+    clockIn (some r) = r .clock
+
+    a0 : Answered (calling lifeRequest 0) (made (calling lifeRequest 0))
+    a0 = given made d (calling lifeRequest 0) (lent-life 0 (lit< tt)) (life-accepted 0) refl
+
+    a1 : Answered (calling lifeRequest 1) (made (calling lifeRequest 1))
+    a1 = given made d (calling lifeRequest 1) (lent-life 1 (lit< tt)) (life-accepted 1) refl
+
+    clock-of : (clock : ℕ) (a : Answered (calling lifeRequest clock) (made (calling lifeRequest clock))) → clockIn (answersIn (a .response)) ≡ clock
+    clock-of clock a = ap clockIn (a .read-back)
+
+    same : answersIn (a0 .response) ≡ answersIn (a1 .response)
+    same = ap answersIn (some-is (sym (a0 .readable) ∙ a1 .readable))
+
+-- a box that executes the whole batch at its first item and answers that one alone
+first : Call → Effect
+first c = responding c (take 1 (ranUnder (λ option. option) c (frameOf c) .answers)) (ranUnder (λ option. option) c (frameOf c) .table)
+
+first-length : length (take (first life .length) (first life .output)) ≡ 168
+unfolding opened first ranUnder frameOf
+first-length = refl
+
+pub answers-first : Demand2 AnswersFirst → ⊥
+unfolding first
+answers-first d =
+    let q = as-due first d life (lent-life 0 (lit< tt)) (life-accepted 0) refl in
+    let z : _≡_ {A = ℕ} 168 416 = sym first-length ∙ ap length (q .bytes) ∙ life-length in
+    omega arith
+
+-- a box that runs past a failure under Stop, and answers as under Stop
+past : Call → List ℕ → List ℕ
+past c due = ranUnder (λ option. 1) c (frameOf c) .table
+
+past-serial : serialAt (past pastCall (served pastCall .table)) 0 ≡ 1
+unfolding opened past ranUnder frameOf pastRequest
+past-serial = refl
+
+stopped-serial : serialAt (served pastCall .table) 0 ≡ 0
+unfolding opened pastRequest
+stopped-serial = refl
+
+pub runs-past-stop : Demand2 RunsPastStop → ⊥
+unfolding past
+runs-past-stop d = zero-one (sym stopped-serial ∙ ap (λ (t : List ℕ). serialAt t 0) (sym (leaves-due past d pastCall lent-past past-accepted)) ∙ past-serial)
+
+-- a box that leaves one key with another's material
+firstByte : List ℕ → ℕ
+firstByte t = fromBe (take 1 (placeAt placeCount t 0 .material))
+
+shared : Call → List ℕ → List ℕ
+shared c due = withPlace placeCount due 0 (withMaterialOf (placeAt placeCount due 1) (placeAt placeCount due 0))
+
+due-byte : firstByte (served pairCall .table) ≡ 0
+unfolding opened firstByte
+due-byte = refl
+
+shared-byte : firstByte (shared pairCall (served pairCall .table)) ≡ 32
+unfolding opened firstByte shared withMaterialOf
+shared-byte = refl
+
+pub shares-material : Demand2 SharesMaterial → ⊥
+unfolding shared
+shares-material d =
+    let z : _≡_ {A = ℕ} 32 0 = sym shared-byte ∙ ap firstByte (leaves-due shared d pairCall lent-pair pair-accepted) ∙ due-byte in
+    omega arith

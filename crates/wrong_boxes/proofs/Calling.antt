@@ -1,0 +1,110 @@
+-- Calls that are worked out, on which the wrong boxes are tried.
+-- Assumes nothing.
+use Prim.Native.Nat.{ℕ, _^_, _<_}
+use mathlib.Core.Path.{_≡_, refl, sym, ap}
+use mathlib.Core.Bool.{Bool, true}
+use mathlib.Core.List.{List, [], _∷_}
+use lib.ListN.{replicate}
+use lib.Dec.{ltb, eqb, lit<}
+use borrow.Author.Tests.{ltb-true}
+use Rattle.octets.specs.Hex.{hex}
+use Rattle.octets.specs.Octets.{Bytes, all}
+use Rattle.octets.proofs.If.{ifb-true}
+use Rattle.octets.proofs.Bools.{and-l, and-r}
+use Rattle.table.specs.Layout.{placeCount}
+use Rattle.table.specs.Records.{blank}
+use Rattle.engine.specs.Effects.{Effect}
+use Rattle.demands.specs.Box.{Call, Lent}
+use Rattle.demands.specs.Demand2.{frameOf, ofFrame, refusalConditions, lowest}
+use Rattle.wrong_boxes.specs.Wrong.{orRefused}
+use Rattle.cases.specs.Cards.{countedFrom, lifeRequest, grantRequest, lastRequest}
+use Rattle.cases.proofs.Cases.{opened}
+
+-- bytes, by a test
+unfoldable pub isByte : ℕ → Bool
+isByte x = ltb x 256
+
+pub bytes-test : (s : List ℕ) → all isByte s ≡ true → Bytes s
+unfolding all isByte
+bytes-test [] h = tt
+bytes-test (x ∷ s) h = (ltb-true x 256 (and-l (ltb x 256) (all isByte s) h), bytes-test s (and-r (ltb x 256) (all isByte s) h))
+
+-- a request on a table, with the strip 0 to 255 twice, a clock and 4,824 bytes of room
+abbrev pub callingOn : List ℕ → List ℕ → ℕ → Call
+callingOn t request clock = record { request = request; table = t; strip = countedFrom 0 512; clock = clock; output = replicate 4824 0 }
+
+-- on a blank table
+abbrev pub calling : List ℕ → ℕ → Call
+calling request clock = callingOn (blank placeCount) request clock
+
+pub lent-on : (t request : List ℕ) (clock : ℕ) → all isByte t ≡ true → all isByte request ≡ true → clock < 2 ^ 64 → Lent (callingOn t request clock)
+unfolding opened isByte
+lent-on t request clock b r h = record {
+  request = bytes-test request r;
+  table = bytes-test t b;
+  strip = bytes-test (countedFrom 0 512) refl;
+  output = bytes-test (replicate 4824 0) refl;
+  clock = h;
+}
+
+pub lent-blank : (request : List ℕ) (clock : ℕ) → all isByte request ≡ true → clock < 2 ^ 64 → Lent (calling request clock)
+unfolding opened isByte
+lent-blank request clock r h = lent-on (blank placeCount) request clock refl r h
+
+-- where no refusal is due, each box does what it does where a request is accepted
+pub accepted-is : (c : Call) (e : Effect) → lowest 1 (refusalConditions c) ≡ 0 → e ≡ orRefused c e
+unfolding orRefused
+accepted-is c e h = sym (ifb-true _ e _ (ap (λ (k : ℕ). eqb k 0) h))
+
+-- ---- the life of a key: five items under Continue
+
+pub lent-life : (clock : ℕ) → clock < 2 ^ 64 → Lent (calling lifeRequest clock)
+unfolding opened isByte
+lent-life clock h = lent-blank lifeRequest clock refl h
+
+pub life-accepted : (clock : ℕ) → lowest 1 (refusalConditions (calling lifeRequest clock)) ≡ 0
+unfolding opened frameOf ofFrame refusalConditions lowest
+life-accepted clock = refl
+
+-- ---- grants of 60 and 40 of 100
+
+abbrev pub grantCall : Call
+grantCall = calling grantRequest 0
+
+pub lent-grant : Lent grantCall
+unfolding opened isByte
+lent-grant = lent-blank grantRequest 0 refl (lit< tt)
+
+pub grant-accepted : lowest 1 (refusalConditions grantCall) ≡ 0
+unfolding opened frameOf ofFrame refusalConditions lowest
+grant-accepted = refl
+
+-- ---- two keys
+
+abbrev pub pairCall : Call
+pairCall = calling lastRequest 0
+
+pub lent-pair : Lent pairCall
+unfolding opened isByte
+lent-pair = lent-blank lastRequest 0 refl (lit< tt)
+
+pub pair-accepted : lowest 1 (refusalConditions pairCall) ≡ 0
+unfolding opened frameOf ofFrame refusalConditions lowest
+pair-accepted = refl
+
+-- ---- a Create that fails, and one that would not, under Stop
+
+-- no option: a Create of 129 bits, then a Create of 128
+unfoldable pub pastRequest : List ℕ
+pastRequest = hex "42007801 00000110 42007701 00000038 42006901 00000020 42006A02 00000004 00000002 00000000 42006B02 00000004 00000001 00000000 42000D02 00000004 00000002 00000000 42000F01 00000060 42005C05 00000004 00000001 00000000 42007901 00000048 42005705 00000004 00000002 00000000 42012501 00000030 42002805 00000004 00000003 00000000 42002A02 00000004 00000081 00000000 42002C02 00000004 00000004 00000000 42000F01 00000060 42005C05 00000004 00000001 00000000 42007901 00000048 42005705 00000004 00000002 00000000 42012501 00000030 42002805 00000004 00000003 00000000 42002A02 00000004 00000080 00000000 42002C02 00000004 00000004 00000000"
+
+abbrev pub pastCall : Call
+pastCall = calling pastRequest 0
+
+pub lent-past : Lent pastCall
+unfolding opened isByte pastRequest
+lent-past = lent-blank pastRequest 0 refl (lit< tt)
+
+pub past-accepted : lowest 1 (refusalConditions pastCall) ≡ 0
+unfolding opened pastRequest frameOf ofFrame refusalConditions lowest
+past-accepted = refl

@@ -1,0 +1,118 @@
+-- Boxes that 00 warns of and that demand 3 shuts out: more is granted than the total, or units go to an identifier whose place was taken.
+-- Assumes nothing. The first is refuted by a run that is worked out, the second for every box that does it.
+use Prim.Native.Nat.{ℕ, _+_}
+use native.Mathlib.Omega.{arith}
+use mathlib.Core.Path.{_≡_, refl, sym, ap, subst, _∙_}
+use mathlib.Core.Bool.{Bool, true, false, not, true≢false}
+use mathlib.Core.List.{List, [], _∷_}
+use lib.Dec.{eqb, lit<}
+use borrow.Author.Tests.{eq-eqb}
+use Rattle.octets.proofs.Bools.{and-l}
+use Rattle.table.specs.Layout.{placeCount}
+use Rattle.table.specs.Records.{placeAt, serialAt}
+use Rattle.search.specs.Search.{newPlace}
+use Rattle.soundness.proofs.SoundIs.{sound-is}
+use Rattle.payload.specs.declared.Command.{Command}
+use Rattle.payload.specs.declared.Command.the-variants.{Unsupported, Invalid, Create, Rekey, GetUsageAllocation, Activate, Revoke, Destroy, GetAttributes}
+use Rattle.act.specs.declared.Outcome.{Outcome}
+use Rattle.engine.specs.Effects.{Effect}
+use Rattle.demands.specs.Box.{Call, Box}
+use Rattle.demands.specs.Log.{Event, commandOf, heldAfter, paired, itemsOf, answersOf, eventsOf, onto, logged, issuedBy, issued, grantBy, granted, limitBy, limit}
+use Rattle.demands.specs.Demand3.{begins, calls, Stands, isAt, takes, Tame, InOrder, Path, went, Demand3}
+use Rattle.wrong_boxes.specs.Wrong.{withTable, refilled, InventsCount, GrantsTaken}
+use Rattle.cases.proofs.Cases.{opened}
+use Rattle.demands.proofs.Ladder.{served}
+use Rattle.demands.proofs.Logged.{granted-more, issued-now, issued-before}
+use Rattle.demands.proofs.Follows.{Gone, path-gone, in-order}
+use Rattle.wrong_boxes.proofs.Calling.{accepted-is, grantCall, lent-grant, grant-accepted}
+
+-- ---- an invented usage count
+
+-- what that box leaves
+invented : Effect
+invented = withTable refilled (served grantCall)
+
+-- what the log says of identifier 1 behind a call on a blank table, and what the record at place 0 says
+record Sums : Type 0 where
+  pub serial : ℕ
+  pub spent : ℕ
+  pub begun : ℕ
+
+sums : List Event → List ℕ → Sums
+sums log t = record { serial = serialAt t 0; spent = granted 1 log + placeAt placeCount t 0 .count; begun = limit 1 log }
+
+sumsOf : Call → Effect → Sums
+sumsOf c e = sums (logged c e []) (e .table)
+
+-- 60 and 40 are granted of 100, and the count says 100
+two-hundred : sumsOf grantCall invented ≡ record { serial = 1; spent = 200; begun = 100 }
+unfolding opened invented withTable refilled sumsOf sums logged onto eventsOf paired heldAfter itemsOf answersOf granted grantBy limit limitBy issuedBy
+two-hundred = refl
+
+pub invents-count : Demand3 InventsCount → ⊥
+unfolding invented sumsOf sums
+invents-count d =
+    let r = calls grantCall invented begins refl lent-grant (accepted-is grantCall invented grant-accepted) in
+    let b = in-order InventsCount d r .balance 1 0 (λ z. omega arith) (record { below = lit< tt; serial = ap (λ (s : Sums). s .serial) two-hundred }) in
+    let z : _≡_ {A = ℕ} 200 100 = sym (ap (λ (s : Sums). s .spent) two-hundred) ∙ b ∙ ap (λ (s : Sums). s .begun) two-hundred in
+    omega arith
+
+-- ---- units in the batch in which the place was taken
+
+-- an item that issues grants nothing
+issue-grants : (x : ℕ) (c : Command) (o : Outcome) → (issuedBy c o ≡ 0 → ⊥) → grantBy x c o ≡ 0
+unfolding issuedBy grantBy
+issue-grants x Unsupported o h = refl
+issue-grants x Invalid o h = refl
+issue-grants x (Create wanted) o h = refl
+issue-grants x (Rekey target) o h = refl
+issue-grants x (GetUsageAllocation target amount) o h = absurd (h refl)
+issue-grants x (Activate target) o h = refl
+issue-grants x (Revoke target code) o h = refl
+issue-grants x (Destroy target) o h = refl
+issue-grants x (GetAttributes target) o h = refl
+
+-- whoever stood at a place that is taken is gone
+module _ (log : List Event) (t u : List ℕ) (ev : Event) (tame : Tame ev t u) (before : InOrder log t) (after : InOrder (ev ∷ log) u)
+    (x i : ℕ) (z : x ≡ 0 → ⊥) (s : Stands x t i) (taken : takes ev t i ≡ true) where
+  abbrev new : ℕ
+  new = issuedBy (commandOf ev) (ev .answer .outcome)
+
+  issues : new ≡ 0 → ⊥
+  issues e = true≢false (sym (and-l (not (eqb new 0)) (isAt i (newPlace placeCount t)) taken) ∙ ap not (eq-eqb new 0 e))
+
+  once : issued x log ≡ 1
+  once = before .known x i z s
+
+  not-anew : new ≡ x → ⊥
+  not-anew e = omega (arith, issued-now x ev log e, after .once x z, once)
+
+  -- the place that is taken is the only one that had its serial
+  elsewhere : (j : ℕ) → Stands x u j → (b : Bool) → takes ev t j ≡ b → ⊥
+  elsewhere j r true e = not-anew (sym (tame .taken j (r .below) e .serial) ∙ r .serial)
+  elsewhere j r false e =
+      let same : serialAt t j ≡ x = sym (tame .kept j (r .below) e) ∙ r .serial in
+      let q : j ≡ i = sound-is placeCount t (before .stays-sound) .distinct j i (r .below) (s .below) (λ k. z (sym same ∙ k)) (same ∙ sym (s .serial)) in
+      true≢false (sym taken ∙ ap (takes ev t) (sym q) ∙ e)
+
+  taken-gone : Gone x (granted x log) (ev ∷ log) u
+  taken-gone = record {
+    once = omega (arith, issued-before x ev log not-anew, once);
+    away = λ j r. elsewhere j r (takes ev t j) refl;
+    same = omega (arith, granted-more x ev log, issue-grants x (commandOf ev) (ev .answer .outcome) issues);
+  }
+
+-- so it has the same units behind the whole call
+path-taken : (log events : List Event) (t v : List ℕ) (ev : Event) (x i : ℕ) → InOrder log t → Path log t (ev ∷ events) v → (x ≡ 0 → ⊥) → Stands x t i → takes ev t i ≡ true
+    → granted x (onto (ev ∷ events) log) ≡ granted x log
+unfolding onto
+path-taken log events t v ev x i before (went _ u tame after rest) z s taken = path-gone x (granted x log) z rest (taken-gone log t u ev tame before after x i z s taken) .same
+
+-- no box that grants units in such a batch meets demand 3
+pub grants-taken : (B : Box) → GrantsTaken B → Demand3 B → ⊥
+unfolding logged
+grants-taken B g d =
+    g .more (subst (λ (events : List Event). granted (g .x) (onto events (g .log)) ≡ granted (g .x) (g .log)) (sym (g .events-are))
+    (path-taken (g .log) (g .later) (g .t) (g .e .table) (g .taker) (g .x) (g .i) (in-order B d (g .run))
+    (subst (λ (events : List Event). Path (g .log) (g .t) events (g .e .table)) (g .events-are) (d .path (g .log) (g .t) (g .run) (g .c) (g .e) (g .same) (g .lent) (g .left)))
+    (g .known) (g .stood) (g .taken)))

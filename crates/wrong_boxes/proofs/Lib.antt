@@ -1,0 +1,7 @@
+-- What shuts each wrong box out, and which demands it meets.
+-- Assumes nothing.
+pub mod Calling
+pub mod Harmless
+pub mod Answering
+pub mod Granting
+pub mod Waking

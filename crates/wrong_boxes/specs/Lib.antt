@@ -1,0 +1,3 @@
+-- The boxes that 00 and 01 warn of.
+-- Assumes nothing.
+pub mod Wrong

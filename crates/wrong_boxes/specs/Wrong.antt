@@ -1,0 +1,149 @@
+-- Boxes that 01 warns of. All but the first refuse as they should, and are wrong where a request is accepted.
+-- Each is shown to break the demand that is named above it; which demands it meets is said where that is shown.
+-- Assumes nothing.
+use Prim.Native.Nat.{ℕ}
+use mathlib.Core.Path.{_≡_}
+use mathlib.Core.Bool.{true}
+use mathlib.Core.Option.{Option, none, some}
+use mathlib.Core.List.{List, [], _∷_, map}
+use lib.ListN.{length, take}
+use lib.Dec.{eqb}
+use Rattle.octets.specs.If.{ifb}
+use Rattle.octets.specs.Octets.{over}
+use Rattle.table.specs.declared.Record.{Record}
+use Rattle.table.specs.Records.{stateAt, withPlace}
+use Rattle.rules.specs.declared.Reason.the-variants.{InvalidField}
+use Rattle.rules.specs.Numbers.{active, destroyed}
+use Rattle.changes.specs.Records.{inState, withCount}
+use Rattle.ttlv.specs.Items.{encode}
+use Rattle.frame.specs.Frame.{Asked, Frame, optionOf, continue}
+use Rattle.act.specs.declared.Outcome.the-variants.{Failed}
+use Rattle.answer.specs.Respond.{Answer, respond}
+use Rattle.engine.specs.Effects.{Effect}
+use Rattle.engine.specs.Batch.{Ran, running}
+use Rattle.engine.specs.Serving.{turnedAway, serving}
+use Rattle.demands.specs.Box.{Call, Box, Lent, placesIn, recordIn}
+use Rattle.demands.specs.Demand2.{frameOf, refusalConditions, lowest}
+use Rattle.demands.specs.Log.{Event, eventsOf, logged, granted}
+use Rattle.demands.specs.Demand3.{Run, Stands, takes}
+
+-- ---- what they do
+
+-- the refusal that is due, or else what the box does
+unfoldable pub orRefused : Call → Effect → Effect
+orRefused c e = ifb (eqb (lowest 1 (refusalConditions c)) 0) e (turnedAway (c .table) (c .output) (lowest 1 (refusalConditions c)))
+
+-- what a call should leave
+abbrev pub rightly : Call → Effect
+rightly c = serving (c .request) (c .table) (c .strip) (c .clock) (c .output)
+
+-- these answers, and this table
+abbrev pub responding : Call → List Answer → List ℕ → Effect
+responding c answers t = record {
+  number = 0;
+  length = length (encode (respond (record { clock = c .clock; answers = answers })));
+  table = t;
+  output = over (encode (respond (record { clock = c .clock; answers = answers }))) (c .output);
+}
+
+-- the batch of a call, run under an option
+unfoldable pub ranUnder : (ℕ → ℕ) → Call → Option Frame → Ran
+ranUnder option c none = record { answers = []; table = c .table }
+ranUnder option c (some f) = running (placesIn (c .table)) (c .clock) (c .strip) (c .table) (record { option = option (optionOf (f .header .option)); items = f .items })
+
+-- an outcome with another table
+unfoldable pub withTable : (List ℕ → List ℕ) → Effect → Effect
+withTable change e = record { number = e .number; length = e .length; table = change (e .table); output = e .output }
+
+-- a box that answers as it should, and leaves the table that is made of the call and of the table that it should leave. It meets demand 1
+abbrev pub Leaves : (Call → List ℕ → List ℕ) → Box
+Leaves made c e = e ≡ orRefused c (withTable (made c) (rightly c))
+
+-- ---- boxes that demand 2 shuts out
+
+-- "a box that refuses everything": number 1, whatever comes. It meets demands 1 and 3
+abbrev pub RefusesAll : Box
+RefusesAll c e = e ≡ turnedAway (c .table) (c .output) 1
+
+-- a box that "does nothing": it says that it answered, and leaves everything as it was. It meets demands 1 and 3
+abbrev pub DoesNothing : Box
+DoesNothing c e = e ≡ orRefused c (turnedAway (c .table) (c .output) 0)
+
+-- "due items must succeed and alter the record": it answers as it should, and leaves the table as it was
+abbrev pub LeavesTable : Box
+LeavesTable = Leaves (λ c due. c .table)
+
+-- an item that is failed, whatever it asks for
+abbrev pub failedAnswer : Asked → Answer
+failedAnswer asked = record { operation = asked .operation; id = asked .id; outcome = Failed InvalidField }
+
+-- every item failed: all under Continue, the first alone under Stop
+unfoldable pub allFailed : Option Frame → List Answer
+allFailed none = []
+allFailed (some f) = ifb (eqb (optionOf (f .header .option)) continue) (map failedAnswer (f .items)) (take 1 (map failedAnswer (f .items)))
+
+-- a box that fails every item
+abbrev pub FailsAll : Box
+FailsAll c e = e ≡ orRefused c (responding c (allFailed (frameOf c)) (c .table))
+
+-- "One answer for all": the same bytes for every accepted request, whatever it does to the table
+abbrev pub OneAnswer : List ℕ → (Call → List ℕ) → Box
+OneAnswer bytes tableOf c e = e ≡ orRefused c (record { number = 0; length = length bytes; table = tableOf c; output = over bytes (c .output) })
+
+-- "A box that executes the whole batch at its first item and answers that one alone"
+abbrev pub AnswersFirst : Box
+AnswersFirst c e = e ≡ orRefused c (responding c (take 1 (ranUnder (λ option. option) c (frameOf c) .answers)) (ranUnder (λ option. option) c (frameOf c) .table))
+
+-- "under Stop the table shows nothing past a failure": it runs every item, and answers as under Stop
+abbrev pub RunsPastStop : Box
+RunsPastStop = Leaves (λ c due. ranUnder (λ option. continue) c (frameOf c) .table)
+
+-- the record with the material of another
+unfoldable pub withMaterialOf : Record → Record → Record
+withMaterialOf other r = inState (r .state) (other .material) r
+
+-- a box that leaves the key at place 0 with the material of the key at place 1
+abbrev pub SharesMaterial : Box
+SharesMaterial = Leaves (λ c due. withPlace (placesIn due) due 0 (withMaterialOf (recordIn due 1) (recordIn due 0)))
+
+-- ---- boxes that demand 3 shuts out
+
+-- "an invented usage count": it answers as it should, and fills the count of place 0 up again
+unfoldable pub refilled : List ℕ → List ℕ
+refilled t = withPlace (placesIn t) t 0 (withCount (recordIn t 0 .total) (recordIn t 0))
+
+abbrev pub InventsCount : Box
+InventsCount = Leaves (λ c due. refilled due)
+
+-- a box that grants units in the batch in which the place was taken: at a point of a run, x stands at place i, the first item of a call takes that place,
+-- and behind the call x has other units than before
+pub record GrantsTaken (B : Box) : Type 0 where
+  pub log : List Event
+  pub t : List ℕ
+  pub run : Run B log t
+  pub c : Call
+  pub e : Effect
+  pub same : c .table ≡ t
+  pub lent : Lent c
+  pub left : B c e
+  pub taker : Event
+  pub later : List Event
+  pub events-are : eventsOf c e ≡ taker ∷ later
+  pub x : ℕ
+  pub i : ℕ
+  pub known : x ≡ 0 → ⊥
+  pub stood : Stands x t i
+  pub taken : takes taker t i ≡ true
+  pub more : granted x (logged c e log) ≡ granted x log → ⊥
+
+-- the key at place 0 made Active
+unfoldable pub woken : List ℕ → List ℕ
+woken t = withPlace (placesIn t) t 0 (inState active (recordIn t 0 .material) (recordIn t 0))
+
+-- "wakes a destroyed key": where place 0 was in state 5 before the call, it is Active after it
+abbrev pub Wakes : Box
+Wakes = Leaves (λ c due. ifb (eqb (stateAt (c .table) 0) destroyed) (woken due) due)
+
+-- it answers that a key is destroyed, and leaves it Active: where place 0 should be left in state 5, it is Active
+abbrev pub LeavesAlive : Box
+LeavesAlive = Leaves (λ c due. ifb (eqb (stateAt due 0) destroyed) (woken due) due)
