@@ -1,22 +1,7 @@
-/* Junctionmoth: the engine of a key box, KMIP 2.1 (TTLV). One request in, one response out, a lent table changed.
+/* Junctionmoth: the engine of a key box, KMIP 2.1 (TTLV).
  *
- * The buffers are lent for the time of the call and must be apart: request, table, fresh, out and len may not overlap.
- *
- *   request, request_len   any bytes; a request has 1 to 4,096
- *   table, table_len       the stored table, 4,624 bytes. A blank one is all zero but byte 7, which is 64. The host keeps it: whoever loses it loses
- *                          the keys, and whoever brings an old one back brings back what was destroyed or granted since. Nobody else may write to it.
- *   fresh, fresh_len       512 bytes from a random source, new for every call; they become key material
- *   clock                  POSIX seconds; any value is taken and written as the response's Time Stamp
- *   out, out_len           room for the response, at least 4,824 bytes
- *   len                    set to the length of the response, or to 0
- *
- * Returns 0 if the request was answered: the response is the first *len bytes of out, bytes past it are as they were, and table is changed as the answers say.
- * Otherwise returns the lowest refusal that applies; then *len is 0 and table and out are as they were, byte for byte:
- *   1 room below 4,824 bytes       4 request empty or above 4,096 bytes   7 version not 2.1
- *   2 fresh not 512 bytes          5 TTLV malformed                       8 Batch Count not 1 to 16, or not the number of items
- *   3 table not 4,624 or unsound   6 frame wrong                          9 option not 1 or 2
- *
- * It always returns, allocates nothing and keeps nothing between calls.
+ * One request in, one response out, a lent table changed. It is for x86-64 with the System V calling
+ * convention (Linux): link libjunctionmoth.a. C99 or newer, or C++.
  */
 #ifndef JUNCTIONMOTH_H
 #define JUNCTIONMOTH_H
@@ -24,16 +9,94 @@
 #include <stddef.h>
 #include <stdint.h>
 
+/* The number of places of a table: keys that it holds at one time. */
+#define JUNCTIONMOTH_PLACES 64
+
+/* Bytes of the stored table. */
+#define JUNCTIONMOTH_TABLE_SIZE 4624
+
+/* Bytes of output room that no response exceeds; a call with less is refused. */
+#define JUNCTIONMOTH_ROOM_LEAST 4824
+
+/* Bytes of the fresh strip. */
+#define JUNCTIONMOTH_STRIP_SIZE 512
+
+/* Bytes of the longest request that is read. */
+#define JUNCTIONMOTH_REQUEST_MOST 4096
+
+/* What a call returns: 0, or why the request was turned away. Where several apply, the lowest. */
+enum junctionmoth_refusal {
+    JUNCTIONMOTH_ANSWERED = 0,
+    JUNCTIONMOTH_REFUSED_ROOM = 1,      /* room below JUNCTIONMOTH_ROOM_LEAST */
+    JUNCTIONMOTH_REFUSED_STRIP = 2,     /* strip not of JUNCTIONMOTH_STRIP_SIZE bytes */
+    JUNCTIONMOTH_REFUSED_TABLE = 3,     /* table not of JUNCTIONMOTH_TABLE_SIZE bytes, or unsound */
+    JUNCTIONMOTH_REFUSED_SIZE = 4,      /* request empty or above JUNCTIONMOTH_REQUEST_MOST bytes */
+    JUNCTIONMOTH_REFUSED_MALFORMED = 5, /* TTLV malformed */
+    JUNCTIONMOTH_REFUSED_FRAME = 6,     /* message frame wrong */
+    JUNCTIONMOTH_REFUSED_VERSION = 7,   /* protocol version not 2.1 */
+    JUNCTIONMOTH_REFUSED_COUNT = 8,     /* Batch Count not 1 to 16, or not the number of items */
+    JUNCTIONMOTH_REFUSED_OPTION = 9     /* Batch Error Continuation Option neither 1 nor 2 */
+};
+
+/* C99's restrict; C++ has none. */
+#if defined(__cplusplus)
+#define JUNCTIONMOTH_RESTRICT
+#else
+#define JUNCTIONMOTH_RESTRICT restrict
+#endif
+
 #ifdef __cplusplus
 extern "C" {
 #endif
 
-uint32_t junctionmoth_serve(const uint8_t *request, size_t request_len,
-                            uint8_t *table, size_t table_len,
-                            const uint8_t *fresh, size_t fresh_len,
+/* Makes a blank table: all zero but the place count. A host does this once, when a box is set up. */
+static inline void junctionmoth_blank(uint8_t table[JUNCTIONMOTH_TABLE_SIZE])
+{
+    size_t i;
+    for (i = 0; i < JUNCTIONMOTH_TABLE_SIZE; i++) {
+        table[i] = 0;
+    }
+    table[7] = JUNCTIONMOTH_PLACES;
+}
+
+/* Serves one request.
+ *
+ * request, request_len
+ *     Any bytes, which are only read. A request has 1 to JUNCTIONMOTH_REQUEST_MOST.
+ * table, table_len
+ *     The stored table, JUNCTIONMOTH_TABLE_SIZE bytes. The host keeps it: whoever loses it loses the
+ *     keys, and whoever brings an old one back brings back what was destroyed or granted since.
+ *     Nobody else may write to it.
+ * strip, strip_len
+ *     JUNCTIONMOTH_STRIP_SIZE bytes from a random source, new for every call; they become key
+ *     material, so the host wipes them after the call. They are only read.
+ * clock
+ *     POSIX seconds. Any value is taken and written as the response's Time Stamp.
+ * out, out_len
+ *     Room for the response, JUNCTIONMOTH_ROOM_LEAST bytes or more.
+ * response_len
+ *     Set to the length of the response, or to 0. Never NULL.
+ *
+ * Returns JUNCTIONMOTH_ANSWERED if the request was answered: the response is the first *response_len
+ * bytes of out, the bytes past it are as they were, and the table is changed as the answers say. Store
+ * the table before the response is sent. Otherwise returns a refusal: *response_len is 0, and table and
+ * out are as they were, byte for byte.
+ *
+ * Any lengths may be given; each has to be that of its buffer. A buffer of length 0 may be NULL: the
+ * call looks at no byte of it. The buffers are lent for the time of the call and must be apart: no two
+ * of request, table, strip, out and response_len may overlap.
+ *
+ * It always returns. It allocates nothing, calls nothing of the C library and keeps nothing between
+ * calls, so threads may call it at the same time on different tables. It takes less than
+ * 8 KB of stack, and does not wipe what it used there: material of keys that were looked at or made can
+ * be left on the stack, and is the host's to wipe.
+ */
+uint32_t junctionmoth_serve(const uint8_t *JUNCTIONMOTH_RESTRICT request, size_t request_len,
+                            uint8_t *JUNCTIONMOTH_RESTRICT table, size_t table_len,
+                            const uint8_t *JUNCTIONMOTH_RESTRICT strip, size_t strip_len,
                             int64_t clock,
-                            uint8_t *out, size_t out_len,
-                            uint64_t *len);
+                            uint8_t *JUNCTIONMOTH_RESTRICT out, size_t out_len,
+                            size_t *JUNCTIONMOTH_RESTRICT response_len);
 
 #ifdef __cplusplus
 }

@@ -25,6 +25,19 @@ pub enum Outcome {
     Failed(Reason),
 }
 
+/// What an operation makes of states 1 to 6, in this order.
+type Moves = [Result<u8, Reason>; 6];
+
+const STUCK: Result<u8, Reason> = Err(Reason::WrongKeyLifecycleState);
+const GONE: Result<u8, Reason> = Err(Reason::ObjectDestroyed);
+
+const ACTIVATE: Moves = [Ok(2), STUCK, STUCK, STUCK, STUCK, STUCK];
+/// Revoke with codes 2 and 3.
+const COMPROMISE: Moves = [Ok(4), Ok(4), Ok(4), STUCK, Ok(6), STUCK];
+/// Revoke with the other codes.
+const REVOKE: Moves = [STUCK, Ok(3), STUCK, STUCK, STUCK, STUCK];
+const DESTROY: Moves = [Ok(5), STUCK, Ok(5), Ok(6), GONE, GONE];
+
 /// One request at work: the table, the fresh strip in parts, and the placeholder (0 if empty).
 pub struct Session<'a> {
     table: Table<'a>,
@@ -55,9 +68,10 @@ impl<'a> Session<'a> {
             Order::Create(wanted) => self.create(wanted, fresh),
             Order::Rekey(target) => self.rekey(target, fresh),
             Order::Allocate(target, amount) => self.allocate(target, amount),
-            Order::Activate(target) => self.change_state(target, activated),
-            Order::Revoke(target, code) => self.change_state(target, |state| revoked(state, code)),
-            Order::Destroy(target) => self.change_state(target, destroyed),
+            Order::Activate(target) => self.change_state(target, &ACTIVATE),
+            Order::Revoke(target, 2 | 3) => self.change_state(target, &COMPROMISE),
+            Order::Revoke(target, _) => self.change_state(target, &REVOKE),
+            Order::Destroy(target) => self.change_state(target, &DESTROY),
             Order::Attributes(target) => {
                 let (place, line) = self.find(target)?;
                 Ok(Outcome::Described(line, self.table.usage(place)))
@@ -119,10 +133,10 @@ impl<'a> Session<'a> {
         Ok(Outcome::Named(line.serial))
     }
 
-    /// Moves a record to the state that `next` gives; a destroyed one loses its material.
-    fn change_state(&mut self, target: Target, next: impl FnOnce(u8) -> Result<u8, Reason>) -> Result<Outcome, Reason> {
+    /// Moves a record to the state that stands for its own in `moves`; a destroyed one loses its material.
+    fn change_state(&mut self, target: Target, moves: &Moves) -> Result<Outcome, Reason> {
         let (place, line) = self.find(target)?;
-        let state = next(line.state)?;
+        let state = moves[usize::from(line.state - 1)]?;
         self.table.set_line(place, Line { state, ..line });
         if matches!(state, 5 | 6) {
             self.table.clear_material(place);
@@ -142,29 +156,4 @@ fn serial_of(text: &[u8]) -> Option<u32> {
         };
         Some(serial << 4 | u32::from(value))
     })
-}
-
-fn activated(state: u8) -> Result<u8, Reason> {
-    match state {
-        1 => Ok(2),
-        _ => Err(Reason::WrongKeyLifecycleState),
-    }
-}
-
-fn revoked(state: u8, code: u32) -> Result<u8, Reason> {
-    match (code, state) {
-        (2 | 3, 1..=3) => Ok(4),
-        (2 | 3, 5) => Ok(6),
-        (1 | 4..=7, 2) => Ok(3),
-        _ => Err(Reason::WrongKeyLifecycleState),
-    }
-}
-
-fn destroyed(state: u8) -> Result<u8, Reason> {
-    match state {
-        1 | 3 => Ok(5),
-        4 => Ok(6),
-        2 => Err(Reason::WrongKeyLifecycleState),
-        _ => Err(Reason::ObjectDestroyed),
-    }
 }
