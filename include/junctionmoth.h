@@ -86,10 +86,10 @@ static inline void junctionmoth_blank(uint8_t table[JUNCTIONMOTH_TABLE_SIZE])
  * call looks at no byte of it. The buffers are lent for the time of the call and must be apart: no two
  * of request, table, strip, out and response_len may overlap.
  *
- * It always returns. It allocates nothing, calls nothing of the C library and keeps nothing between
- * calls, so threads may call it at the same time on different tables. It takes less than
- * 8 KB of stack, and does not wipe what it used there: material of keys that were looked at or made can
- * be left on the stack, and is the host's to wipe.
+ * It always returns. It allocates nothing, needs memcpy and memset and nothing else of the C library,
+ * and keeps nothing between calls, so threads may call it at the same time on different tables. It
+ * takes less than 4 KB of stack and does not wipe what it used there: material of keys that were
+ * looked at or made can be left on the stack, and is the host's to wipe.
  */
 uint32_t junctionmoth_serve(const uint8_t *JUNCTIONMOTH_RESTRICT request, size_t request_len,
                             uint8_t *JUNCTIONMOTH_RESTRICT table, size_t table_len,

@@ -1,0 +1,164 @@
+/* The header as a C host uses it: its sizes, names and blank table against what the linked engine does.
+ * Prints each check that fails, and ends with 0 if none did. The calls are those that the header's words are about. */
+#include "junctionmoth.h"
+
+#include <stdio.h>
+#include <string.h>
+
+#define ROOM (JUNCTIONMOTH_ROOM_LEAST + 8)
+
+/* Create: AES, 128 bits, mask Encrypt. */
+static const uint8_t sample[176] = {
+    0x42, 0x00, 0x78, 0x01, 0, 0, 0, 0xA8, 0x42, 0x00, 0x77, 0x01, 0, 0, 0, 0x38,
+    0x42, 0x00, 0x69, 0x01, 0, 0, 0, 0x20, 0x42, 0x00, 0x6A, 0x02, 0, 0, 0, 0x04,
+    0, 0, 0, 0x02, 0, 0, 0, 0, 0x42, 0x00, 0x6B, 0x02, 0, 0, 0, 0x04,
+    0, 0, 0, 0x01, 0, 0, 0, 0, 0x42, 0x00, 0x0D, 0x02, 0, 0, 0, 0x04,
+    0, 0, 0, 0x01, 0, 0, 0, 0, 0x42, 0x00, 0x0F, 0x01, 0, 0, 0, 0x60,
+    0x42, 0x00, 0x5C, 0x05, 0, 0, 0, 0x04, 0, 0, 0, 0x01, 0, 0, 0, 0,
+    0x42, 0x00, 0x79, 0x01, 0, 0, 0, 0x48, 0x42, 0x00, 0x57, 0x05, 0, 0, 0, 0x04,
+    0, 0, 0, 0x02, 0, 0, 0, 0, 0x42, 0x01, 0x25, 0x01, 0, 0, 0, 0x30,
+    0x42, 0x00, 0x28, 0x05, 0, 0, 0, 0x04, 0, 0, 0, 0x03, 0, 0, 0, 0,
+    0x42, 0x00, 0x2A, 0x02, 0, 0, 0, 0x04, 0, 0, 0, 0x80, 0, 0, 0, 0,
+    0x42, 0x00, 0x2C, 0x02, 0, 0, 0, 0x04, 0, 0, 0, 0x04, 0, 0, 0, 0,
+};
+
+static uint8_t request[JUNCTIONMOTH_REQUEST_MOST + 1];
+static uint8_t table[JUNCTIONMOTH_TABLE_SIZE + 1];
+static uint8_t strip[JUNCTIONMOTH_STRIP_SIZE + 1];
+static uint8_t out[ROOM];
+static uint8_t table_before[sizeof table];
+static uint8_t out_before[sizeof out];
+static size_t length;
+static int failures;
+
+static void expect(int holds, const char *what)
+{
+    if (!holds) {
+        printf("failed: %s\n", what);
+        failures++;
+    }
+}
+
+/* Every buffer as it is before a call: a blank table, the sample, output that is not zero. */
+static void lay_out(void)
+{
+    size_t i;
+    memset(request, 0, sizeof request);
+    memcpy(request, sample, sizeof sample);
+    memset(table, 0xEE, sizeof table);
+    junctionmoth_blank(table);
+    for (i = 0; i < sizeof strip; i++) {
+        strip[i] = (uint8_t)(i + 1);
+    }
+    memset(out, 0x55, sizeof out);
+    memcpy(table_before, table, sizeof table);
+    memcpy(out_before, out, sizeof out);
+    length = 7;
+}
+
+static void expect_untouched(const char *what)
+{
+    expect(length == 0, what);
+    expect(memcmp(table, table_before, sizeof table) == 0, what);
+    expect(memcmp(out, out_before, sizeof out) == 0, what);
+}
+
+/* A call with these lengths is refused with this number. */
+static void refused(size_t asked, size_t stored, size_t fresh, size_t room, uint32_t number, const char *what)
+{
+    lay_out();
+    expect(junctionmoth_serve(request, asked, table, stored, strip, fresh, 1, out, room, &length) == number, what);
+    expect_untouched(what);
+}
+
+static void sizes(void)
+{
+    const size_t table_size = JUNCTIONMOTH_TABLE_SIZE;
+    const size_t strip_size = JUNCTIONMOTH_STRIP_SIZE;
+    const size_t room_least = JUNCTIONMOTH_ROOM_LEAST;
+    const size_t most = JUNCTIONMOTH_REQUEST_MOST;
+    refused(sizeof sample, table_size, strip_size, room_least - 1, JUNCTIONMOTH_REFUSED_ROOM, "room one short");
+    refused(sizeof sample, table_size, strip_size - 1, room_least, JUNCTIONMOTH_REFUSED_STRIP, "strip one short");
+    refused(sizeof sample, table_size, strip_size + 1, room_least, JUNCTIONMOTH_REFUSED_STRIP, "strip one long");
+    refused(sizeof sample, table_size - 1, strip_size, room_least, JUNCTIONMOTH_REFUSED_TABLE, "table one short");
+    refused(sizeof sample, table_size + 1, strip_size, room_least, JUNCTIONMOTH_REFUSED_TABLE, "table one long");
+    refused(0, table_size, strip_size, room_least, JUNCTIONMOTH_REFUSED_SIZE, "request empty");
+    refused(most + 1, table_size, strip_size, room_least, JUNCTIONMOTH_REFUSED_SIZE, "request one long");
+    refused(most, table_size, strip_size, room_least, JUNCTIONMOTH_REFUSED_MALFORMED, "request as long as may be");
+}
+
+/* The sample with one byte changed is refused with this number. */
+static void spoilt(size_t at, uint8_t byte, uint32_t number, const char *what)
+{
+    lay_out();
+    request[at] = byte;
+    expect(junctionmoth_serve(request, sizeof sample, table, JUNCTIONMOTH_TABLE_SIZE, strip, JUNCTIONMOTH_STRIP_SIZE, 1,
+                              out, sizeof out, &length) == number, what);
+    expect_untouched(what);
+}
+
+static void frames(void)
+{
+    spoilt(0, 0x43, JUNCTIONMOTH_REFUSED_MALFORMED, "tag of the message");
+    spoilt(10, 0x7A, JUNCTIONMOTH_REFUSED_FRAME, "tag of the header");
+    spoilt(35, 1, JUNCTIONMOTH_REFUSED_VERSION, "version 1.1");
+    spoilt(67, 2, JUNCTIONMOTH_REFUSED_COUNT, "count of 2");
+}
+
+/* Batch Error Continuation Option 3, in front of the Batch Count. */
+static void other_option(void)
+{
+    static const uint8_t option[16] = {0x42, 0x00, 0x0E, 0x05, 0, 0, 0, 4, 0, 0, 0, 3, 0, 0, 0, 0};
+    lay_out();
+    memmove(request + 72, request + 56, sizeof sample - 56);
+    memcpy(request + 56, option, sizeof option);
+    request[7] = 0xB8;
+    request[15] = 0x48;
+    expect(junctionmoth_serve(request, sizeof sample + sizeof option, table, JUNCTIONMOTH_TABLE_SIZE, strip,
+                              JUNCTIONMOTH_STRIP_SIZE, 1, out, sizeof out, &length) == JUNCTIONMOTH_REFUSED_OPTION,
+           "option 3");
+    expect_untouched("option 3");
+}
+
+/* "A buffer of length 0 may be NULL" */
+static void no_buffers(void)
+{
+    lay_out();
+    expect(junctionmoth_serve(NULL, 0, NULL, 0, NULL, 0, 1, NULL, 0, &length) == JUNCTIONMOTH_REFUSED_ROOM, "all NULL");
+    expect_untouched("all NULL");
+    lay_out();
+    expect(junctionmoth_serve(request, sizeof sample, table, JUNCTIONMOTH_TABLE_SIZE, NULL, 0, 1, out, sizeof out,
+                              &length) == JUNCTIONMOTH_REFUSED_STRIP, "no strip");
+    expect_untouched("no strip");
+    lay_out();
+    expect(junctionmoth_serve(request, sizeof sample, NULL, 0, strip, JUNCTIONMOTH_STRIP_SIZE, 1, out, sizeof out,
+                              &length) == JUNCTIONMOTH_REFUSED_TABLE, "no table");
+    expect_untouched("no table");
+    lay_out();
+    expect(junctionmoth_serve(NULL, 0, table, JUNCTIONMOTH_TABLE_SIZE, strip, JUNCTIONMOTH_STRIP_SIZE, 1, out,
+                              sizeof out, &length) == JUNCTIONMOTH_REFUSED_SIZE, "no request");
+    expect_untouched("no request");
+}
+
+static void answered(void)
+{
+    lay_out();
+    expect(junctionmoth_serve(request, sizeof sample, table, JUNCTIONMOTH_TABLE_SIZE, strip, JUNCTIONMOTH_STRIP_SIZE, 1,
+                              out, sizeof out, &length) == JUNCTIONMOTH_ANSWERED, "the sample is answered");
+    expect(length == 168, "its response has 168 bytes");
+    expect(memcmp(out + 160, "00000001", 8) == 0, "and ends with the new identifier");
+    expect(memcmp(out + 168, out_before + 168, sizeof out - 168) == 0, "output past it is as it was");
+    expect(table[3] == 1, "the last serial issued is 1");
+    expect(memcmp(table + 16 + 16 * JUNCTIONMOTH_PLACES + 24, strip, 16) == 0, "its material is the strip's front");
+    expect(table[JUNCTIONMOTH_TABLE_SIZE] == 0xEE, "nothing past the table is written");
+}
+
+int main(void)
+{
+    sizes();
+    frames();
+    other_option();
+    no_buffers();
+    answered();
+    return failures == 0 ? 0 : 1;
+}
