@@ -16,7 +16,7 @@ use Rattle.tags.specs.Tags.{tagOk}
 use Rattle.ttlv_types.specs.Types.{structure, padded, lengthOk}
 use Rattle.ttlv.specs.Items.{Items, nil, group, head, encode}
 use Rattle.ttlv.proofs.Back.{eights}
-use Rattle.ttlv_put.specs.Write.{item, numberItem, join, spelled, fits, valueFits, Wrote, WroteNumber, WroteValue, WroteHead, Holds}
+use Rattle.ttlv_put.specs.Write.{item, numberItem, join, spelled, fits, widthOk, valueFits, Wrote, WroteNumber, WroteValue, WroteHead, Holds}
 use Rattle.ttlv.proofs.Sizes.{length-head}
 use Rattle.ttlv_put.proofs.Sizes.{length-value, length-number, encode-join, encode-group}
 
@@ -41,7 +41,7 @@ holds-wrote h e l w = record { size = wrote-size h w ∙ e; bytes = wrote-bytes 
 pub holds-number : (width tag kind bits : ℕ) {room after : List ℕ} {r : ℕ} → tagOk tag ≡ true → 0 < width → width ≤ 8 → 16 ≤ length room
     → WroteNumber width tag kind bits room after r → Holds (encode (numberItem width tag kind bits)) room after r
 holds-number width tag kind bits {room} t h k l w =
-    let ok : (tagOk tag && fits room 16) ≡ true = rw (t, le-leb 16 (length room) l) in
+    let ok : (tagOk tag && (widthOk width && fits room 16)) ≡ true = rw (t, le-leb 1 width h, le-leb width 8 k, le-leb 16 (length room) l) in
     holds-wrote ok (sym (length-number width tag kind bits h k)) l w
 
 pub holds-value : (right : Bool) (tag kind : ℕ) (v : List ℕ) {room after : List ℕ} {r : ℕ} → tagOk tag ≡ true → right ≡ true → length v < 256 ^ 4 → 8 + padded (length v) ≤ length room

@@ -38,6 +38,10 @@ fits room size = leb size (length room)
 abbrev pub spelled : ℕ → Bool
 spelled n = ltb n (256 ^ 4)
 
+-- a number has 1 to 8 bytes
+abbrev pub widthOk : ℕ → Bool
+widthOk width = leb 1 width && leb width 8
+
 -- a value of n bytes has a length that can be spelled, and fits with its head and its padding
 abbrev pub valueFits : List ℕ → ℕ → Bool
 valueFits room n = spelled n && fits room (8 + padded n)
@@ -51,9 +55,9 @@ pub record Wrote (ok : Bool) (size : ℕ) (b room after : List ℕ) (r : ℕ) : 
   pub bytes : after ≡ ifb ok (over b room) room
   pub within : r ≤ length room
 
--- a number of 1 to 8 bytes, which takes 16 in all, if the tag is one
+-- a number of `width` bytes, which takes 16 in all, if these are 1 to 8 and the tag is one
 abbrev pub WroteNumber : ℕ → ℕ → ℕ → ℕ → List ℕ → List ℕ → ℕ → Type 0
-WroteNumber width tag kind bits room after r = Wrote (tagOk tag && fits room 16) 16 (encode (numberItem width tag kind bits)) room after r
+WroteNumber width tag kind bits room after r = Wrote (tagOk tag && (widthOk width && fits room 16)) 16 (encode (numberItem width tag kind bits)) room after r
 
 -- an item with the value v, if the tag is one and the type allows the value
 abbrev pub WroteValue : Bool → ℕ → ℕ → List ℕ → List ℕ → List ℕ → ℕ → Type 0

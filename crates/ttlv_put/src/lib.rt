@@ -1,5 +1,8 @@
-// The writer of one TTLV item of any type over the front of lent room: a number, a value of any length, the head of a structure. It knows nothing of keys.
-// Assumes nothing. A writer answers the bytes written, or 0 with the room as it was; so it does where the tag is none.
+// What the TTLV writers share: one item over the front of lent room, or the head of a structure.
+// Each answers the bytes written, or 0 with the room as it was; so it does where the tag is none.
+// `spell_number` and `spell_value` are inner parts and no writers for a host: they spell what they
+// are given, also where the type does not allow such a value and the item would not read back. The
+// writers of ttlv_write, one for each type, see to that.
 ghost use mathlib.Core.Path.{_≡_};
 ghost use mathlib.Core.Bool.{true};
 ghost use Prim.Native.Nat.{_≤_, _<_};
@@ -18,12 +21,17 @@ fn put_head(out: &mut [u8], tag: u32, kind: u8, n: usize)
     octets::put(out, 4, 4, n as u64);
 }
 
-// An item with a value of `width` bytes, which takes 16 in all. Each caller shows that these are 1 to 8.
-pub fn write_number(out: &mut [u8], tag: u32, kind: u8, width: usize, bits: u64) -> usize
-    requires { ⌜ (0 < width) × (width ≤ 8) ⌝ }
+// An item with a value of `width` bytes, 1 to 8 of them, which takes 16 in all.
+pub fn spell_number(out: &mut [u8], tag: u32, kind: u8, width: usize, bits: u64) -> usize
     ensures { λ r. ⌜ WroteNumber width tag kind bits (now (out .entry)) (now (out .exit)) r ⌝ }
 {
     if !tags::tag_ok(tag) {
+        return 0;
+    }
+    if width < 1 {
+        return 0;
+    }
+    if 8 < width {
         return 0;
     }
     if out.len() < 16 {
@@ -35,8 +43,8 @@ pub fn write_number(out: &mut [u8], tag: u32, kind: u8, width: usize, bits: u64)
     16
 }
 
-// An item with a value of any length. Each caller looks at whether its type allows the value.
-pub fn write_value(out: &mut [u8], tag: u32, kind: u8, s: &[u8]) -> usize
+// An item with a value of any length. The caller looks at whether the type allows the value.
+pub fn spell_value(out: &mut [u8], tag: u32, kind: u8, s: &[u8]) -> usize
     ensures { λ r. ⌜ WroteValue true tag kind (now (s .entry)) (now (out .entry)) (now (out .exit)) r ⌝ }
 {
     if !tags::tag_ok(tag) {
@@ -57,7 +65,8 @@ pub fn write_value(out: &mut [u8], tag: u32, kind: u8, s: &[u8]) -> usize
     end
 }
 
-// The head of a structure whose body has len bytes; the body stands behind it, or is written there next.
+// The head of a structure whose body has len bytes; the body stands behind it, or is written there
+// next.
 pub fn write_structure(out: &mut [u8], tag: u32, len: usize) -> usize
     ensures { λ r. ⌜ WroteHead tag len (now (out .entry)) (now (out .exit)) r ⌝ }
 {

@@ -10,42 +10,42 @@ ghost use Rattle.ttlv_write.specs.Writable.{bit};
 pub fn write_integer(out: &mut [u8], tag: u32, bits: u32) -> usize
     ensures { λ r. ⌜ WroteNumber 4 tag integer bits (now (out .entry)) (now (out .exit)) r ⌝ }
 {
-    ttlv_put::write_number(out, tag, ttlv_types::INTEGER, 4, bits as u64)
+    ttlv_put::spell_number(out, tag, ttlv_types::INTEGER, 4, bits as u64)
 }
 
 // The bits are the number of the choice.
 pub fn write_enumeration(out: &mut [u8], tag: u32, bits: u32) -> usize
     ensures { λ r. ⌜ WroteNumber 4 tag enumeration bits (now (out .entry)) (now (out .exit)) r ⌝ }
 {
-    ttlv_put::write_number(out, tag, ttlv_types::ENUMERATION, 4, bits as u64)
+    ttlv_put::spell_number(out, tag, ttlv_types::ENUMERATION, 4, bits as u64)
 }
 
 // The bits are the number of seconds.
 pub fn write_interval(out: &mut [u8], tag: u32, bits: u32) -> usize
     ensures { λ r. ⌜ WroteNumber 4 tag interval bits (now (out .entry)) (now (out .exit)) r ⌝ }
 {
-    ttlv_put::write_number(out, tag, ttlv_types::INTERVAL, 4, bits as u64)
+    ttlv_put::spell_number(out, tag, ttlv_types::INTERVAL, 4, bits as u64)
 }
 
 // The bits are those of the signed number, in two's complement.
 pub fn write_long(out: &mut [u8], tag: u32, bits: u64) -> usize
     ensures { λ r. ⌜ WroteNumber 8 tag longInteger bits (now (out .entry)) (now (out .exit)) r ⌝ }
 {
-    ttlv_put::write_number(out, tag, ttlv_types::LONG_INTEGER, 8, bits)
+    ttlv_put::spell_number(out, tag, ttlv_types::LONG_INTEGER, 8, bits)
 }
 
 // The bits are those of the signed number of seconds, in two's complement.
 pub fn write_date_time(out: &mut [u8], tag: u32, bits: u64) -> usize
     ensures { λ r. ⌜ WroteNumber 8 tag dateTime bits (now (out .entry)) (now (out .exit)) r ⌝ }
 {
-    ttlv_put::write_number(out, tag, ttlv_types::DATE_TIME, 8, bits)
+    ttlv_put::spell_number(out, tag, ttlv_types::DATE_TIME, 8, bits)
 }
 
 // The bits are those of the signed number of microseconds, in two's complement.
 pub fn write_date_time_extended(out: &mut [u8], tag: u32, bits: u64) -> usize
     ensures { λ r. ⌜ WroteNumber 8 tag dateTimeExtended bits (now (out .entry)) (now (out .exit)) r ⌝ }
 {
-    ttlv_put::write_number(out, tag, ttlv_types::DATE_TIME_EXTENDED, 8, bits)
+    ttlv_put::spell_number(out, tag, ttlv_types::DATE_TIME_EXTENDED, 8, bits)
 }
 
 // 1 for true, 0 for false.
@@ -53,16 +53,16 @@ pub fn write_boolean(out: &mut [u8], tag: u32, b: bool) -> usize
     ensures { λ r. ⌜ WroteNumber 8 tag boolean (bit b) (now (out .entry)) (now (out .exit)) r ⌝ }
 {
     if b {
-        return ttlv_put::write_number(out, tag, ttlv_types::BOOLEAN, 8, 1);
+        return ttlv_put::spell_number(out, tag, ttlv_types::BOOLEAN, 8, 1);
     }
-    ttlv_put::write_number(out, tag, ttlv_types::BOOLEAN, 8, 0)
+    ttlv_put::spell_number(out, tag, ttlv_types::BOOLEAN, 8, 0)
 }
 
 // Any bytes.
 pub fn write_bytes(out: &mut [u8], tag: u32, s: &[u8]) -> usize
     ensures { λ r. ⌜ WroteValue true tag byteString (now (s .entry)) (now (out .entry)) (now (out .exit)) r ⌝ }
 {
-    ttlv_put::write_value(out, tag, ttlv_types::BYTE_STRING, s)
+    ttlv_put::spell_value(out, tag, ttlv_types::BYTE_STRING, s)
 }
 
 // 0 where the bytes are no text.
@@ -72,7 +72,7 @@ pub fn write_text(out: &mut [u8], tag: u32, s: &[u8]) -> usize
     if !ttlv_types::text_ok(s) {
         return 0;
     }
-    ttlv_put::write_value(out, tag, ttlv_types::TEXT_STRING, s)
+    ttlv_put::spell_value(out, tag, ttlv_types::TEXT_STRING, s)
 }
 
 // The bytes are those of the signed number, in two's complement: a multiple of 8 of them, and not none.
@@ -82,5 +82,5 @@ pub fn write_big_integer(out: &mut [u8], tag: u32, s: &[u8]) -> usize
     if !ttlv_types::length_ok(ttlv_types::BIG_INTEGER, s.len()) {
         return 0;
     }
-    ttlv_put::write_value(out, tag, ttlv_types::BIG_INTEGER, s)
+    ttlv_put::spell_value(out, tag, ttlv_types::BIG_INTEGER, s)
 }

@@ -16,8 +16,8 @@ returns c =
     let a = c .before .before .before .before .args in
     wrote-wrong _ (a .tag) bigInteger (a .s .now) (a .out .now) (sym (c .before .length-ok .ensures) ∙ not-true _ (c .if1 .taken))
 
-write-value-requires : tie.Need-write-value-requires
-write-value-requires c κs = search needs
+spell-value-requires : tie.Need-spell-value-requires
+spell-value-requires c κs = search needs
 
 same-length : tie.Need-same-length
 same-length c = search needs
@@ -26,8 +26,8 @@ returns-2 : tie.Need-returns-2
 returns-2 c =
     let a = c .before .before .before .before .before .before .before .before .args in
     let right = sym (c .before .before .before .before .before .length-ok .ensures) ∙ not-false _ (c .before .before .before .before .if1 .left) in
-    wrote-right _ (a .tag) bigInteger (a .s .now) (a .out .now) right (c .before .before .write-value .ensures)
+    wrote-right _ (a .tag) bigInteger (a .s .now) (a .out .now) right (c .before .before .spell-value .ensures)
 
 pub write-big-integer-spec : {M : Type 1} → statement M
 write-big-integer-spec =
-    tie.close (tie.spec length-ok-requires returns write-value-requires same-length returns-2)
+    tie.close (tie.spec length-ok-requires returns spell-value-requires same-length returns-2)

@@ -7,33 +7,33 @@ use borrow.Author.Needs.{needs}
 use Rattle.ttlv_write.proofs.write_boolean.Statement.{statement}
 use Rattle.ttlv_write.proofs.write_boolean.Tie as tie
 
-write-number-requires : tie.Need-write-number-requires
-write-number-requires c κs = search needs
+spell-number-requires : tie.Need-spell-number-requires
+spell-number-requires c κs = search needs
 
 same-length : tie.Need-same-length
 same-length c = search needs
 
 returns : tie.Need-returns
 unfolding bit
-returns c = rw (ifb-true {A = ℕ} _ 1 0 (c .before .before .before .before .if1 .taken)) (c .before .before .write-number .ensures)
+returns c = rw (ifb-true {A = ℕ} _ 1 0 (c .before .before .before .before .if1 .taken)) (c .before .before .spell-number .ensures)
 
-write-number-requires-2 : tie.Need-write-number-requires-2
-write-number-requires-2 c κs = search needs
+spell-number-requires-2 : tie.Need-spell-number-requires-2
+spell-number-requires-2 c κs = search needs
 
 same-length-2 : tie.Need-same-length-2
 same-length-2 c = search needs
 
 returns-2 : tie.Need-returns-2
 unfolding bit
-returns-2 c = rw (ifb-false {A = ℕ} _ 1 0 (c .before .before .before .before .if1 .left)) (c .before .before .write-number2 .ensures)
+returns-2 c = rw (ifb-false {A = ℕ} _ 1 0 (c .before .before .before .before .if1 .left)) (c .before .before .spell-number2 .ensures)
 
 pub write-boolean-spec : {M : Type 1} → statement M
 write-boolean-spec =
     tie.close
     (tie.spec
-    write-number-requires
+    spell-number-requires
     same-length
     returns
-    write-number-requires-2
+    spell-number-requires-2
     same-length-2
     returns-2)

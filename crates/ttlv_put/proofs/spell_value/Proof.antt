@@ -1,4 +1,4 @@
--- `ttlv_put::write_value`. Each refusal by its test; else the head, the value and its padding, one behind the other.
+-- `ttlv_put::spell_value`. Each refusal by its test; else the head, the value and its padding, one behind the other.
 -- Assumes nothing.
 use Prim.Native.Nat.{_+_, _≤_}
 use native.Mathlib.Omega.{arith}
@@ -12,8 +12,8 @@ use Rattle.ttlv.specs.Items.{encode}
 use Rattle.ttlv_put.specs.Write.{item, spelled, valueFits}
 use Rattle.ttlv_put.proofs.Puts.{wrote-value, wrote-none}
 use borrow.Author.Needs.{needs}
-use Rattle.ttlv_put.proofs.write_value.Statement.{statement}
-use Rattle.ttlv_put.proofs.write_value.Tie as tie
+use Rattle.ttlv_put.proofs.spell_value.Statement.{statement}
+use Rattle.ttlv_put.proofs.spell_value.Tie as tie
 
 -- past the first test the tag is one
 abbrev start : tie.Else1 → tie.Start
@@ -87,8 +87,8 @@ returns-4 c =
     let ok : (tagOk (a .tag) && true && valueFits (a .out .now) n) ≡ true = rw (right tagged, long, le-leb (8 + padded n) (length (a .out .now)) room) in
     wrote-value _ (a .tag) (a .kind) n _ _ (a .s .now) (a .out .now) ok refl refl refl room (headed .put-head .ensures) (valued .put-all .ensures) (filled .put .ensures)
 
-pub write-value-spec : {M : Type 1} → statement M
-write-value-spec =
+pub spell-value-spec : {M : Type 1} → statement M
+spell-value-spec =
     tie.close
     (tie.spec
     tag-ok-requires
