@@ -10,7 +10,7 @@ use Rattle.octets.proofs.If.{on-if}
 use Rattle.table.specs.declared.Record.{Record}
 use Rattle.search.specs.declared.Found.{Found}
 use Rattle.search.specs.declared.Found.the-variants.{At, Nothing}
-use Rattle.table.specs.Layout.{bodyOf, bodySize, materialSize}
+use Rattle.table.specs.Layout.{bodyStart, bodySize, materialSize}
 use Rattle.table.specs.Records.{recordOf, placeAt, withPlace}
 use Rattle.search.specs.Search.{find, newPlace}
 use Rattle.table.proofs.Lines.{bytes-part}
@@ -56,7 +56,7 @@ module _ (n : ℕ) (t : List ℕ) (h : Bytes t) where
 
   bytes-place : (i : ℕ) → Bytes (placeAt n t i .material)
   unfolding placeAt recordOf
-  bytes-place i = bytes-part (part t (bodyOf n i) bodySize) 24 materialSize (bytes-part t (bodyOf n i) bodySize h)
+  bytes-place i = bytes-part (part t (bodyStart n i) bodySize) 24 materialSize (bytes-part t (bodyStart n i) bodySize h)
 
   bytes-moved : (operation state i : ℕ) → Bytes (movedTo operation state (placeAt n t i) .material)
   unfolding movedTo inState

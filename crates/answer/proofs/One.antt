@@ -8,8 +8,7 @@ use mathlib.Core.List.{List}
 use Rattle.octets.specs.Maybe.{_>>=_}
 use Rattle.octets.specs.Octets.{Bytes}
 use Rattle.ttlv.specs.Items.{encode}
-use Rattle.ttlv.specs.Parse.{parse, depthMost, isOne, message}
-use Rattle.ttlv.proofs.Back.{parse-back}
+use Rattle.ttlv.specs.Parse.{depthMost, isOne, message}
 use Rattle.ttlv.proofs.Well.{encode-one}
 use Rattle.ttlv.proofs.Message.{message-back, message-spells}
 use Rattle.answer.specs.Respond.{Response, respond}
@@ -21,9 +20,6 @@ use Rattle.answer.proofs.Well.{respond-well}
 -- ---- one response
 
 module _ (r : Response) (h : allowed r ≡ true) where
-  pub response-parse : parse depthMost (encode (respond r)) ≡ some (respond r)
-  response-parse = parse-back depthMost (respond r) (respond-well r h)
-
   pub response-message : message (encode (respond r)) ≡ some (respond r)
   unfolding respond isOne
   response-message = message-back (respond r) (respond-well r h) refl

@@ -18,10 +18,10 @@ use Rattle.octets.proofs.Bools.{both}
 use Rattle.tags.specs.Tags.{responsePayload, resultReason, resultStatus}
 use Rattle.rules.specs.declared.Reason.{Reason}
 use Rattle.rules.specs.declared.Reason.the-variants.{OperationNotSupported, InvalidField, ObjectNotFound, ObjectDestroyed, PermissionDenied, WrongKeyLifecycleState, UsageLimitExceeded, ServerLimitExceeded}
-use Rattle.rules.specs.Numbers.{reasonNumber, create, getAttributes}
+use Rattle.rules.specs.Numbers.{reasonNumber, create, getAttributes, success, operationFailed}
 use Rattle.act.specs.declared.Outcome.{Outcome}
 use Rattle.act.specs.declared.Outcome.the-variants.{Failed, Created, Done, Showed}
-use Rattle.answer.specs.Respond.{word, success, operationFailed, succeeded, outcomeItems}
+use Rattle.answer.specs.Respond.{word, succeeded, outcomeItems}
 use Rattle.answer.specs.Read.{doneIn, showedIn, answersDone, payloadIn, reasons, reasonAmong, failureIn, successIn, outcomeIn, serialOk, shownOk, outcomeOk}
 use Rattle.octets.proofs.Maybe.{not-some, some-is, on-bind, on-test}
 use Rattle.answer.proofs.Fields.{ended-is, body-spells, spelled-back, spelled-spells}

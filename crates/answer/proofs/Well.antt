@@ -22,11 +22,11 @@ use Rattle.ttlv.proofs.Fine.{group-well}
 use Rattle.identifier.specs.Identifier.{identifier}
 use Rattle.identifier.proofs.Texts.{length-identifier, identifier-text}
 use Rattle.frame.specs.Frame.{idMost}
-use Rattle.rules.specs.Numbers.{reasonNumber}
+use Rattle.rules.specs.Numbers.{reasonNumber, success, operationFailed}
 use Rattle.act.specs.declared.Shown.{Shown}
 use Rattle.act.specs.declared.Outcome.{Outcome}
 use Rattle.act.specs.declared.Outcome.the-variants.{Failed, Created, Done, Showed}
-use Rattle.answer.specs.Respond.{Answer, Response, word, long, named, limitItems, linkItems, attributeItems, success, operationFailed, succeeded, outcomeItems, idItems, answerItems, batchItems, versionItems, headerItems, respond, replacedObjectLink, replacementObjectLink}
+use Rattle.answer.specs.Respond.{Answer, Response, word, long, named, limitItems, linkItems, attributeItems, succeeded, outcomeItems, idItems, answerItems, batchItems, versionItems, headerItems, respond, replacedObjectLink, replacementObjectLink}
 use Rattle.answer.specs.Read.{Limits, answerOk, allowed}
 use Rattle.answer.specs.Front.{responseMost}
 use Rattle.answer.proofs.Links.{linked}

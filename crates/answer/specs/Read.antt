@@ -18,13 +18,13 @@ use Rattle.identifier.specs.Identifier.{serialOf}
 use Rattle.values.specs.Values.{bitsOk, maskOk, unitOk, totalOk}
 use Rattle.rules.specs.declared.Reason.{Reason}
 use Rattle.rules.specs.declared.Reason.the-variants.{OperationNotSupported, InvalidField, ObjectNotFound, ObjectDestroyed, PermissionDenied, WrongKeyLifecycleState, UsageLimitExceeded, ServerLimitExceeded}
-use Rattle.rules.specs.Numbers.{reasonNumber, create, rekey, getAttributes, getUsageAllocation, activate, revoke, destroy}
+use Rattle.rules.specs.Numbers.{reasonNumber, create, rekey, getAttributes, getUsageAllocation, activate, revoke, destroy, success, operationFailed}
 use Rattle.changes.specs.Changes.{serialMost}
 use Rattle.act.specs.declared.Shown.{Shown}
 use Rattle.act.specs.declared.Outcome.{Outcome}
 use Rattle.act.specs.declared.Outcome.the-variants.{Failed, Created, Done, Showed}
 use Rattle.frame.specs.Frame.{idMost, idOk, idBytes, batchMost}
-use Rattle.answer.specs.Respond.{Answer, Response, success, operationFailed, replacedObjectLink, replacementObjectLink}
+use Rattle.answer.specs.Respond.{Answer, Response, replacedObjectLink, replacementObjectLink}
 
 -- ---- fields, in their one spelling
 

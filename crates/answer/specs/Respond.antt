@@ -11,7 +11,7 @@ use Rattle.ttlv.specs.Items.{Items, nil, value, group}
 use Rattle.tags.specs.Tags.{batchCount, batchItem, operationTag, protocolVersion, protocolVersionMajor, protocolVersionMinor, uniqueBatchItemId, attributes, cryptographicAlgorithm, cryptographicLength, cryptographicUsageMask, objectType, uniqueIdentifier, usageLimits, usageLimitsCount, usageLimitsTotal, usageLimitsUnit, link, linkType, linkedObjectIdentifier, responseHeader, responseMessage, responsePayload, resultReason, resultStatus, stateTag, timeStamp}
 use Rattle.payload.specs.Payload.{symmetricKey, aes}
 use Rattle.identifier.specs.Identifier.{identifier}
-use Rattle.rules.specs.Numbers.{reasonNumber}
+use Rattle.rules.specs.Numbers.{success, operationFailed, reasonNumber}
 use Rattle.act.specs.declared.Shown.{Shown}
 use Rattle.act.specs.declared.Outcome.{Outcome}
 use Rattle.act.specs.declared.Outcome.the-variants.{Failed, Created, Done, Showed}
@@ -78,13 +78,6 @@ attributeItems s =
     (limitItems s
     (linkItems replacedObjectLink (s .replaced)
     (linkItems replacementObjectLink (s .replacement) nil))))))
-
--- "Result Status is 0 for success, 1 for failed"
-abbrev pub success : ℕ
-success = 0
-
-abbrev pub operationFailed : ℕ
-operationFailed = 1
 
 -- a success: its status and its payload
 abbrev pub succeeded : Items → Items

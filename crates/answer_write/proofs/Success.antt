@@ -17,7 +17,8 @@ use Rattle.ttlv_put.proofs.Sizes.{encode-value, encode-group}
 use Rattle.ttlv_put.proofs.Holds.{holds-front, holds-length}
 use Rattle.tags.specs.Tags.{resultStatus, responsePayload, uniqueIdentifier}
 use Rattle.identifier.specs.Identifier.{identifier}
-use Rattle.answer.specs.Respond.{word, named, success, succeeded}
+use Rattle.rules.specs.Numbers.{success}
+use Rattle.answer.specs.Respond.{word, named, succeeded}
 use Rattle.attributes_write.specs.Puts.{Puts}
 use Rattle.attributes_write.proofs.Compose.{number-size, puts-eights}
 use Rattle.attributes_write.proofs.Parts.{puts-named}

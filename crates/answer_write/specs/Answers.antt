@@ -8,7 +8,8 @@ use Rattle.ttlv.specs.Items.{nil, head, encode}
 use Rattle.frame.specs.declared.ItemId.{ItemId}
 use Rattle.act.specs.declared.Outcome.{Outcome}
 use Rattle.tags.specs.Tags.{resultStatus, responsePayload}
-use Rattle.answer.specs.Respond.{Answer, word, success}
+use Rattle.rules.specs.Numbers.{success}
+use Rattle.answer.specs.Respond.{Answer, word}
 
 -- what opens a success: its status, and the head of a payload of n bytes
 abbrev pub opening : ℕ → List ℕ

@@ -17,7 +17,7 @@ use Rattle.tags.specs.Tags.{tagOk}
 use Rattle.ttlv_types.specs.Types.{structure, padded, lengthOk}
 use Rattle.ttlv.specs.Items.{Items, nil, value, group, head, encode}
 use Rattle.ttlv.proofs.Back.{eights}
-use Rattle.ttlv_put.specs.Write.{join, spelled, fits, Wrote, WroteValue, WroteHead, Holds}
+use Rattle.ttlv_put.specs.Write.{join, spellable, fits, Wrote, WroteValue, WroteHead, Holds}
 use Rattle.ttlv.proofs.Sizes.{length-head}
 use Rattle.ttlv_put.proofs.Sizes.{length-value, encode-nil}
 use Rattle.ttlv_put.proofs.Holds.{wrote-size, holds-none, holds-wrote, holds-value, holds-then, holds-front, holds-join, holds-group, holds-length, holds-left}
@@ -100,7 +100,7 @@ body-length n e = eq-eqb (n % 8) 0 e
 pub holds-structure : (tag n : ℕ) {room after : List ℕ} {r : ℕ} → tagOk tag ≡ true → WroteHead tag n room after r → n % 8 ≡ 0 → n < 256 ^ 4 → 8 ≤ length room
     → Holds (head tag structure n) room after 8
 holds-structure tag n {room} t w e s l =
-    let ok : (tagOk tag && spelled n && lengthOk structure n && fits room 8) ≡ true = rw (t, lt-ltb n (256 ^ 4) s, body-length n e, le-leb 8 (length room) l) in
+    let ok : (tagOk tag && spellable n && lengthOk structure n && fits room 8) ≡ true = rw (t, lt-ltb n (256 ^ 4) s, body-length n e, le-leb 8 (length room) l) in
     rw (wrote-size ok w) at (holds-wrote ok (sym (length-head tag structure n)) l w)
 
 -- the body was written eight bytes on, and then its head in front of it

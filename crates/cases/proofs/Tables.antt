@@ -10,7 +10,7 @@ use Rattle.octets.specs.If.{ifb}
 use Rattle.octets.specs.Maybe.{isSome}
 use Rattle.octets.specs.Octets.{be, fromBe, fromBeAfter, all}
 use Rattle.table.specs.declared.Record.{Record}
-use Rattle.table.specs.Layout.{bodyOf, placeCount, zerosIn}
+use Rattle.table.specs.Layout.{bodyStart, placeCount, zerosIn}
 use Rattle.table.specs.Records.{line, body, recordOf, placeAt, withPlace, serialAt, lastSerial, withLast, placesSaid, blank}
 use Rattle.search.specs.Search.{firstFrom, isNothing, find}
 use Rattle.record_rules.specs.Rules.{stateRight, bitsRight, maskRight, limitRight, tailRight, wipedRight, replacedRight, replacementRight}
@@ -87,8 +87,8 @@ faulty =
     (good ++ (0 ∷ []))
     ∷ set good 7 5
     ∷ set good 8 1
-    ∷ set good (bodyOf 4 3 + 55) 1
-    ∷ set good (bodyOf 4 1 + zerosIn) 1
+    ∷ set good (bodyStart 4 3 + 55) 1
+    ∷ set good (bodyStart 4 1 + zerosIn) 1
     ∷ pair (key 2) (key 2)
     ∷ pair (key 1) (key 4)
     ∷ pair (withValues 7 128 4 90 (key 1)) (key 2)

@@ -10,7 +10,7 @@ use mathlib.Core.List.{List}
 use lib.ListN.{length}
 use Rattle.octets.specs.Octets.{be, part, allZero}
 use Rattle.table.specs.declared.Record.{Record}
-use Rattle.table.specs.Layout.{lineSize, bodySize, lineOf, bodyOf, Table, zerosIn}
+use Rattle.table.specs.Layout.{lineSize, bodySize, lineStart, bodyStart, Table, zerosIn}
 use Rattle.table.specs.Records.{recordOf, placeAt, withPlace, serialAt, lastSerial, withLast, placesSaid, leadZeros}
 use Rattle.table.proofs.Lines.{InRange}
 use Rattle.table.proofs.Places.{serial-is, length-with, place-same, line-other, body-other, zeros-other, zeros-with}
@@ -27,10 +27,10 @@ pub record Stored (n : ℕ) (t : List ℕ) (i : ℕ) (r : Record) (last : ℕ) (
   pub lead : leadZeros u ≡ leadZeros t
   pub issued : lastSerial u ≡ last
   pub here : placeAt n u i ≡ r
-  pub zeros : part u (bodyOf n i + zerosIn) 4 ≡ be 4 0
-  pub line : (j : ℕ) → j < n → (j ≡ i → ⊥) → part u (lineOf j) lineSize ≡ part t (lineOf j) lineSize
-  pub body : (j : ℕ) → j < n → (j ≡ i → ⊥) → part u (bodyOf n j) bodySize ≡ part t (bodyOf n j) bodySize
-  pub zeros-past : (j : ℕ) → j < n → (j ≡ i → ⊥) → part u (bodyOf n j + zerosIn) 4 ≡ part t (bodyOf n j + zerosIn) 4
+  pub zeros : part u (bodyStart n i + zerosIn) 4 ≡ be 4 0
+  pub line : (j : ℕ) → j < n → (j ≡ i → ⊥) → part u (lineStart j) lineSize ≡ part t (lineStart j) lineSize
+  pub body : (j : ℕ) → j < n → (j ≡ i → ⊥) → part u (bodyStart n j) bodySize ≡ part t (bodyStart n j) bodySize
+  pub zeros-past : (j : ℕ) → j < n → (j ≡ i → ⊥) → part u (bodyStart n j + zerosIn) 4 ≡ part t (bodyStart n j + zerosIn) 4
 
 -- a store
 pub stored : (n : ℕ) (t : List ℕ) (i : ℕ) (r : Record) → Table n t → i < n → InRange r → Stored n t i r (lastSerial t) (withPlace n t i r)
@@ -86,7 +86,7 @@ pub record Bare (n : ℕ) (t : List ℕ) : Type 0 where
   pub count : placesSaid t ≡ n
   pub lead : allZero (leadZeros t) ≡ true
   pub free : (i : ℕ) → i < n → serialAt t i ≡ 0 → Empty n t i
-  pub zeros : (i : ℕ) → i < n → Stands t i → allZero (part t (bodyOf n i + zerosIn) 4) ≡ true
+  pub zeros : (i : ℕ) → i < n → Stands t i → allZero (part t (bodyStart n i + zerosIn) 4) ≡ true
   pub distinct : (i j : ℕ) → i < n → j < n → Stands t i → serialAt t i ≡ serialAt t j → i ≡ j
   pub issued : (i : ℕ) → i < n → serialAt t i ≤ lastSerial t
   pub fit : (i : ℕ) → i < n → Stands t i → Fit (lastSerial t) (placeAt n t i)
@@ -168,9 +168,9 @@ module _ (n : ℕ) (t : List ℕ) (k : ℕ) (r : Record) (last : ℕ) (u : List 
         (λ j l ne z. let was : Empty n t j = b .free j l (sym (other-serial j l ne) ∙ z) in
         record { line = ap allZero (e .line j l ne) ∙ was .line; body = ap allZero (e .body j l ne) ∙ was .body })
 
-    zeros-stored : (j : ℕ) → j < n → Stands u j → allZero (part u (bodyOf n j + zerosIn) 4) ≡ true
+    zeros-stored : (j : ℕ) → j < n → Stands u j → allZero (part u (bodyStart n j + zerosIn) 4) ≡ true
     zeros-stored =
-        by-place (λ (j : ℕ). Stands u j → allZero (part u (bodyOf n j + zerosIn) 4) ≡ true) (λ s. zeros-test _ (e .zeros))
+        by-place (λ (j : ℕ). Stands u j → allZero (part u (bodyStart n j + zerosIn) 4) ≡ true) (λ s. zeros-test _ (e .zeros))
         (λ j l ne s. ap allZero (e .zeros-past j l ne) ∙ b .zeros j l (λ z. s (other-serial j l ne ∙ z)))
 
     module _ (alone : (j : ℕ) → j < n → (j ≡ k → ⊥) → serialAt t j ≡ r .serial → ⊥) where

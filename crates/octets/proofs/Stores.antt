@@ -7,7 +7,7 @@ use native.Mathlib.Numerals.{add-one}
 use native.Mathlib.Omega.{arith}
 use mathlib.Core.List.{List, [], _∷_, _++_, append-assoc}
 use lib.ListN.{length, take, drop, getD, set, length-drop}
-use lib.Seq.{sets, take-suc-set, take-all, set-comm, length-sets, sets-eq, take-suc, getD-drop, take-at, drop-at, take-take, drop-drop, drop-set-lt, drop-set-add, take-set-le, length-take-le, getD-take}
+use lib.Seq.{sets, take-suc-set, take-all, set-comm, length-sets, sets-eq, take-suc, getD-drop, take-at, drop-at, take-take, drop-drop, drop-set-lt, drop-set-add, take-set-le, length-take-le}
 use Rattle.octets.specs.Octets.{be, part, over}
 use Rattle.octets.proofs.Numbers.{length-be}
 
@@ -45,9 +45,6 @@ sets-be-back t at (suc j) v h =
 
 pub length-part : (t : List ℕ) (at n : ℕ) → at + n ≤ length t → length (part t at n) ≡ n
 length-part t at n h = length-take-le n (drop at t) (rw length-drop (omega arith))
-
-pub getD-part : (t : List ℕ) (at n i : ℕ) → i < n → getD (part t at n) i 0 ≡ getD t (at + i) 0
-getD-part t at n i h = getD-take n (drop at t) i 0 h ∙ getD-drop at t i 0
 
 -- a part of a part
 pub part-part : (t : List ℕ) (at m i n : ℕ) → i + n ≤ m → part (part t at m) i n ≡ part t (at + i) n

@@ -1,17 +1,15 @@
 -- Laws of zero bytes: the test, the run of zeros, and the number that they spell.
 -- Assumes nothing.
-use mathlib.Core.Path.{_≡_, refl, sym, ap, ap₂, _∙_}
-use Prim.Native.Nat.{ℕ, zero, suc, _+_, _-_, _^_, _≤_, _<_}
-use native.Mathlib.Nat.{pow-zero, pow-suc}
+use mathlib.Core.Path.{_≡_, refl, ap, ap₂}
+use Prim.Native.Nat.{ℕ, zero, suc, _+_, _-_, _≤_, _<_}
 use native.Mathlib.Omega.{arith}
 use mathlib.Core.Bool.{true}
 use mathlib.Core.List.{List, [], _∷_}
 use lib.ListN.{length, take, drop, set, replicate}
 use lib.Seq.{sets}
 use borrow.Author.Tests.{eqb-true}
-use Rattle.octets.specs.Octets.{fromBe, part, all, isZero, allZero, Bytes}
+use Rattle.octets.specs.Octets.{part, all, isZero, allZero, Bytes}
 use Rattle.octets.proofs.Bools.{and-l, and-r}
-use Rattle.octets.proofs.Numbers.{fromBe-be, be-zero}
 
 -- zeros pass the test
 pub zeros-pass : (k : ℕ) → allZero (replicate k 0) ≡ true
@@ -27,13 +25,6 @@ pass-zeros (x ∷ s) e =
     ap₂ (λ (y : ℕ) (ys : List ℕ). y ∷ ys)
     (eqb-true x 0 (and-l (isZero x) (allZero s) e))
     (pass-zeros s (and-r (isZero x) (allZero s) e))
-
-pow-positive : (w : ℕ) → 0 < 256 ^ w
-pow-positive zero = omega (arith, pow-zero 256)
-pow-positive (suc w) = let h : 0 < 256 ^ w = pow-positive w in omega (arith, pow-suc 256 w)
-
-pub fromBe-zeros : (w : ℕ) → fromBe (replicate w 0) ≡ 0
-fromBe-zeros w = ap fromBe (sym (be-zero w)) ∙ fromBe-be w 0 (pow-positive w)
 
 take-zeros : (w k : ℕ) → w ≤ k → take {A = ℕ} w (replicate k 0) ≡ replicate w 0
 take-zeros zero k h = refl

@@ -1,7 +1,7 @@
 -- Which writer a type has, and that a number written from the value that was read is that value.
 -- Assumes nothing.
 use mathlib.Core.Path.{_≡_, sym, _∙_}
-use mathlib.Core.Bool.{true, false, true≢false, _&&_, and-true}
+use mathlib.Core.Bool.{true, true≢false, _&&_, and-true}
 use mathlib.Core.Logic.{_⊎_, inl, inr, ⊎-elim}
 use Prim.Native.Nat.{ℕ, _+_, _^_, _≤_, _<_}
 use native.Mathlib.Omega.{arith}
@@ -9,7 +9,7 @@ use mathlib.Core.List.{List}
 use lib.ListN.{length, take}
 use lib.Seq.{take-all}
 use lib.Dec.{eqb}
-use borrow.Author.Tests.{eqb-true, eqb-false, ne-eqb, lt-ltb, leb-true}
+use borrow.Author.Tests.{eqb-true, eqb-false, ne-eqb, le-leb, lt-ltb, leb-true}
 use Rattle.octets.specs.If.{ifb}
 use Rattle.octets.specs.Octets.{be, fromBe, Bytes}
 use Rattle.octets.proofs.If.{ifb-true, ifb-false, on-bool}
@@ -17,7 +17,7 @@ use Rattle.octets.proofs.Numbers.{be-fromBe}
 use Rattle.tags.specs.Tags.{tagOk}
 use Rattle.ttlv_types.specs.Types.{structure, integer, longInteger, bigInteger, enumeration, boolean, textString, byteString, dateTime, interval, dateTimeExtended, padded, isWord, isLong, lengthOk, valueOk, text}
 use Rattle.ttlv.specs.Items.{encode}
-use Rattle.ttlv_put.specs.Write.{item, spelled, fits, Wrote, WroteNumber, WroteValue}
+use Rattle.ttlv_put.specs.Write.{item, spellable, fits, Wrote, WroteNumber, WroteValue}
 use Rattle.ttlv_write.specs.Writable.{bit}
 
 -- ---- what is left when the others are ruled out
@@ -63,7 +63,7 @@ pub number-again : (width tag kind : ℕ) (v room : List ℕ) {after : List ℕ}
     → WroteNumber width tag kind (fromBe (take 8 v)) room after r → WroteValue true tag kind v room after r
 number-again width tag kind v room {after} {r} h k l b w =
     let e : be width (fromBe (take 8 v)) ≡ v = rw (take-all 8 v (omega arith), ← l) (be-fromBe v b) in
-    let s : spelled (length v) ≡ true = lt-ltb (length v) (256 ^ 4) (omega arith) in
+    let s : spellable (length v) ≡ true = lt-ltb (length v) (256 ^ 4) (omega arith) in
     let p : 8 + padded (length v) ≡ 16 = omega arith in
-    let x : Wrote (tagOk tag && fits room 16) 16 (encode (item tag kind v)) room after r = rw e at w in
+    let x : Wrote (tagOk tag && fits room 16) 16 (encode (item tag kind v)) room after r = rw (e, le-leb 1 width h, le-leb width 8 k) at w in
     rw (and-true, s, p) x

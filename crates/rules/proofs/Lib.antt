@@ -3,6 +3,7 @@
 pub mod Tests
 pub mod States
 pub mod Grants
+pub mod Said
 pub mod Unique
 pub mod Listed
 pub mod Moves

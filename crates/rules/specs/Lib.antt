@@ -3,3 +3,4 @@
 pub mod Numbers
 pub mod Tests
 pub mod States
+pub mod Said

@@ -1,4 +1,4 @@
--- The numbers of operations, states and reasons, as the papers give them.
+-- The numbers of operations, states, results and reasons, as the papers give them.
 -- Assumes nothing.
 use Prim.Native.Nat.{ℕ}
 use Rattle.rules.specs.declared.Reason.{Reason}
@@ -46,6 +46,15 @@ destroyed = 5
 
 abbrev pub destroyedCompromised : ℕ
 destroyedCompromised = 6
+
+-- ---- results
+
+-- "Status is 0 for success, 1 for failed"
+abbrev pub success : ℕ
+success = 0
+
+abbrev pub operationFailed : ℕ
+operationFailed = 1
 
 -- ---- reasons
 

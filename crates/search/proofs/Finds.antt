@@ -15,12 +15,10 @@ use Rattle.table.specs.declared.Record.{Record}
 use Rattle.search.specs.declared.Found.{Found}
 use Rattle.search.specs.declared.Found.the-variants.{At, Nothing}
 use Rattle.table.specs.Layout.{sizeOf}
-use Rattle.table.specs.Records.{withPlace, withLast, serialAt, stateAt, isFree, blank}
+use Rattle.table.specs.Records.{withPlace, serialAt, stateAt, isFree}
 use Rattle.search.specs.Search.{first, hasSerial, isNothing, find, orElse, isDestroyed, freePlace, destroyedPlace, newPlace}
 use Rattle.table.proofs.Lines.{InRange}
 use Rattle.table.proofs.Places.{serial-same, serial-other, serial-with}
-use Rattle.table.proofs.Lead.{serial-last}
-use Rattle.table.proofs.Blank.{serial-blank}
 use Rattle.search.proofs.First.{At-not, on-found, isNothing-none, found-below, found-test, found-lowest, found-is, none-fails, fails-none, first-cong}
 
 -- ---- a record by its serial
@@ -78,16 +76,6 @@ find-cong n t u s h =
     (λ e. ifb-true (eqb s 0) _ _ e ∙ sym (ifb-true (eqb s 0) _ _ e))
     (λ e. ifb-false (eqb s 0) _ _ e ∙ first-cong n (hasSerial t s) (hasSerial u s) (h (eqb-false s 0 e)) ∙ sym (ifb-false (eqb s 0) _ _ e))
 
-pub find-last : (n : ℕ) (t : List ℕ) (last s : ℕ) → find n (withLast t last) s ≡ find n t s
-find-last n t last s = find-cong n (withLast t last) t s (λ ne j h. ap (λ (x : ℕ). eqb x s) (serial-last t last j))
-
--- no record is found in the blank table
-pub find-blank : (n s : ℕ) → find n (blank n) s ≡ Nothing
-find-blank n s = elim (ℕ-discrete s 0) [
-  | yes z ↦ ap (find n (blank n)) z ∙ find-zero n (blank n)
-  | no z ↦ none-find n (blank n) s (λ j h e. z (sym e ∙ serial-blank n j h))
-]
-
 -- ---- a record by its serial, after a store
 
 module _ (n : ℕ) (t : List ℕ) (i : ℕ) (r : Record) (big : length t ≡ sizeOf n) (lo : i < n) (h : InRange r) where
@@ -100,20 +88,6 @@ module _ (n : ℕ) (t : List ℕ) (i : ℕ) (r : Record) (big : length t ≡ siz
   find-new ne fresh =
       find-only n (withPlace n t i r) (r .serial) i ne lo (serial-same n t i r big lo h)
       (λ j l e. elim (ℕ-discrete j i) [ yes q ↦ q | no q ↦ absurd (fresh j l (sym (serial-other n t i r big lo (h .long) j l q) ∙ e)) ])
-
-  -- a serial that is neither the new nor the old one of the place is found as before
-  pub find-past : (s : ℕ) → (s ≡ r .serial → ⊥) → ((s ≡ 0 → ⊥) → s ≡ serialAt t i → ⊥) → find n (withPlace n t i r) s ≡ find n t s
-  find-past s new old = find-cong n (withPlace n t i r) t s (λ ne j l. elim (ℕ-discrete j i) [
-    | yes q ↦
-        ap (λ (k : ℕ). eqb (serialAt (withPlace n t i r) k) s) q
-        ∙ ne-eqb _ s (λ z. new (sym z ∙ serial-same n t i r big lo h))
-        ∙ sym (ne-eqb _ s (λ z. old ne (sym z ∙ ap (serialAt t) q)))
-    | no q ↦ ap (λ (x : ℕ). eqb x s) (serial-other n t i r big lo (h .long) j l q)
-  ])
-
-  -- so is every serial but the new one, if the place was free
-  pub find-free : serialAt t i ≡ 0 → (s : ℕ) → (s ≡ r .serial → ⊥) → find n (withPlace n t i r) s ≡ find n t s
-  find-free e s new = find-past s new (λ ne z. ne (z ∙ e))
 
   -- the old serial of the place, if no other place has it, is found no more
   pub find-gone : (s : ℕ) → (s ≡ r .serial → ⊥) → ((j : ℕ) → j < n → serialAt t j ≡ s → j ≡ i) → find n (withPlace n t i r) s ≡ Nothing

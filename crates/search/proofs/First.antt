@@ -149,11 +149,6 @@ module _ (n : ℕ) (test : ℕ → Bool) where
   pub fails-none : ((j : ℕ) → j < n → test j ≡ false) → first n test ≡ Nothing
   fails-none h = from-none test 0 n (λ j a b. h j (omega arith))
 
-  -- the only one that passes is found
-  pub found-only : (i : ℕ) → i < n → test i ≡ true → ((j : ℕ) → j < n → test j ≡ true → j ≡ i) → first n test ≡ At i
-  found-only i lo y one =
-      found-is i lo y (λ j b. on-bool (test j) (λ z. absurd (let e : j ≡ i = one j (omega arith) z in omega arith)) (λ z. z))
-
 -- tests that agree find alike
 pub first-cong : (n : ℕ) (f g : ℕ → Bool) → ((k : ℕ) → k < n → f k ≡ g k) → first n f ≡ first n g
 first-cong n f g h = from-cong f g 0 n (λ k l. h k (omega arith))

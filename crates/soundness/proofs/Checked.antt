@@ -16,7 +16,7 @@ use Rattle.octets.proofs.If.{ifb-true, ifb-false}
 use Rattle.table.specs.declared.Record.{Record}
 use Rattle.search.specs.declared.Found.{Found}
 use Rattle.search.specs.declared.Found.the-variants.{At, Nothing}
-use Rattle.table.specs.Layout.{lineOf, lineSize, sizeOf, Table}
+use Rattle.table.specs.Layout.{lineStart, lineSize, sizeOf, Table}
 use Rattle.table.specs.Records.{placeAt, serialAt, lastSerial, placesSaid}
 use Rattle.search.specs.Search.{find}
 use Rattle.table.proofs.Places.{serial-is}
@@ -116,7 +116,7 @@ module _ (n : ℕ) (t : List ℕ) where
         count = search facts;
         lead = search facts;
         free = λ i l z. let g : freeRight n t i ≡ true = sym (place-free i z) ∙ p i l in
-            record { line = and-l (allZero (part t (lineOf i) lineSize)) _ g; body = and-r (allZero (part t (lineOf i) lineSize)) _ g };
+            record { line = and-l (allZero (part t (lineStart i) lineSize)) _ g; body = and-r (allZero (part t (lineStart i) lineSize)) _ g };
         zeros = λ i l s. asked i l s .zeros;
         distinct = alone;
         issued = λ i l. elim (ℕ-discrete (serialAt t i) 0) [ yes z ↦ omega arith | no s ↦ rw (serial-is n t i) (asked i l s .issued) ];

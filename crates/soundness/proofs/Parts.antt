@@ -11,7 +11,7 @@ use lib.Seq.{take-all}
 use Rattle.octets.specs.Octets.{part}
 use Rattle.octets.proofs.Stores.{length-part, part-part}
 use Rattle.table.specs.declared.Record.{Record}
-use Rattle.table.specs.Layout.{bodyOf, materialSize, materialIn, Place}
+use Rattle.table.specs.Layout.{bodyStart, materialSize, materialIn, Place}
 use Rattle.table.specs.Records.{placeAt}
 use Rattle.table.proofs.Places.{place-fields}
 use Rattle.record_rules.specs.Checked.{zerosFrom}
@@ -30,12 +30,12 @@ pub lent-part : (t : List ℕ) (at a w : ℕ) → at ≡ a → take (at + w - at
 lent-part t at a w e = let z : at + w - at ≡ w = omega arith in rw (z, e)
 
 -- the material of the record at place i from where its zeros start, lent where it stands
-pub material-lent : (n : ℕ) (t : List ℕ) (i : ℕ) (r : Record) (body z : ℕ) → Place n t i → r ≡ placeAt n t i → body ≡ bodyOf n i → z ≡ min (zerosFrom r) materialSize
+pub material-lent : (n : ℕ) (t : List ℕ) (i : ℕ) (r : Record) (body z : ℕ) → Place n t i → r ≡ placeAt n t i → body ≡ bodyStart n i → z ≡ min (zerosFrom r) materialSize
     → take (body + materialIn + materialSize - (body + materialIn + z)) (drop (body + materialIn + z) t) ≡ drop (zerosFrom r) (r .material)
 material-lent n t i r body z place same eb ez =
     let k = zerosFrom r in
     let few : z ≤ materialSize = rw ez (min-le-right k materialSize) in
-    let at = bodyOf n i + materialIn in
+    let at = bodyStart n i + materialIn in
     let left : body + materialIn + materialSize - (body + materialIn + z) ≡ materialSize - z = omega arith in
     let material : part t at materialSize ≡ r .material = ap (λ (x : Record). x .material) (place-fields n t i) ∙ ap (λ (x : Record). x .material) (sym same) in
     ap₂ (λ (w from : ℕ). take w (drop from t)) left (ap (λ (b : ℕ). b + materialIn + z) eb)

@@ -15,7 +15,7 @@ use Rattle.octets.specs.Octets.{part, allZero}
 use Rattle.table.specs.declared.Record.{Record}
 use Rattle.search.specs.declared.Found.{Found}
 use Rattle.search.specs.declared.Found.the-variants.{At, Nothing}
-use Rattle.table.specs.Layout.{lineSize, bodySize, lineOf, bodyOf, sizeOf, Table, zerosIn}
+use Rattle.table.specs.Layout.{lineSize, bodySize, lineStart, bodyStart, sizeOf, Table, zerosIn}
 use Rattle.table.specs.Records.{placeAt, serialAt, isFree, lastSerial, placesSaid, leadZeros}
 use Rattle.search.specs.Search.{isNothing, find}
 use Rattle.search.proofs.First.{isNothing-is, none-fails, fails-none}
@@ -35,8 +35,8 @@ Stands t i = serialAt t i ≡ 0 → ⊥
 
 -- a place with nothing in it
 pub record Empty (n : ℕ) (t : List ℕ) (i : ℕ) : Type 0 where
-  pub line : allZero (part t (lineOf i) lineSize) ≡ true
-  pub body : allZero (part t (bodyOf n i) bodySize) ≡ true
+  pub line : allZero (part t (lineStart i) lineSize) ≡ true
+  pub body : allZero (part t (bodyStart n i) bodySize) ≡ true
 
 -- a table of n places that breaks no rule
 pub record Sound (n : ℕ) (t : List ℕ) : Type 0 where
@@ -44,7 +44,7 @@ pub record Sound (n : ℕ) (t : List ℕ) : Type 0 where
   pub count : placesSaid t ≡ n
   pub lead : allZero (leadZeros t) ≡ true
   pub free : (i : ℕ) → i < n → serialAt t i ≡ 0 → Empty n t i
-  pub zeros : (i : ℕ) → i < n → Stands t i → allZero (part t (bodyOf n i + zerosIn) 4) ≡ true
+  pub zeros : (i : ℕ) → i < n → Stands t i → allZero (part t (bodyStart n i + zerosIn) 4) ≡ true
   pub distinct : (i j : ℕ) → i < n → j < n → Stands t i → serialAt t i ≡ serialAt t j → i ≡ j
   pub issued : (i : ℕ) → i < n → serialAt t i ≤ lastSerial t
   pub fit : (i : ℕ) → i < n → Stands t i → Fit (lastSerial t) (placeAt n t i)
@@ -168,7 +168,7 @@ module _ (n : ℕ) (t : List ℕ) where
         count = eqb-true (placesSaid t) n (f .whole 1);
         lead = f .whole 2;
         free = λ i h z. let g : freeRight n t i ≡ true = free-kept n t i (f .places 0 i h) z in
-            record { line = and-l (allZero (part t (lineOf i) lineSize)) _ g; body = and-r (allZero (part t (lineOf i) lineSize)) _ g };
+            record { line = and-l (allZero (part t (lineStart i) lineSize)) _ g; body = and-r (allZero (part t (lineStart i) lineSize)) _ g };
         zeros = λ i h s. standing-kept n t i zerosRight (f .places 1 i h) s;
         distinct = alone;
         issued = λ i h. elim (ℕ-discrete (serialAt t i) 0) [

@@ -12,7 +12,7 @@ use Rattle.octets.specs.Octets.{part, allZero}
 use Rattle.table.specs.declared.Record.{Record}
 use Rattle.search.specs.declared.Found.{Found}
 use Rattle.search.specs.declared.Found.the-variants.{At, Nothing}
-use Rattle.table.specs.Layout.{lineSize, bodySize, lineOf, bodyOf, sizeOf, zerosIn}
+use Rattle.table.specs.Layout.{lineSize, bodySize, lineStart, bodyStart, sizeOf, zerosIn}
 use Rattle.table.specs.Records.{placeAt, serialAt, isFree, lastSerial, placesSaid, leadZeros}
 use Rattle.search.specs.Search.{first, isNothing, find}
 use Rattle.record_rules.specs.Rules.{stateRight, bitsRight, maskRight, limitRight, tailRight, wipedRight, replacedRight, replacementRight}
@@ -35,11 +35,11 @@ leadRight n t = allZero (leadZeros t)
 
 -- rule 4: "a free place zero in line and body"
 unfoldable pub freeRight : ℕ → List ℕ → ℕ → Bool
-freeRight n t i = allZero (part t (lineOf i) lineSize) && allZero (part t (bodyOf n i) bodySize)
+freeRight n t i = allZero (part t (lineStart i) lineSize) && allZero (part t (bodyStart n i) bodySize)
 
 -- rule 5: "in every other body the zeros field zero"
 unfoldable pub zerosRight : ℕ → List ℕ → ℕ → Bool
-zerosRight n t i = allZero (part t (bodyOf n i + zerosIn) 4)
+zerosRight n t i = allZero (part t (bodyStart n i + zerosIn) 4)
 
 -- another place has the serial of place i
 abbrev pub isTwin : List ℕ → ℕ → ℕ → Bool

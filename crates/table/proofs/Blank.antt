@@ -5,16 +5,16 @@ use Prim.Native.Nat.{ℕ, _+_, _-_, _^_, _≤_, _<_}
 use native.Mathlib.Omega.{arith}
 use mathlib.Core.Bool.{true}
 use mathlib.Core.List.{List}
-use lib.ListN.{length, take, drop, replicate, length-append, length-replicate}
+use lib.ListN.{take, drop, replicate, length-append, length-replicate}
 use lib.Seq.{drop-drop}
 use Rattle.octets.specs.Octets.{be, part, allZero, Bytes}
 use Rattle.octets.proofs.Numbers.{length-be, be-zero, fromBe-be, be-bytes, bytes-append}
 use Rattle.table.specs.declared.Record.{Record}
-use Rattle.table.specs.Layout.{lineSize, bodySize, materialSize, lineOf, bodyOf, sizeOf, Table, leadZerosIn, zerosIn}
-use Rattle.table.specs.Records.{line, body, lineBytes, bodyBytes, recordOf, placeAt, serialAt, lastSerial, placesSaid, leadZeros, blank}
+use Rattle.table.specs.Layout.{lineSize, bodySize, materialSize, lineStart, bodyStart, sizeOf, Table, leadZerosIn}
+use Rattle.table.specs.Records.{line, body, lineBytes, bodyBytes, recordOf, placeAt, serialAt, placesSaid, leadZeros, blank}
 use Rattle.octets.proofs.Zeros.{zeros-pass, pass-zeros, part-zeros, bytes-zeros}
 use Rattle.table.proofs.Lines.{InRange, recordOf-bytes}
-use Rattle.table.proofs.Places.{length-line-at, length-body-at, line-is, body-is, serial-is}
+use Rattle.table.proofs.Places.{length-line-at, length-body-at, serial-is}
 
 -- ---- the record of zeros
 
@@ -57,7 +57,7 @@ zero-range = record {
 
 module _ (n : ℕ) (t : List ℕ) (i : ℕ) (big : Table n t) (lo : i < n) where
   -- zero bytes are the record of zeros
-  pub zero-place : allZero (part t (lineOf i) lineSize) ≡ true → allZero (part t (bodyOf n i) bodySize) ≡ true → placeAt n t i ≡ zeroRecord
+  pub zero-place : allZero (part t (lineStart i) lineSize) ≡ true → allZero (part t (bodyStart n i) bodySize) ≡ true → placeAt n t i ≡ zeroRecord
   unfolding placeAt
   zero-place l b =
       ap₂ recordOf
@@ -65,19 +65,9 @@ module _ (n : ℕ) (t : List ℕ) (i : ℕ) (big : Table n t) (lo : i < n) where
       (pass-zeros _ b ∙ ap (λ (k : ℕ). replicate k 0) (length-body-at n t i big lo) ∙ sym zero-body)
       ∙ recordOf-bytes zeroRecord zero-range
 
-  -- and the record of zeros, in a table of bytes, is zero bytes
-  pub place-zero-line : Bytes t → placeAt n t i ≡ zeroRecord → allZero (part t (lineOf i) lineSize) ≡ true
-  place-zero-line h e = ap allZero (line-is n t i big lo h ∙ ap lineBytes e ∙ zero-line) ∙ zeros-pass lineSize
-
-  pub place-zero-body : Bytes t → part t (bodyOf n i + zerosIn) 4 ≡ be 4 0 → placeAt n t i ≡ zeroRecord → allZero (part t (bodyOf n i) bodySize) ≡ true
-  place-zero-body h z e = ap allZero (body-is n t i big lo h z ∙ ap bodyBytes e ∙ zero-body) ∙ zeros-pass bodySize
-
 -- the zeros of a body, as the test sees them
 pub zeros-test : (s : List ℕ) → s ≡ be 4 0 → allZero s ≡ true
 zeros-test s e = ap allZero (e ∙ be-zero 4) ∙ zeros-pass 4
-
-pub test-zeros : (s : List ℕ) → length s ≡ 4 → allZero s ≡ true → s ≡ be 4 0
-test-zeros s l e = pass-zeros s e ∙ ap (λ (k : ℕ). replicate k 0) l ∙ sym (be-zero 4)
 
 -- ---- the blank table
 
@@ -88,10 +78,6 @@ length-blank n = rw (length-append, length-append, length-be 4 0, length-be 4 n,
 pub bytes-blank : (n : ℕ) → Bytes (blank n)
 unfolding blank
 bytes-blank n = bytes-append (be 4 0) _ (be-bytes 4 0) (bytes-append (be 4 n) _ (be-bytes 4 n) (bytes-zeros (sizeOf n - 8)))
-
-pub last-blank : (n : ℕ) → lastSerial (blank n) ≡ 0
-unfolding lastSerial blank be
-last-blank n = fromBe-be 4 0 (omega arith)
 
 pub said-blank : (n : ℕ) → n < 256 ^ 4 → placesSaid (blank n) ≡ n
 unfolding placesSaid blank be
@@ -114,11 +100,11 @@ pub lead-blank : (n : ℕ) → leadZeros (blank n) ≡ replicate 8 0
 lead-blank n = part-blank n leadZerosIn 8 (omega arith) (omega arith)
 
 module _ (n i : ℕ) (lo : i < n) where
-  pub line-blank : part (blank n) (lineOf i) lineSize ≡ replicate lineSize 0
-  line-blank = part-blank n (lineOf i) lineSize (omega arith) (omega arith)
+  pub line-blank : part (blank n) (lineStart i) lineSize ≡ replicate lineSize 0
+  line-blank = part-blank n (lineStart i) lineSize (omega arith) (omega arith)
 
-  pub body-blank : part (blank n) (bodyOf n i) bodySize ≡ replicate bodySize 0
-  body-blank = part-blank n (bodyOf n i) bodySize (omega arith) (omega arith)
+  pub body-blank : part (blank n) (bodyStart n i) bodySize ≡ replicate bodySize 0
+  body-blank = part-blank n (bodyStart n i) bodySize (omega arith) (omega arith)
 
   pub place-blank : placeAt n (blank n) i ≡ zeroRecord
   place-blank =

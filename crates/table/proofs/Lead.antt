@@ -11,8 +11,8 @@ use Rattle.octets.specs.Octets.{be, fromBe, part, Bytes}
 use Rattle.octets.proofs.Numbers.{length-be, be-bytes, fromBe-be}
 use Rattle.octets.proofs.Stores.{part-sets-same, part-sets-above}
 use Rattle.table.specs.declared.Record.{Record}
-use Rattle.table.specs.Layout.{lineSize, bodySize, materialSize, lineOf, bodyOf, Table, lastIn, placesIn, leadZerosIn, serialIn, stateIn, zerosIn}
-use Rattle.table.specs.Records.{lineBytes, bodyBytes, recordOf, placeAt, withPlace, serialAt, stateAt, lastSerial, withLast, placesSaid, leadZeros}
+use Rattle.table.specs.Layout.{lineSize, bodySize, materialSize, lineStart, bodyStart, Table, lastIn, placesIn, leadZerosIn, serialIn, zerosIn}
+use Rattle.table.specs.Records.{lineBytes, bodyBytes, recordOf, placeAt, withPlace, serialAt, lastSerial, withLast, placesSaid, leadZeros}
 use Rattle.octets.proofs.Zeros.{bytes-sets}
 use Rattle.table.proofs.Places.{part-with, sets-swap}
 
@@ -58,23 +58,19 @@ module _ (t : List ℕ) (s : ℕ) where
   lead-last = part-last t s leadZerosIn 8 (omega arith)
 
   module _ (i : ℕ) where
-    pub line-last : part (withLast t s) (lineOf i) lineSize ≡ part t (lineOf i) lineSize
-    line-last = part-last t s (lineOf i) lineSize (omega arith)
+    pub line-last : part (withLast t s) (lineStart i) lineSize ≡ part t (lineStart i) lineSize
+    line-last = part-last t s (lineStart i) lineSize (omega arith)
 
     pub serial-last : serialAt (withLast t s) i ≡ serialAt t i
     unfolding serialAt
-    serial-last = ap fromBe (part-last t s (lineOf i + serialIn) 4 (omega arith))
-
-    pub state-last : stateAt (withLast t s) i ≡ stateAt t i
-    unfolding stateAt
-    state-last = ap fromBe (part-last t s (lineOf i + stateIn) 1 (omega arith))
+    serial-last = ap fromBe (part-last t s (lineStart i + serialIn) 4 (omega arith))
 
     module _ (n : ℕ) where
-      pub body-last : part (withLast t s) (bodyOf n i) bodySize ≡ part t (bodyOf n i) bodySize
-      body-last = part-last t s (bodyOf n i) bodySize (omega arith)
+      pub body-last : part (withLast t s) (bodyStart n i) bodySize ≡ part t (bodyStart n i) bodySize
+      body-last = part-last t s (bodyStart n i) bodySize (omega arith)
 
-      pub zeros-last : part (withLast t s) (bodyOf n i + zerosIn) 4 ≡ part t (bodyOf n i + zerosIn) 4
-      zeros-last = part-last t s (bodyOf n i + zerosIn) 4 (omega arith)
+      pub zeros-last : part (withLast t s) (bodyStart n i + zerosIn) 4 ≡ part t (bodyStart n i + zerosIn) 4
+      zeros-last = part-last t s (bodyStart n i + zerosIn) 4 (omega arith)
 
       pub place-last : placeAt n (withLast t s) i ≡ placeAt n t i
       unfolding placeAt
@@ -85,5 +81,5 @@ pub last-swap : (n : ℕ) (t : List ℕ) (i : ℕ) (r : Record) (s : ℕ) → wi
 unfolding withLast withPlace
 last-swap n t i r s =
     let e : length (be 4 s) ≡ 4 = length-be 4 s in
-    sets-swap (sets t (lineOf i) (lineBytes r)) (bodyOf n i) (bodyBytes r) lastIn (be 4 s) (inr (omega arith))
-    ∙ ap (λ (l : List ℕ). sets l (bodyOf n i) (bodyBytes r)) (sets-swap t (lineOf i) (lineBytes r) lastIn (be 4 s) (inr (omega arith)))
+    sets-swap (sets t (lineStart i) (lineBytes r)) (bodyStart n i) (bodyBytes r) lastIn (be 4 s) (inr (omega arith))
+    ∙ ap (λ (l : List ℕ). sets l (bodyStart n i) (bodyBytes r)) (sets-swap t (lineStart i) (lineBytes r) lastIn (be 4 s) (inr (omega arith)))

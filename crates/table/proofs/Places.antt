@@ -12,7 +12,7 @@ use lib.Dec.{lit≤}
 use Rattle.octets.specs.Octets.{be, fromBe, part, Bytes}
 use Rattle.octets.proofs.Stores.{sets-comm, part-sets-same, part-sets-below, part-sets-above, part-part, length-part}
 use Rattle.table.specs.declared.Record.{Record}
-use Rattle.table.specs.Layout.{lineSize, bodySize, materialSize, lineOf, bodyOf, sizeOf, Table, serialIn, stateIn, unitIn, bitsIn, replacedIn, replacementIn, totalIn, countIn, maskIn, zerosIn, materialIn}
+use Rattle.table.specs.Layout.{lineSize, bodySize, materialSize, lineStart, bodyStart, Table, serialIn, stateIn, unitIn, bitsIn, replacedIn, replacementIn, totalIn, countIn, maskIn, zerosIn, materialIn}
 use Rattle.table.specs.Records.{lineBytes, bodyBytes, recordOf, placeAt, withPlace, serialAt, stateAt}
 use Rattle.octets.proofs.Zeros.{bytes-sets}
 use Rattle.table.proofs.Lines.{InRange, recordOf-bytes, recordOf-range, line-back, body-back, zeros-body, length-line, length-body, bytes-line, bytes-body, bytes-part}
@@ -26,34 +26,34 @@ apart j i ne = elim (decLe j i) [ yes h ↦ inl (omega arith) | no h ↦ inr (om
 -- the serial and the state, read by themselves
 pub serial-is : (n : ℕ) (t : List ℕ) (i : ℕ) → serialAt t i ≡ placeAt n t i .serial
 unfolding serialAt placeAt recordOf
-serial-is n t i = ap fromBe (sym (part-part t (lineOf i) lineSize serialIn 4 (lit≤ tt)))
+serial-is n t i = ap fromBe (sym (part-part t (lineStart i) lineSize serialIn 4 (lit≤ tt)))
 
 pub state-is : (n : ℕ) (t : List ℕ) (i : ℕ) → stateAt t i ≡ placeAt n t i .state
 unfolding stateAt placeAt recordOf
-state-is n t i = ap fromBe (sym (part-part t (lineOf i) lineSize stateIn 1 (lit≤ tt)))
+state-is n t i = ap fromBe (sym (part-part t (lineStart i) lineSize stateIn 1 (lit≤ tt)))
 
 module _ (n : ℕ) (t : List ℕ) (i : ℕ) (big : Table n t) (lo : i < n) where
-  pub length-line-at : length (part t (lineOf i) lineSize) ≡ lineSize
-  length-line-at = length-part t (lineOf i) lineSize (omega arith)
+  pub length-line-at : length (part t (lineStart i) lineSize) ≡ lineSize
+  length-line-at = length-part t (lineStart i) lineSize (omega arith)
 
-  pub length-body-at : length (part t (bodyOf n i) bodySize) ≡ bodySize
-  length-body-at = length-part t (bodyOf n i) bodySize (omega arith)
+  pub length-body-at : length (part t (bodyStart n i) bodySize) ≡ bodySize
+  length-body-at = length-part t (bodyStart n i) bodySize (omega arith)
 
   -- every record of a table of bytes is in range
   pub place-range : Bytes t → InRange (placeAt n t i)
   unfolding placeAt
-  place-range h = recordOf-range _ _ length-line-at length-body-at (bytes-part t (lineOf i) lineSize h) (bytes-part t (bodyOf n i) bodySize h)
+  place-range h = recordOf-range _ _ length-line-at length-body-at (bytes-part t (lineStart i) lineSize h) (bytes-part t (bodyStart n i) bodySize h)
 
   -- its line and its body are the bytes that spell it
-  pub line-is : Bytes t → part t (lineOf i) lineSize ≡ lineBytes (placeAt n t i)
+  pub line-is : Bytes t → part t (lineStart i) lineSize ≡ lineBytes (placeAt n t i)
   unfolding placeAt
-  line-is h = sym (line-back _ _ length-line-at length-body-at (bytes-part t (lineOf i) lineSize h) (bytes-part t (bodyOf n i) bodySize h))
+  line-is h = sym (line-back _ _ length-line-at length-body-at (bytes-part t (lineStart i) lineSize h) (bytes-part t (bodyStart n i) bodySize h))
 
-  pub body-is : Bytes t → part t (bodyOf n i + zerosIn) 4 ≡ be 4 0 → part t (bodyOf n i) bodySize ≡ bodyBytes (placeAt n t i)
+  pub body-is : Bytes t → part t (bodyStart n i + zerosIn) 4 ≡ be 4 0 → part t (bodyStart n i) bodySize ≡ bodyBytes (placeAt n t i)
   unfolding placeAt
   body-is h z =
-      sym (body-back _ _ length-line-at length-body-at (bytes-part t (lineOf i) lineSize h) (bytes-part t (bodyOf n i) bodySize h)
-      (part-part t (bodyOf n i) bodySize zerosIn 4 (lit≤ tt) ∙ z))
+      sym (body-back _ _ length-line-at length-body-at (bytes-part t (lineStart i) lineSize h) (bytes-part t (bodyStart n i) bodySize h)
+      (part-part t (bodyStart n i) bodySize zerosIn 4 (lit≤ tt) ∙ z))
 
 -- ---- a store
 
@@ -63,53 +63,53 @@ length-with n t i r = simp length-sets
 
 pub bytes-with : (n : ℕ) (t : List ℕ) (i : ℕ) (r : Record) → Bytes t → Bytes (r .material) → Bytes (withPlace n t i r)
 unfolding withPlace
-bytes-with n t i r h g = bytes-sets _ (bodyOf n i) (bodyBytes r) (bytes-sets t (lineOf i) (lineBytes r) h (bytes-line r)) (bytes-body r g)
+bytes-with n t i r h g = bytes-sets _ (bodyStart n i) (bodyBytes r) (bytes-sets t (lineStart i) (lineBytes r) h (bytes-line r)) (bytes-body r g)
 
 module _ (n : ℕ) (t : List ℕ) (i : ℕ) (r : Record) (big : Table n t) (lo : i < n) (m : length (r .material) ≡ materialSize) where
   -- the bytes of the place itself
-  pub line-with : part (withPlace n t i r) (lineOf i) lineSize ≡ lineBytes r
+  pub line-with : part (withPlace n t i r) (lineStart i) lineSize ≡ lineBytes r
   unfolding withPlace
   line-with =
-      part-sets-below (sets t (lineOf i) (lineBytes r)) (bodyOf n i) (bodyBytes r) (lineOf i) lineSize (omega arith)
-      ∙ part-sets-same t (lineOf i) (lineBytes r) lineSize (length-line r) (omega arith)
+      part-sets-below (sets t (lineStart i) (lineBytes r)) (bodyStart n i) (bodyBytes r) (lineStart i) lineSize (omega arith)
+      ∙ part-sets-same t (lineStart i) (lineBytes r) lineSize (length-line r) (omega arith)
 
-  pub body-with : part (withPlace n t i r) (bodyOf n i) bodySize ≡ bodyBytes r
+  pub body-with : part (withPlace n t i r) (bodyStart n i) bodySize ≡ bodyBytes r
   unfolding withPlace
-  body-with = part-sets-same (sets t (lineOf i) (lineBytes r)) (bodyOf n i) (bodyBytes r) bodySize (length-body r m) (rw length-sets (omega arith))
+  body-with = part-sets-same (sets t (lineStart i) (lineBytes r)) (bodyStart n i) (bodyBytes r) bodySize (length-body r m) (rw length-sets (omega arith))
 
-  pub zeros-with : part (withPlace n t i r) (bodyOf n i + zerosIn) 4 ≡ be 4 0
+  pub zeros-with : part (withPlace n t i r) (bodyStart n i + zerosIn) 4 ≡ be 4 0
   zeros-with =
-      sym (part-part (withPlace n t i r) (bodyOf n i) bodySize zerosIn 4 (lit≤ tt))
+      sym (part-part (withPlace n t i r) (bodyStart n i) bodySize zerosIn 4 (lit≤ tt))
       ∙ ap (λ (b : List ℕ). part b zerosIn 4) body-with ∙ zeros-body r
 
   -- a part that lies clear of both stays
-  pub part-with : (a k : ℕ) → (a + k ≤ lineOf i) ⊎ (lineOf i + lineSize ≤ a) → (a + k ≤ bodyOf n i) ⊎ (bodyOf n i + bodySize ≤ a)
+  pub part-with : (a k : ℕ) → (a + k ≤ lineStart i) ⊎ (lineStart i + lineSize ≤ a) → (a + k ≤ bodyStart n i) ⊎ (bodyStart n i + bodySize ≤ a)
       → part (withPlace n t i r) a k ≡ part t a k
   unfolding withPlace
   part-with a k h u =
       ⊎-elim
-      (λ x. part-sets-below (sets t (lineOf i) (lineBytes r)) (bodyOf n i) (bodyBytes r) a k x)
-      (λ x. part-sets-above (sets t (lineOf i) (lineBytes r)) (bodyOf n i) (bodyBytes r) a k (rw (length-body r m) x))
+      (λ x. part-sets-below (sets t (lineStart i) (lineBytes r)) (bodyStart n i) (bodyBytes r) a k x)
+      (λ x. part-sets-above (sets t (lineStart i) (lineBytes r)) (bodyStart n i) (bodyBytes r) a k (rw (length-body r m) x))
       u
-      ∙ ⊎-elim (λ x. part-sets-below t (lineOf i) (lineBytes r) a k x) (λ x. part-sets-above t (lineOf i) (lineBytes r) a k (rw (length-line r) x)) h
+      ∙ ⊎-elim (λ x. part-sets-below t (lineStart i) (lineBytes r) a k x) (λ x. part-sets-above t (lineStart i) (lineBytes r) a k (rw (length-line r) x)) h
 
   -- the bytes of another place
   module _ (j : ℕ) (below : j < n) (ne : j ≡ i → ⊥) where
-    pub line-other : part (withPlace n t i r) (lineOf j) lineSize ≡ part t (lineOf j) lineSize
-    line-other = ⊎-elim (λ x. part-with (lineOf j) lineSize (inl (omega arith)) (inl (omega arith))) (λ x. part-with (lineOf j) lineSize (inr (omega arith)) (inl (omega arith))) (apart j i ne)
+    pub line-other : part (withPlace n t i r) (lineStart j) lineSize ≡ part t (lineStart j) lineSize
+    line-other = ⊎-elim (λ x. part-with (lineStart j) lineSize (inl (omega arith)) (inl (omega arith))) (λ x. part-with (lineStart j) lineSize (inr (omega arith)) (inl (omega arith))) (apart j i ne)
 
-    pub body-other : part (withPlace n t i r) (bodyOf n j) bodySize ≡ part t (bodyOf n j) bodySize
+    pub body-other : part (withPlace n t i r) (bodyStart n j) bodySize ≡ part t (bodyStart n j) bodySize
     body-other =
         ⊎-elim
-        (λ x. part-with (bodyOf n j) bodySize (inr (omega arith)) (inl (omega arith)))
-        (λ x. part-with (bodyOf n j) bodySize (inr (omega arith)) (inr (omega arith)))
+        (λ x. part-with (bodyStart n j) bodySize (inr (omega arith)) (inl (omega arith)))
+        (λ x. part-with (bodyStart n j) bodySize (inr (omega arith)) (inr (omega arith)))
         (apart j i ne)
 
-    pub zeros-other : part (withPlace n t i r) (bodyOf n j + zerosIn) 4 ≡ part t (bodyOf n j + zerosIn) 4
+    pub zeros-other : part (withPlace n t i r) (bodyStart n j + zerosIn) 4 ≡ part t (bodyStart n j + zerosIn) 4
     zeros-other =
-        sym (part-part (withPlace n t i r) (bodyOf n j) bodySize zerosIn 4 (lit≤ tt))
+        sym (part-part (withPlace n t i r) (bodyStart n j) bodySize zerosIn 4 (lit≤ tt))
         ∙ ap (λ (b : List ℕ). part b zerosIn 4) body-other
-        ∙ part-part t (bodyOf n j) bodySize zerosIn 4 (lit≤ tt)
+        ∙ part-part t (bodyStart n j) bodySize zerosIn 4 (lit≤ tt)
 
     pub place-other : placeAt n (withPlace n t i r) j ≡ placeAt n t j
     unfolding placeAt
@@ -118,9 +118,6 @@ module _ (n : ℕ) (t : List ℕ) (i : ℕ) (r : Record) (big : Table n t) (lo :
     pub serial-other : serialAt (withPlace n t i r) j ≡ serialAt t j
     serial-other = serial-is n (withPlace n t i r) j ∙ ap (λ (x : Record). x .serial) place-other ∙ sym (serial-is n t j)
 
-    pub state-other : stateAt (withPlace n t i r) j ≡ stateAt t j
-    state-other = state-is n (withPlace n t i r) j ∙ ap (λ (x : Record). x .state) place-other ∙ sym (state-is n t j)
-
 module _ (n : ℕ) (t : List ℕ) (i : ℕ) (r : Record) (big : Table n t) (lo : i < n) (h : InRange r) where
   pub place-same : placeAt n (withPlace n t i r) i ≡ r
   unfolding placeAt
@@ -128,9 +125,6 @@ module _ (n : ℕ) (t : List ℕ) (i : ℕ) (r : Record) (big : Table n t) (lo :
 
   pub serial-same : serialAt (withPlace n t i r) i ≡ r .serial
   serial-same = serial-is n (withPlace n t i r) i ∙ ap (λ (x : Record). x .serial) place-same
-
-  pub state-same : stateAt (withPlace n t i r) i ≡ r .state
-  state-same = state-is n (withPlace n t i r) i ∙ ap (λ (x : Record). x .state) place-same
 
   -- a store that keeps the serial keeps every serial
   pub serial-with : r .serial ≡ serialAt t i → (j : ℕ) → j < n → serialAt (withPlace n t i r) j ≡ serialAt t j
@@ -156,10 +150,10 @@ with-comm n t i j r q mr mq h k =
     let eq : length (lineBytes q) ≡ lineSize = length-line q in
     let fr : length (bodyBytes r) ≡ bodySize = length-body r mr in
     let fq : length (bodyBytes q) ≡ bodySize = length-body q mq in
-    ap (λ (l : List ℕ). sets l (bodyOf n j) bq) (sets-swap (sets t (lineOf i) lr) (bodyOf n i) br (lineOf j) lq (inr (omega arith)))
-    ∙ ap (λ (l : List ℕ). sets (sets l (bodyOf n i) br) (bodyOf n j) bq) (sets-swap t (lineOf i) lr (lineOf j) lq (inl (omega arith)))
-    ∙ sets-swap (sets (sets t (lineOf j) lq) (lineOf i) lr) (bodyOf n i) br (bodyOf n j) bq (inl (omega arith))
-    ∙ ap (λ (l : List ℕ). sets l (bodyOf n i) br) (sets-swap (sets t (lineOf j) lq) (lineOf i) lr (bodyOf n j) bq (inl (omega arith)))
+    ap (λ (l : List ℕ). sets l (bodyStart n j) bq) (sets-swap (sets t (lineStart i) lr) (bodyStart n i) br (lineStart j) lq (inr (omega arith)))
+    ∙ ap (λ (l : List ℕ). sets (sets l (bodyStart n i) br) (bodyStart n j) bq) (sets-swap t (lineStart i) lr (lineStart j) lq (inl (omega arith)))
+    ∙ sets-swap (sets (sets t (lineStart j) lq) (lineStart i) lr) (bodyStart n i) br (bodyStart n j) bq (inl (omega arith))
+    ∙ ap (λ (l : List ℕ). sets l (bodyStart n i) br) (sets-swap (sets t (lineStart j) lq) (lineStart i) lr (bodyStart n j) bq (inl (omega arith)))
 
 -- two stores at different places may change places
 pub with-swap : (n : ℕ) (t : List ℕ) (i j : ℕ) (r q : Record) → length (r .material) ≡ materialSize → length (q .material) ≡ materialSize → i < n → j < n → (i ≡ j → ⊥)
@@ -168,7 +162,7 @@ with-swap n t i j r q mr mq h k ne = ⊎-elim (λ l. with-comm n t i j r q mr mq
 
 -- ---- fields that are read one by one
 
-pub place-fields : (n : ℕ) (t : List ℕ) (i : ℕ) → let l = lineOf i in let b = bodyOf n i in
+pub place-fields : (n : ℕ) (t : List ℕ) (i : ℕ) → let l = lineStart i in let b = bodyStart n i in
     _≡_ {A = Record}
     (record {
       serial = fromBe (part t (l + serialIn) 4);
@@ -185,8 +179,8 @@ pub place-fields : (n : ℕ) (t : List ℕ) (i : ℕ) → let l = lineOf i in le
     (placeAt n t i)
 unfolding placeAt recordOf
 place-fields n t i =
-    let l = lineOf i in
-    let b = bodyOf n i in
+    let l = lineStart i in
+    let b = bodyStart n i in
     cc (
       part-part t l lineSize serialIn 4 (lit≤ tt),
       part-part t l lineSize stateIn 1 (lit≤ tt),

@@ -18,12 +18,12 @@ abbrev pub bodySize : ℕ
 bodySize = 56
 
 -- where the line of place i starts
-abbrev pub lineOf : ℕ → ℕ
-lineOf i = leadSize + lineSize * i
+abbrev pub lineStart : ℕ → ℕ
+lineStart i = leadSize + lineSize * i
 
 -- where the body of place i starts
-abbrev pub bodyOf : ℕ → ℕ → ℕ
-bodyOf n i = leadSize + lineSize * n + bodySize * i
+abbrev pub bodyStart : ℕ → ℕ → ℕ
+bodyStart n i = leadSize + lineSize * n + bodySize * i
 
 -- the bytes of a table of n places
 abbrev pub sizeOf : ℕ → ℕ
@@ -92,7 +92,7 @@ HasLead t = leadSize ≤ length t
 
 -- the line of place i is there
 abbrev pub HasLine : List ℕ → ℕ → Type 0
-HasLine t i = lineOf i + lineSize ≤ length t
+HasLine t i = lineStart i + lineSize ≤ length t
 
 -- t has the size of a table of n places: the check of the table shows it before any function over one is called, and every item keeps it
 abbrev pub Table : ℕ → List ℕ → Type 0

@@ -8,7 +8,7 @@ use lib.Seq.{sets}
 use lib.Dec.{eqb}
 use Rattle.octets.specs.Octets.{be, fromBe, part}
 use Rattle.table.specs.declared.Record.{Record}
-use Rattle.table.specs.Layout.{lineSize, bodySize, lineOf, bodyOf, sizeOf, materialSize, lastIn, placesIn, leadZerosIn, serialIn, stateIn, unitIn, bitsIn, replacedIn, replacementIn, totalIn, countIn, maskIn, materialIn}
+use Rattle.table.specs.Layout.{lineSize, bodySize, lineStart, bodyStart, sizeOf, materialSize, lastIn, placesIn, leadZerosIn, serialIn, stateIn, unitIn, bitsIn, replacedIn, replacementIn, totalIn, countIn, maskIn, materialIn}
 
 -- "serial (4, zero means free), state (1), unit (1), length in bits (2), replaced serial (4), replacement serial (4)"
 unfoldable pub line : ℕ → ℕ → ℕ → ℕ → ℕ → ℕ → List ℕ
@@ -41,19 +41,19 @@ recordOf l b = record {
 
 -- the record at place i of a table of n places
 unfoldable pub placeAt : ℕ → List ℕ → ℕ → Record
-placeAt n t i = recordOf (part t (lineOf i) lineSize) (part t (bodyOf n i) bodySize)
+placeAt n t i = recordOf (part t (lineStart i) lineSize) (part t (bodyStart n i) bodySize)
 
 -- the table with r stored at place i
 unfoldable pub withPlace : ℕ → List ℕ → ℕ → Record → List ℕ
-withPlace n t i r = sets (sets t (lineOf i) (lineBytes r)) (bodyOf n i) (bodyBytes r)
+withPlace n t i r = sets (sets t (lineStart i) (lineBytes r)) (bodyStart n i) (bodyBytes r)
 
 -- the serial of place i, read by itself
 unfoldable pub serialAt : List ℕ → ℕ → ℕ
-serialAt t i = fromBe (part t (lineOf i + serialIn) 4)
+serialAt t i = fromBe (part t (lineStart i + serialIn) 4)
 
 -- the state of place i, read by itself
 unfoldable pub stateAt : List ℕ → ℕ → ℕ
-stateAt t i = fromBe (part t (lineOf i + stateIn) 1)
+stateAt t i = fromBe (part t (lineStart i + stateIn) 1)
 
 -- "serial .. zero means free"
 abbrev pub isFree : List ℕ → ℕ → Bool

@@ -4,7 +4,7 @@
 ghost use mathlib.Core.Path.{_≡_};
 ghost use Prim.Native.Nat.{_+_, _^_, _≤_, _<_};
 ghost use lib.ListN.{length};
-ghost use Rattle.table.specs.Layout.{HasLead, HasLine, lineOf, bodyOf, sizeOf};
+ghost use Rattle.table.specs.Layout.{HasLead, HasLine, lineStart, bodyStart, sizeOf};
 ghost use Rattle.table.specs.Records.{serialAt, lastSerial, withLast, placesSaid};
 
 // The layout of a table of so many places: constants for sizes and for where each field stands, and
@@ -60,8 +60,8 @@ impl Layout {
 
     // Where the line of place i starts. The caller shows that the offset is a usize.
     pub fn line(i: usize) -> usize
-        requires { ⌜ lineOf i < 2 ^ 64 ⌝ }
-        ensures { λ r. ⌜ r ≡ lineOf i ⌝ }
+        requires { ⌜ lineStart i < 2 ^ 64 ⌝ }
+        ensures { λ r. ⌜ r ≡ lineStart i ⌝ }
     {
         Self::LEAD + Self::LINE * i
     }
@@ -69,7 +69,7 @@ impl Layout {
     // Where the body of place i starts. The caller shows that the place is one of the table's, and that the table's size is a usize.
     pub fn body(self, i: usize) -> usize
         requires { ⌜ (i < self .places) × (sizeOf (self .places) < 2 ^ 64) ⌝ }
-        ensures { λ r. ⌜ r ≡ bodyOf (self .places) i ⌝ }
+        ensures { λ r. ⌜ r ≡ bodyStart (self .places) i ⌝ }
     {
         Self::LEAD + Self::LINE * self.places + Self::BODY * i
     }

@@ -1,6 +1,6 @@
 -- The items that bytes stand for, by the item at the front: what a reader above goes by.
 -- Assumes nothing.
-use mathlib.Core.Path.{_≡_, refl, sym, ap, subst, _∙_}
+use mathlib.Core.Path.{_≡_, refl, sym, subst, _∙_}
 use Prim.Native.Nat.{ℕ, suc, _+_, _-_, _≤_}
 use native.Mathlib.Omega.{arith}
 use mathlib.Core.Bool.{true, false≢true}
@@ -18,7 +18,7 @@ use Rattle.ttlv.specs.declared.First.the-variants.{End, Bad, Value, Grou
 use Rattle.ttlv.proofs.View.{View, end, bad, val, grp, view}
 use Rattle.ttlv.proofs.Put.{inv-value, inv-group, no-some}
 use Rattle.ttlv.proofs.Turns.{group-room, parse-step}
-use Rattle.ttlv.proofs.Deeper.{parse-deeper, parse-much-deeper}
+use Rattle.ttlv.proofs.Deeper.{parse-deeper}
 
 -- ---- at any depth
 
@@ -63,13 +63,6 @@ parse-run s t h = rw h
 pub parse-tree : (s : List ℕ) (t : Items) → parse depthMost s ≡ some t → treeOf s ≡ t
 unfolding treeOf orNone
 parse-tree s t h = rw h
-
--- the same of what is read at a lesser depth
-pub shallow-run : (d : ℕ) (s : List ℕ) (t : Items) → d ≤ depthMost → parse d s ≡ some t → (isRun s ≡ true) × (treeOf s ≡ t)
-shallow-run d s t l h =
-    let k : 8 - d + d ≡ 8 = omega arith in
-    let e : parse depthMost s ≡ some t = ap (λ (n : ℕ). parse n s) (sym k) ∙ parse-much-deeper (8 - d) d s t h in
-    (parse-run s t e, parse-tree s t e)
 
 -- the items of s by the item at its front: the items of a structure and of the rest are again those that bytes stand for
 pub data Tree (s : List ℕ) : Items → First → Type 0 where

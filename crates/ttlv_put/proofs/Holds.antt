@@ -16,7 +16,7 @@ use Rattle.tags.specs.Tags.{tagOk}
 use Rattle.ttlv_types.specs.Types.{structure, padded, lengthOk}
 use Rattle.ttlv.specs.Items.{Items, nil, group, head, encode}
 use Rattle.ttlv.proofs.Back.{eights}
-use Rattle.ttlv_put.specs.Write.{item, numberItem, join, spelled, fits, widthOk, valueFits, Wrote, WroteNumber, WroteValue, WroteHead, Holds}
+use Rattle.ttlv_put.specs.Write.{item, numberItem, join, spellable, fits, widthOk, valueFits, Wrote, WroteNumber, WroteValue, WroteHead, Holds}
 use Rattle.ttlv.proofs.Sizes.{length-head}
 use Rattle.ttlv_put.proofs.Sizes.{length-value, length-number, encode-join, encode-group}
 
@@ -58,7 +58,7 @@ body-length n e = eq-eqb (n % 8) 0 e
 pub holds-head : (tag n : ℕ) (b : Items) {room after : List ℕ} {r : ℕ} → tagOk tag ≡ true → n ≡ length (encode b) → n < 256 ^ 4 → 8 ≤ length room
     → WroteHead tag n room after r → Holds (head tag structure n) room after r
 holds-head tag n b {room} t e s l w =
-    let ok : (tagOk tag && spelled n && lengthOk structure n && fits room 8) ≡ true = rw (t, lt-ltb n (256 ^ 4) s, body-length n (rw e (eights b)), le-leb 8 (length room) l) in
+    let ok : (tagOk tag && spellable n && lengthOk structure n && fits room 8) ≡ true = rw (t, lt-ltb n (256 ^ 4) s, body-length n (rw e (eights b)), le-leb 8 (length room) l) in
     holds-wrote ok (sym (length-head tag structure n)) l w
 
 -- ---- one behind another

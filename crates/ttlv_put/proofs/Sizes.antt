@@ -59,7 +59,3 @@ join-assoc (group tag body rest) u w = ap (group tag body) (join-assoc rest u w)
 pub encode-value : (tag kind : ℕ) (v : List ℕ) (u : Items) → encode (value tag kind v u) ≡ encode (value tag kind v nil) ++ encode u
 unfolding join
 encode-value tag kind v u = encode-join (value tag kind v nil) u
-
-pub encode-group-then : (tag : ℕ) (b u : Items) → encode (group tag b u) ≡ encode (group tag b nil) ++ encode u
-unfolding join
-encode-group-then tag b u = encode-join (group tag b nil) u

@@ -35,8 +35,8 @@ abbrev pub fits : List ℕ → ℕ → Bool
 fits room size = leb size (length room)
 
 -- a length that four bytes spell
-abbrev pub spelled : ℕ → Bool
-spelled n = ltb n (256 ^ 4)
+abbrev pub spellable : ℕ → Bool
+spellable n = ltb n (256 ^ 4)
 
 -- a number has 1 to 8 bytes
 abbrev pub widthOk : ℕ → Bool
@@ -44,7 +44,7 @@ widthOk width = leb 1 width && leb width 8
 
 -- a value of n bytes has a length that can be spelled, and fits with its head and its padding
 abbrev pub valueFits : List ℕ → ℕ → Bool
-valueFits room n = spelled n && fits room (8 + padded n)
+valueFits room n = spellable n && fits room (8 + padded n)
 
 -- ---- what a writer answers
 
@@ -66,7 +66,7 @@ WroteValue right tag kind v room after r =
 
 -- the head of a structure with a body of n bytes, if the tag is one and a body can have so many
 abbrev pub WroteHead : ℕ → ℕ → List ℕ → List ℕ → ℕ → Type 0
-WroteHead tag n room after r = Wrote (tagOk tag && spelled n && lengthOk structure n && fits room 8) 8 (head tag structure n) room after r
+WroteHead tag n room after r = Wrote (tagOk tag && spellable n && lengthOk structure n && fits room 8) 8 (head tag structure n) room after r
 
 -- ---- what a room holds after writes
 

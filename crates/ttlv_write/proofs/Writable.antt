@@ -20,7 +20,7 @@ use Rattle.tags.specs.Tags.{tagOk}
 use Rattle.ttlv.specs.Parse.{parse}
 use Rattle.ttlv.proofs.Back.{parse-back}
 use Rattle.octets.proofs.Bools.{both}
-use Rattle.ttlv_put.specs.Write.{item, numberItem, fits, spelled, valueFits, Wrote}
+use Rattle.ttlv_put.specs.Write.{item, numberItem, fits, spellable, valueFits, Wrote}
 use Rattle.ttlv_write.specs.Writable.{bit, writable}
 use Rattle.ttlv_put.proofs.Sizes.{length-value}
 use Rattle.ttlv_put.proofs.Holds.{wrote-size, wrote-bytes}
@@ -38,7 +38,7 @@ module _ (tag : ℕ) (room : List ℕ) where
 
   number-writable : (width kind bits : ℕ) → 0 < width → width ≤ 8 → allowed kind (be width bits) ≡ true → writable (numberItem width tag kind bits) room ≡ (tagOk tag && fits room 16)
   number-writable width kind bits l m e =
-      let s : spelled width ≡ true = lt-ltb width (256 ^ 4) (omega arith) in
+      let s : spellable width ≡ true = lt-ltb width (256 ^ 4) (omega arith) in
       let p : 8 + padded width ≡ 16 = omega arith in
       value-writable kind (be width bits) ∙ rw (e, and-true, length-be width bits, s, p)
 
@@ -83,8 +83,8 @@ module _ (tag : ℕ) (room : List ℕ) where
   unfolding valueOk ifb
   big-integer-writable v = value-writable bigInteger v ∙ simp (and-true)
 
-  -- a structure reads back where its items do, its tag is one and its length can be spelled
-  pub structure-writable : (d : ℕ) (b : Items) → wellFormed d b ≡ true → wellFormed (suc d) (group tag b nil) ≡ (tagOk tag && spelled (length (encode b)))
+  -- a structure reads back where its items do, its tag is one and its length can be spellable
+  pub structure-writable : (d : ℕ) (b : Items) → wellFormed d b ≡ true → wellFormed (suc d) (group tag b nil) ≡ (tagOk tag && spellable (length (encode b)))
   unfolding wellFormed
   structure-writable d b e = rw e (simp and-true)
 

@@ -3,10 +3,10 @@
 use native.Mathlib.Omega.{arith}
 use mathlib.Core.Path.{_≡_}
 use Rattle.ttlv_types.specs.Types.{enumeration}
-use Rattle.rules.specs.Numbers.{reasonNumber}
+use Rattle.rules.specs.Numbers.{reasonNumber, operationFailed}
 use Rattle.tags.specs.Tags.{resultStatus, resultReason}
 use Rattle.ttlv_put.specs.Write.{join}
-use Rattle.answer.specs.Respond.{operationFailed, outcomeItems}
+use Rattle.answer.specs.Respond.{outcomeItems}
 use Rattle.attributes_write.proofs.Compose.{puts-word, then-word}
 use borrow.Author.Needs.{needs}
 use Rattle.answer_write.proofs.write_failure.Statement.{statement}

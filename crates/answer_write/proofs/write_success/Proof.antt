@@ -5,7 +5,7 @@ use mathlib.Core.Path.{refl}
 use Rattle.ttlv_types.specs.Types.{enumeration}
 use Rattle.tags.specs.Tags.{resultStatus, responsePayload}
 use Rattle.ttlv_put.proofs.Holds.{holds-then, holds-left}
-use Rattle.answer.specs.Respond.{success}
+use Rattle.rules.specs.Numbers.{success}
 use Rattle.attributes_write.proofs.Compose.{puts-word, holds-structure}
 use borrow.Author.Needs.{needs}
 use Rattle.answer_write.proofs.write_success.Statement.{statement}

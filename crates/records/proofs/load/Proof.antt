@@ -4,7 +4,7 @@ use Prim.Native.Nat.{ℕ, _+_}
 use mathlib.Core.Path.{_≡_}
 use mathlib.Core.List.{List}
 use Rattle.octets.specs.Octets.{fromBe, part}
-use Rattle.table.specs.Layout.{lineOf, bodyOf, materialSize, serialIn, stateIn, unitIn, bitsIn, replacedIn, replacementIn, totalIn, countIn, maskIn, materialIn}
+use Rattle.table.specs.Layout.{lineStart, bodyStart, materialSize, serialIn, stateIn, unitIn, bitsIn, replacedIn, replacementIn, totalIn, countIn, maskIn, materialIn}
 use Rattle.table.specs.Records.{placeAt}
 use Rattle.table.specs.declared.Record.{Record}
 use Rattle.table.proofs.Places.{place-fields}
@@ -100,7 +100,7 @@ material-at-requires : tie.Need-material-at-requires
 material-at-requires c κs = search needs
 
 -- the fields, each read where it stands
-fields-read : (n : ℕ) (t : List ℕ) (i : ℕ) {l b serial state unit bits replaced replacement total count mask : ℕ} {material : List ℕ} → l ≡ lineOf i → b ≡ bodyOf n i
+fields-read : (n : ℕ) (t : List ℕ) (i : ℕ) {l b serial state unit bits replaced replacement total count mask : ℕ} {material : List ℕ} → l ≡ lineStart i → b ≡ bodyStart n i
     → serial ≡ fromBe (part t (l + serialIn) 4)
     → state ≡ fromBe (part t (l + stateIn) 1)
     → unit ≡ fromBe (part t (l + unitIn) 1)

@@ -4,7 +4,7 @@ use Prim.Native.Nat.{ℕ}
 use mathlib.Core.Path.{_≡_}
 use mathlib.Core.List.{List}
 use lib.Seq.{sets}
-use Rattle.table.specs.Layout.{lineOf, bodyOf}
+use Rattle.table.specs.Layout.{lineStart, bodyStart}
 use Rattle.table.specs.Records.{lineBytes, bodyBytes, withPlace}
 use Rattle.table.specs.declared.Record.{Record}
 use borrow.Author.Needs.{needs}
@@ -27,7 +27,7 @@ same-length : tie.Need-same-length
 same-length c = search needs
 
 -- the line, and then the body
-both-stored : (n : ℕ) (t : List ℕ) (i : ℕ) (r : Record) {l b : ℕ} {t₁ t₂ : List ℕ} → l ≡ lineOf i → b ≡ bodyOf n i → t₁ ≡ sets t l (lineBytes r) → t₂ ≡ sets t₁ b (bodyBytes r)
+both-stored : (n : ℕ) (t : List ℕ) (i : ℕ) (r : Record) {l b : ℕ} {t₁ t₂ : List ℕ} → l ≡ lineStart i → b ≡ bodyStart n i → t₁ ≡ sets t l (lineBytes r) → t₂ ≡ sets t₁ b (bodyBytes r)
     → t₂ ≡ withPlace n t i r
 unfolding withPlace
 both-stored n t i r hl hb e₁ e₂ = rw (e₂, e₁, hl, hb)

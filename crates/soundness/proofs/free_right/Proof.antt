@@ -4,7 +4,7 @@ use Prim.Native.Nat.{_-_}
 use mathlib.Core.Path.{ap, _∙_}
 use borrow.Author.Needs.{needs}
 use Rattle.octets.specs.Octets.{allZero}
-use Rattle.table.specs.Layout.{lineOf, bodyOf, lineSize, bodySize}
+use Rattle.table.specs.Layout.{lineStart, bodyStart, lineSize, bodySize}
 use Rattle.soundness.specs.Sound.{freeRight}
 use Rattle.octets.proofs.Bools.{and-cong}
 use Rattle.soundness.proofs.Parts.{lent-part}
@@ -54,8 +54,8 @@ returns c =
     let l = c .before .before .before .before .before .line in
     let b = c .before .before .before .before .body in
     and-cong
-    (c .before .before .all-zero .ensures ∙ ap allZero (lent-part (a .t .now) (l .result) (lineOf (a .i)) lineSize (l .ensures)))
-    (c .all-zero2 .ensures ∙ ap allZero (lent-part (a .t .now) (b .result) (bodyOf (a .n) (a .i)) bodySize (b .ensures)))
+    (c .before .before .all-zero .ensures ∙ ap allZero (lent-part (a .t .now) (l .result) (lineStart (a .i)) lineSize (l .ensures)))
+    (c .all-zero2 .ensures ∙ ap allZero (lent-part (a .t .now) (b .result) (bodyStart (a .n) (a .i)) bodySize (b .ensures)))
 
 pub free-right-spec : {M : Type 1} → statement M
 free-right-spec =

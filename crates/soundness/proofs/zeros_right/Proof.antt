@@ -4,7 +4,7 @@ use Prim.Native.Nat.{ℕ, _+_, _-_}
 use mathlib.Core.Path.{ap, _∙_}
 use borrow.Author.Needs.{needs}
 use Rattle.octets.specs.Octets.{allZero}
-use Rattle.table.specs.Layout.{bodyOf, zerosIn}
+use Rattle.table.specs.Layout.{bodyStart, zerosIn}
 use Rattle.soundness.specs.Sound.{zerosRight}
 use Rattle.soundness.proofs.Parts.{lent-part}
 use Rattle.soundness.proofs.zeros_right.Statement.{statement}
@@ -36,7 +36,7 @@ unfolding zerosRight
 returns c =
     let a = c .before .before .before .before .args in
     let b = c .before .before .body in
-    c .all-zero .ensures ∙ ap allZero (lent-part (a .t .now) (b .result + zerosIn) (bodyOf (a .n) (a .i) + zerosIn) 4 (ap (λ (at : ℕ). at + zerosIn) (b .ensures)))
+    c .all-zero .ensures ∙ ap allZero (lent-part (a .t .now) (b .result + zerosIn) (bodyStart (a .n) (a .i) + zerosIn) 4 (ap (λ (at : ℕ). at + zerosIn) (b .ensures)))
 
 pub zeros-right-spec : {M : Type 1} → statement M
 zeros-right-spec =

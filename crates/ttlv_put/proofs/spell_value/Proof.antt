@@ -9,7 +9,7 @@ use borrow.Author.Tests.{le-leb, lt-leb, lt-ltb, le-ltb, not-true, not-false}
 use Rattle.tags.specs.Tags.{tagOk}
 use Rattle.ttlv_types.specs.Types.{padded}
 use Rattle.ttlv.specs.Items.{encode}
-use Rattle.ttlv_put.specs.Write.{item, spelled, valueFits}
+use Rattle.ttlv_put.specs.Write.{item, spellable, valueFits}
 use Rattle.ttlv_put.proofs.Puts.{wrote-value, wrote-none}
 use borrow.Author.Needs.{needs}
 use Rattle.ttlv_put.proofs.spell_value.Statement.{statement}
@@ -35,7 +35,7 @@ returns-2 : tie.Need-returns-2
 returns-2 c =
     let a = start (c .before) .args in
     let n = length (a .s .now) in
-    let long : spelled n ≡ false = le-ltb n _ (omega arith) in
+    let long : spellable n ≡ false = le-ltb n _ (omega arith) in
     wrote-none _ (8 + padded n) (encode (item (a .tag) (a .kind) (a .s .now))) (a .out .now) (rw (right (c .before), long))
 
 add-full : tie.Need-add-full
@@ -52,7 +52,7 @@ returns-3 c =
     let tagged = c .before .before in
     let a = start tagged .args in
     let n = length (a .s .now) in
-    let long : spelled n ≡ true = lt-ltb n _ (omega arith) in
+    let long : spellable n ≡ true = lt-ltb n _ (omega arith) in
     let short : (tagOk (a .tag) && true && valueFits (a .out .now) n) ≡ false = rw (right tagged, long, lt-leb (8 + padded n) (length (a .out .now)) (c .if3 .taken)) in
     wrote-none _ (8 + padded n) (encode (item (a .tag) (a .kind) (a .s .now))) (a .out .now) short
 
@@ -83,7 +83,7 @@ returns-4 c =
     let a = start tagged .args in
     let n = length (a .s .now) in
     let room : 8 + padded n ≤ length (a .out .now) = omega arith in
-    let long : spelled n ≡ true = lt-ltb n _ (omega arith) in
+    let long : spellable n ≡ true = lt-ltb n _ (omega arith) in
     let ok : (tagOk (a .tag) && true && valueFits (a .out .now) n) ≡ true = rw (right tagged, long, le-leb (8 + padded n) (length (a .out .now)) room) in
     wrote-value _ (a .tag) (a .kind) n _ _ (a .s .now) (a .out .now) ok refl refl refl room (headed .put-head .ensures) (valued .put-all .ensures) (filled .put .ensures)
 

@@ -9,7 +9,7 @@ use borrow.Author.Tests.{le-leb, lt-leb, lt-ltb, le-ltb, not-true, not-false}
 use Rattle.tags.specs.Tags.{tagOk}
 use Rattle.ttlv_types.specs.Types.{structure, lengthOk}
 use Rattle.ttlv.specs.Items.{head}
-use Rattle.ttlv_put.specs.Write.{spelled, fits}
+use Rattle.ttlv_put.specs.Write.{spellable, fits}
 use Rattle.ttlv.proofs.Sizes.{length-head}
 use Rattle.ttlv_put.proofs.Puts.{wrote-all, wrote-none}
 use borrow.Author.Needs.{needs}
@@ -23,8 +23,8 @@ start c = c .before .before .before
 right : (c : tie.Else1) → tagOk (start c .args .tag) ≡ true
 right c = sym (c .before .tag-ok .ensures) ∙ not-false _ (c .if1 .left)
 
--- then the length is spelled, and then it is a body's
-short : (c : tie.Else2) → spelled (start (c .before) .args .len) ≡ true
+-- then the length can be spelled, and then it is a body's
+short : (c : tie.Else2) → spellable (start (c .before) .args .len) ≡ true
 short c = lt-ltb (start (c .before) .args .len) (256 ^ 4) (omega arith)
 
 abbrev tagged : tie.Else3 → tie.Else1
@@ -52,10 +52,10 @@ length-ok-requires c κs = search needs
 
 returns-3 : tie.Need-returns-3
 returns-3 c =
-    let spelled-there = c .before .before in
-    let a = start (spelled-there .before) .args in
+    let spellable-there = c .before .before in
+    let a = start (spellable-there .before) .args in
     let odd : lengthOk structure (a .len) ≡ false = sym (c .before .length-ok .ensures) ∙ not-true _ (c .if3 .taken) in
-    wrote-none _ 8 (head (a .tag) structure (a .len)) (a .out .now) (rw (right (spelled-there .before), short spelled-there, odd))
+    wrote-none _ 8 (head (a .tag) structure (a .len)) (a .out .now) (rw (right (spellable-there .before), short spellable-there, odd))
 
 returns-4 : tie.Need-returns-4
 returns-4 c =
@@ -75,7 +75,7 @@ returns-5 c =
     let at = put .before .before .before in
     let a = start (tagged at) .args in
     let room : 8 ≤ length (a .out .now) = omega arith in
-    let fit : (tagOk (a .tag) && spelled (a .len) && lengthOk structure (a .len) && fits (a .out .now) 8) ≡ true = rw (right (tagged at), short (at .before .before), whole at, le-leb 8 (length (a .out .now)) room) in
+    let fit : (tagOk (a .tag) && spellable (a .len) && lengthOk structure (a .len) && fits (a .out .now) 8) ≡ true = rw (right (tagged at), short (at .before .before), whole at, le-leb 8 (length (a .out .now)) room) in
     wrote-all _ 8 (head (a .tag) structure (a .len)) (a .out .now) fit (sym (length-head (a .tag) structure (a .len))) room (put .put-head .ensures)
 
 pub write-structure-spec : {M : Type 1} → statement M
