@@ -17,6 +17,10 @@ pub sets-append : (t : List ℕ) (at : ℕ) (xs ys : List ℕ) → sets t at (xs
 sets-append t at [] ys = rw add-zero
 sets-append t at (x ∷ xs) ys = sets-append (set t at x) (suc at) xs ys ∙ rw (add-suc, suc-add)
 
+-- b is stored from the front on, and then d right behind it
+pub sets-then : (zs b d : List ℕ) {xs ys : List ℕ} (a : ℕ) → xs ≡ sets zs 0 b → length b ≡ a → ys ≡ sets xs a d → ys ≡ sets zs 0 (b ++ d)
+sets-then zs b d a e l h = h ∙ sym (rw (sets-append zs 0 b d, l, e, zero-add))
+
 -- a store below a run goes before it or after it
 pub sets-set-below : (t : List ℕ) (at : ℕ) (xs : List ℕ) (j b : ℕ) → j < at → set (sets t at xs) j b ≡ sets (set t j b) at xs
 sets-set-below t at [] j b h = refl

@@ -2,7 +2,6 @@
 -- Assumes nothing.
 use mathlib.Core.Path.{_≡_, sym, _∙_}
 use Prim.Native.Nat.{ℕ, _+_, _-_, _%_, _≤_, _<_}
-use native.Mathlib.Nat.{zero-add}
 use native.Mathlib.Omega.{arith}
 use mathlib.Core.List.{List, [], _∷_, _++_, append-assoc, append-nil}
 use lib.ListN.{length, length-append}
@@ -11,16 +10,12 @@ use mathlib.Core.Bool.{Bool, true, false, and-false}
 use Rattle.octets.specs.Octets.{be, over}
 use Rattle.octets.proofs.If.{ifb-true, ifb-false}
 use Rattle.octets.proofs.Numbers.{length-be, be-zero}
-use Rattle.octets.proofs.Stores.{sets-append, sets-over}
+use Rattle.octets.proofs.Stores.{sets-then, sets-over}
 use Rattle.ttlv_types.specs.Types.{padded}
 use Rattle.ttlv.specs.Items.{nil, value, head, encode}
 use Rattle.ttlv.proofs.Sizes.{length-head}
 use Rattle.ttlv_put.proofs.Sizes.{length-value}
 use Rattle.ttlv_put.specs.Write.{item, Wrote, WroteValue}
-
--- b is stored from the front on, and then d right behind it
-pub puts-then : (zs b d : List ℕ) {xs ys : List ℕ} (a : ℕ) → xs ≡ sets zs 0 b → length b ≡ a → ys ≡ sets xs a d → ys ≡ sets zs 0 (b ++ d)
-puts-then zs b d a e l h = h ∙ sym (rw (sets-append zs 0 b d, l, e, zero-add))
 
 -- a byte of one is the byte
 one-byte : (x : ℕ) → x < 256 → be 1 x ≡ x ∷ []
@@ -31,9 +26,9 @@ one-byte x h = let e : x % 256 ≡ x = omega arith in rw e
 pub head-puts : (tag kind n : ℕ) (zs : List ℕ) {t₁ t₂ t₃ : List ℕ} → kind < 256
     → t₁ ≡ sets zs 0 (be 3 tag) → t₂ ≡ sets t₁ 3 (be 1 kind) → t₃ ≡ sets t₂ 4 (be 4 n) → t₃ ≡ sets zs 0 (head tag kind n)
 head-puts tag kind n zs h e₁ e₂ e₃ =
-    let two = puts-then zs (be 3 tag) (be 1 kind) 3 e₁ (length-be 3 tag) e₂ in
+    let two = sets-then zs (be 3 tag) (be 1 kind) 3 e₁ (length-be 3 tag) e₂ in
     let l : length (be 3 tag ++ be 1 kind) ≡ 4 = rw (length-append, length-be 3 tag, length-be 1 kind) in
-    puts-then zs (be 3 tag ++ be 1 kind) (be 4 n) 4 two l e₃ ∙ rw (one-byte kind h, append-assoc)
+    sets-then zs (be 3 tag ++ be 1 kind) (be 4 n) 4 two l e₃ ∙ rw (one-byte kind h, append-assoc)
 
 -- ---- one value
 
@@ -42,9 +37,9 @@ value-puts : (tag kind n w : ℕ) (v zs : List ℕ) {t₁ t₂ t₃ : List ℕ} 
     → t₁ ≡ sets zs 0 (head tag kind n) → t₂ ≡ sets t₁ 8 v → t₃ ≡ sets t₂ (8 + n) (be w 0) → t₃ ≡ sets zs 0 (encode (value tag kind v nil))
 unfolding encode
 value-puts tag kind n w v zs l p e₁ e₂ e₃ =
-    let two = puts-then zs (head tag kind n) v 8 e₁ (length-head tag kind n) e₂ in
+    let two = sets-then zs (head tag kind n) v 8 e₁ (length-head tag kind n) e₂ in
     let k : length (head tag kind n ++ v) ≡ 8 + n = rw (length-append, length-head, l) in
-    puts-then zs (head tag kind n ++ v) (be w 0) (8 + n) two k e₃ ∙ rw (be-zero w, p, l, append-nil, append-assoc)
+    sets-then zs (head tag kind n ++ v) (be w 0) (8 + n) two k e₃ ∙ rw (be-zero w, p, l, append-nil, append-assoc)
 
 -- ---- what a writer answers
 
