@@ -87,11 +87,17 @@ module _ (s : List ℕ) (run : isRun s ≡ true) (tag kind : ℕ) (num : isNumbe
     abbrev then : ℕ × Items → Option B
     then = λ (v, r). p v >> (ended r >> k v)
 
-    pub only-goes : {v next : ℕ} → onlyNumberAt s tag kind ≡ Number v next → (numberOf tag kind (treeOf s) >>= then) ≡ (p v >> k v)
+    only-goes : {v next : ℕ} → onlyNumberAt s tag kind ≡ Number v next → (numberOf tag kind (treeOf s) >>= then) ≡ (p v >> k v)
     unfolding onlyNumberAt
     only-goes {v} {next} h =
         let i = last-number (length s) (numberAt s tag kind) h in
         number-goes (i .0) then ∙ ap (λ (o : Option B). p v >> o) (holds (k v) (ended-yes s run (number-rest s run tag kind (i .0)) (i .1)))
+
+    pub only-bad : {v next : ℕ} → onlyNumberAt s tag kind ≡ Number v next → p v ≡ false → (numberOf tag kind (treeOf s) >>= then) ≡ none
+    only-bad {v} h f = only-goes h ∙ fails (k v) f
+
+    pub only-is : {v next : ℕ} → onlyNumberAt s tag kind ≡ Number v next → p v ≡ true → (numberOf tag kind (treeOf s) >>= then) ≡ k v
+    only-is {v} h f = only-goes h ∙ holds (k v) f
 
     more-stops : {v next : ℕ} → numberAt s tag kind ≡ Number v next → (next ≡ length s → ⊥) → (numberOf tag kind (treeOf s) >>= then) ≡ none
     more-stops {v} {next} e n =
