@@ -97,7 +97,7 @@ module _ (s : List ℕ) (run : isRun s ≡ true) where
       (span-none (bytesAt s uniqueBatchItemId byteString) (sym (ifb-true _ _ _ y) ∙ e)))
       (λ n. let q : Span 0 0 ≡ NoSpan = sym (ifb-false _ _ _ n) ∙ e in let z : _≡_ {A = ℕ} 0 1 = cc in absurd (omega arith))
 
-  pub id-some : {n next : ℕ} → idAt s ≡ Span n next → IdIs s n next
+  id-some : {n next : ℕ} → idAt s ≡ Span n next → IdIs s n next
   unfolding idAt idOk idBytes
   id-some {n} {next} e =
       on-bool (startsAt s uniqueBatchItemId)
@@ -130,7 +130,7 @@ module _ (s : List ℕ) (run : isRun s ≡ true) where
   item-no-operation e = rw (number-none s run operationTag enumeration refl e)
 
   module _ {v n : ℕ} (e : numberAt s operationTag enumeration ≡ Number v n) where
-    pub item-behind : isRun (tail s n) ≡ true
+    item-behind : isRun (tail s n) ≡ true
     item-behind = run-behind s run (number-rest s run operationTag enumeration e)
 
     pub operation-end : operationEnd s ≡ n

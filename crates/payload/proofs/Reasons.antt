@@ -14,14 +14,12 @@ use Rattle.ttlv.specs.Items.{Items}
 use Rattle.ttlv.specs.Tree.{isRun, treeOf}
 use Rattle.rules.specs.Numbers.{create, rekey, getAttributes, getUsageAllocation, activate, revoke, destroy}
 use Rattle.rules.specs.declared.Attributes.{Attributes}
-use Rattle.rules.specs.declared.Reason.{Reason}
-use Rattle.rules.specs.declared.Reason.the-variants.{OperationNotSupported, InvalidField}
 use Rattle.payload.specs.Payload.{Limit, createIn, targetIn, aloneIn, allocationIn, revokeIn, orInvalid, command}
 use Rattle.payload.specs.Readers.{targetAt, limitRead, limitsRead, attributesRead}
 use Rattle.payload.specs.Reasons.{operationOf, reasonOf, readReason, targetReason, limitReason, attributesReason}
 use Rattle.payload.specs.declared.Target.{Target}
 use Rattle.payload.specs.declared.Command.{Command}
-use Rattle.payload.specs.declared.Command.the-variants.{Unsupported, Rekey, Activate, Destroy, GetAttributes}
+use Rattle.payload.specs.declared.Command.the-variants.{Rekey, Activate, Destroy, GetAttributes}
 use Rattle.payload.specs.declared.TargetRead.{TargetRead}
 use Rattle.payload.specs.declared.TargetRead.the-variants.{Is, InvalidField as InvalidTarget}
 use Rattle.payload.proofs.Targets.{target-is, target-none}

@@ -46,7 +46,7 @@ module _ {B : Type 0} {b : Bool} (x : Option B) where
 
 -- ---- a field that ends where the run ends
 
-pub last-number : (n : ℕ) (f : NumberField) {v next : ℕ} → lastNumber n f ≡ Number v next → (f ≡ Number v next) × (next ≡ n)
+last-number : (n : ℕ) (f : NumberField) {v next : ℕ} → lastNumber n f ≡ Number v next → (f ≡ Number v next) × (next ≡ n)
 unfolding lastNumber
 last-number n (Number w m) {v} {next} h =
     on-bool (eqb m n)
@@ -56,7 +56,7 @@ last-number n (Number w m) {v} {next} h =
     (λ e. let q : NoNumber ≡ Number v next = sym (ifb-false _ _ _ e) ∙ h in let z : _≡_ {A = ℕ} 0 1 = cc in absurd (omega arith))
 last-number n NoNumber h = let z : _≡_ {A = ℕ} 0 1 = cc in absurd (omega arith)
 
-pub last-body : (n : ℕ) (f : BodyField) {next : ℕ} → lastBody n f ≡ Body next → (f ≡ Body next) × (next ≡ n)
+last-body : (n : ℕ) (f : BodyField) {next : ℕ} → lastBody n f ≡ Body next → (f ≡ Body next) × (next ≡ n)
 unfolding lastBody
 last-body n (Body m) {next} h =
     on-bool (eqb m n)

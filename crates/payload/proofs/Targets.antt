@@ -3,7 +3,7 @@
 use mathlib.Core.Path.{_≡_, refl, sym, ap, _∙_}
 use Prim.Native.Nat.{ℕ, _≤_}
 use native.Mathlib.Omega.{arith}
-use mathlib.Core.Bool.{true, false}
+use mathlib.Core.Bool.{true}
 use mathlib.Core.Option.{Option, none, some}
 use mathlib.Core.List.{List}
 use lib.ListN.{length}
@@ -114,7 +114,7 @@ module _ (s : List ℕ) (run : isRun s ≡ true) where
   target-stops k e = stops k (target-none e)
 
   module _ {target : Target} {next : ℕ} (e : targetAt s ≡ Is target next) where
-    pub target-goes : {B : Type 0} (k : Target × Items → Option B) → (targetIn (treeOf s) >>= k) ≡ k (target, treeOf (tail s next))
+    target-goes : {B : Type 0} (k : Target × Items → Option B) → (targetIn (treeOf s) >>= k) ≡ k (target, treeOf (tail s next))
     target-goes k = goes k (target-is e .read)
 
     pub target-behind : isRun (tail s next) ≡ true

@@ -3,7 +3,7 @@
 use mathlib.Core.Path.{_≡_, refl, ap, ap₂, _∙_}
 use Prim.Native.Nat.{ℕ, _-_, _≤_}
 use native.Mathlib.Omega.{arith}
-use mathlib.Core.Bool.{Bool, true, false, false≢true}
+use mathlib.Core.Bool.{true, false, false≢true}
 use mathlib.Core.Option.{Option, none, some}
 use mathlib.Core.List.{List}
 use lib.ListN.{length}
@@ -16,7 +16,7 @@ use Rattle.ttlv_types.specs.Types.{integer, longInteger, enumeration}
 use Rattle.ttlv.specs.Items.{Items, ended}
 use Rattle.ttlv.specs.Parse.{firstOf}
 use Rattle.ttlv.specs.Tree.{isRun, treeOf}
-use Rattle.fields.specs.Fields.{bodyOf, numberOf, optional}
+use Rattle.fields.specs.Fields.{bodyOf, numberOf}
 use Rattle.fields.specs.Found.{startsIn, startsAt, numberAt, bodyAt}
 use Rattle.fields.specs.declared.NumberField.the-variants.{Number, NoNumber}
 use Rattle.fields.specs.declared.BodyField.the-variants.{Body, NoBody}
@@ -119,7 +119,7 @@ module _ (s : List ℕ) (run : isRun s ≡ true) where
 abbrev pub withLimits : ℕ → ℕ → Option (Option Limit) → Option Attributes
 withLimits bits mask o = o >>= λ limit. some (wantedOf bits mask limit)
 
-abbrev pub wants : ℕ → ℕ → ℕ → ℕ → Attributes
+abbrev wants : ℕ → ℕ → ℕ → ℕ → Attributes
 wants bits mask unit total = record { bits = bits; mask = mask; unit = unit; total = total }
 
 module _ (bits mask : ℕ) where
