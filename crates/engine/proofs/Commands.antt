@@ -1,13 +1,11 @@
 -- What a command says of the operation that asked for it, and of the values that its payload may have.
 -- Assumes nothing.
 use Prim.Native.Nat.{ℕ}
-use mathlib.Core.Path.{_≡_, refl, subst}
+use mathlib.Core.Path.{_≡_, refl, sym, ap, _∙_, subst}
 use mathlib.Core.Logic.{inl, inr}
 use mathlib.Core.Bool.{true}
 use mathlib.Core.Option.{Option, none, some}
 use native.Mathlib.Omega.{arith}
-use borrow.Author.Tests.{eqb-true}
-use Rattle.octets.proofs.If.{on-if}
 use Rattle.ttlv.specs.Items.{Items}
 use Rattle.values.specs.Values.{bitsOk, maskOk, unitOk, totalOk}
 use Rattle.rules.specs.declared.Attributes.{Attributes}
@@ -17,8 +15,11 @@ use Rattle.payload.specs.declared.Target.{Target}
 use Rattle.payload.specs.declared.Command.{Command}
 use Rattle.payload.specs.declared.Command.the-variants.{Unsupported, Invalid, Create, Rekey, GetUsageAllocation, Activate, Revoke, Destroy, GetAttributes}
 use Rattle.tags.specs.Tags.{usageLimits}
-use Rattle.payload.specs.Payload.{Limit, limitIn, limitFirst, wantedOf, attributesIn, createIn, aloneIn, allocationIn, revokeIn, orInvalid, command}
-use Rattle.octets.proofs.Maybe.{some-is, on-bind, on-test}
+use Rattle.payload.specs.Payload.{Limit, limitIn, limitFirst, wantedOf, limitsIn, maskedIn, attributesIn, createIn, orInvalid, command}
+use Rattle.payload.specs.Reasons.{operationOf, reasonOf}
+use Rattle.payload.proofs.Commands.{of-create}
+use Rattle.payload.proofs.Reasons.{command-operation}
+use Rattle.octets.proofs.Maybe.{not-some, some-is, on-bind, on-test}
 use Rattle.answer.proofs.Fields.{on-optional}
 
 -- the operation of each command, and what a Create may ask for
@@ -53,56 +54,53 @@ first-ok t a h =
     on-bind h λ b e1 h1. on-bind h1 λ limit e2 h2.
     subst (λ (p : Limit × Items). (unitOk (p .0 .unit) ≡ true) × (totalOk (p .0 .total) ≡ true)) (some-is h2) (limit-ok (b .0) limit e2)
 
+masked-ok : (bits : ℕ) (t : Items) (wanted : Attributes) → bitsOk bits ≡ true → maskedIn bits t ≡ some wanted → Allowed wanted
+unfolding maskedIn limitsIn
+masked-ok bits t wanted good h =
+    on-bind h λ m e1 h1. on-test h1 λ mask h2. on-bind h2 λ limit e2 h3. on-bind e2 λ l e3 h4. on-test h4 λ end h5.
+    subst Allowed (ap (wantedOf bits (m .0)) (some-is h5) ∙ some-is h3)
+    (on-optional usageLimits limitFirst (m .1) (λ (p : Option Limit × Items). Allowed (wantedOf bits (m .0) (p .0))) e3
+    (wanted-ok bits (m .0) good mask none (λ limit z. absurd (not-some z)))
+    (λ x rest e. wanted-ok bits (m .0) good mask (some x) (λ limit z. subst (λ (y : Limit). (unitOk (y .unit) ≡ true) × (totalOk (y .total) ≡ true)) (some-is z) (first-ok (m .1) (x, rest) e))))
+
 attributes-ok : (t : Items) (wanted : Attributes) → attributesIn t ≡ some wanted → Allowed wanted
 unfolding attributesIn
 attributes-ok t wanted h =
-    on-bind h λ a e1 h1. on-test h1 λ algorithm h2. on-bind h2 λ b e2 h3. on-test h3 λ bits h4. on-bind h4 λ m e4 h5. on-test h5 λ mask h6. on-bind h6 λ l e6 h7. on-test h7 λ end h8.
-    subst Allowed (some-is h8)
-    (on-optional usageLimits limitFirst (m .1) (λ (p : Option Limit × Items). Allowed (wantedOf (b .0) (m .0) (p .0))) e6
-    (wanted-ok (b .0) (m .0) bits mask none (λ limit z. absurd (none-some z)))
-    (λ x rest e. wanted-ok (b .0) (m .0) bits mask (some x) (λ limit z. subst (λ (y : Limit). (unitOk (y .unit) ≡ true) × (totalOk (y .total) ≡ true)) (some-is z) (first-ok (m .1) (x, rest) e))))
+    on-bind h λ a e1 h1. on-test h1 λ algorithm h2. on-bind h2 λ b e2 h3. on-test h3 λ bits h4. masked-ok (b .0) (b .1) wanted bits h4
+
+create-ok : (t : Items) (wanted : Attributes) → orInvalid (createIn t) ≡ Create wanted → Allowed wanted
+unfolding createIn orInvalid
+create-ok t wanted h =
+    on-bind (read (createIn t) h) λ a e1 h1. on-test h1 λ kind h2. on-bind h2 λ b e2 h3. on-test h3 λ end h4. on-bind h4 λ v e4 h5.
+    attributes-ok (b .0) wanted (e4 ∙ ap (λ (x : Attributes). some x) (made (some-is h5)))
   where
-    none-some : {limit : Limit} → none ≡ some limit → ⊥
-    none-some z = let y : _≡_ {A = ℕ} 0 1 = cc in omega arith
+    read : (o : Option Command) → orInvalid o ≡ Create wanted → o ≡ some (Create wanted)
+    read none z = let y : _≡_ {A = ℕ} 0 1 = cc in absurd (omega arith)
+    read (some c) z = ap (λ (x : Command). some x) z
+
+    made : {v : Attributes} → Create v ≡ Create wanted → v ≡ wanted
+    made z = cc
 
 -- ---- every operation
 
-module _ (operation : ℕ) where
-  or-invalid : (o : Option Command) → ((c : Command) → o ≡ some c → Commanded operation c) → Commanded operation (orInvalid o)
-  unfolding orInvalid
-  or-invalid none f = not-valid
-  or-invalid (some c) f = f c refl
+module _ (operation : ℕ) (t : Items) where
+  -- a command that does not fail by itself is of the operation that asked for it
+  is : {c : Command} {n : ℕ} → command operation t ≡ c → reasonOf c ≡ none → operationOf c ≡ some n → operation ≡ n
+  is e r o = some-is (sym (command-operation operation t (ap reasonOf e ∙ r)) ∙ ap operationOf e ∙ o)
 
-  by-create : operation ≡ create → (t : Items) (c : Command) → createIn t ≡ some c → Commanded operation c
-  unfolding createIn
-  by-create o t c h =
-      on-bind h λ a e1 h1. on-test h1 λ kind h2. on-bind h2 λ b e2 h3. on-test h3 λ end h4. on-bind h4 λ wanted e4 h5.
-      subst (Commanded operation) (some-is h5) (to-create o (attributes-ok (b .0) wanted e4))
+  by-command : (c : Command) → command operation t ≡ c → Commanded operation c
+  unfolding reasonOf operationOf
+  by-command Unsupported e = not-supported
+  by-command Invalid e = not-valid
+  by-command (Create wanted) e =
+      let o = is e refl refl in
+      to-create o (create-ok t wanted (sym (of-create operation t o) ∙ e))
+  by-command (Rekey target) e = to-rekey (is e refl refl)
+  by-command (GetUsageAllocation target amount) e = to-allocate (is e refl refl)
+  by-command (Activate target) e = to-activate (is e refl refl)
+  by-command (Revoke target code) e = to-revoke (is e refl refl)
+  by-command (Destroy target) e = to-destroy (is e refl refl)
+  by-command (GetAttributes target) e = to-show (is e refl refl)
 
-  by-alone : (make : Target → Command) → ((target : Target) → Commanded operation (make target)) → (t : Items) (c : Command) → aloneIn make t ≡ some c → Commanded operation c
-  unfolding aloneIn
-  by-alone make f t c h = on-bind h λ a e1 h1. on-test h1 λ end h2. subst (Commanded operation) (some-is h2) (f (a .0))
-
-  by-allocation : operation ≡ getUsageAllocation → (t : Items) (c : Command) → allocationIn t ≡ some c → Commanded operation c
-  unfolding allocationIn
-  by-allocation o t c h =
-      on-bind h λ a e1 h1. on-bind h1 λ b e2 h2. on-test h2 λ amount h3. on-test h3 λ end h4. subst (Commanded operation) (some-is h4) (to-allocate o)
-
-  by-revoke : operation ≡ revoke → (t : Items) (c : Command) → revokeIn t ≡ some c → Commanded operation c
-  unfolding revokeIn
-  by-revoke o t c h =
-      on-bind h λ a e1 h1. on-bind h1 λ b e2 h2. on-test h2 λ end h3. on-bind h3 λ code e3 h4. on-test h4 λ good h5. on-test h5 λ end2 h6.
-      subst (Commanded operation) (some-is h6) (to-revoke o)
-
-  -- a command is of the operation that asked for it
-  pub commanded : (t : Items) → Commanded operation (command operation t)
-  unfolding command
-  commanded t =
-      on-if (Commanded operation) (λ e. or-invalid (createIn t) (by-create (eqb-true operation create e) t))
-      (λ _. on-if (Commanded operation) (λ e. or-invalid (aloneIn Rekey t) (by-alone Rekey (λ target. to-rekey (eqb-true operation rekey e)) t))
-      (λ _. on-if (Commanded operation) (λ e. or-invalid (allocationIn t) (by-allocation (eqb-true operation getUsageAllocation e) t))
-      (λ _. on-if (Commanded operation) (λ e. or-invalid (aloneIn Activate t) (by-alone Activate (λ target. to-activate (eqb-true operation activate e)) t))
-      (λ _. on-if (Commanded operation) (λ e. or-invalid (revokeIn t) (by-revoke (eqb-true operation revoke e) t))
-      (λ _. on-if (Commanded operation) (λ e. or-invalid (aloneIn Destroy t) (by-alone Destroy (λ target. to-destroy (eqb-true operation destroy e)) t))
-      (λ _. on-if (Commanded operation) (λ e. or-invalid (aloneIn GetAttributes t) (by-alone GetAttributes (λ target. to-show (eqb-true operation getAttributes e)) t))
-      (λ _. not-supported)))))))
+  pub commanded : Commanded operation (command operation t)
+  commanded = by-command (command operation t) refl

@@ -32,7 +32,7 @@ use Rattle.frame.specs.declared.ItemsRead.the-variants.{Items as Counted
 use Rattle.frame.specs.declared.Framing.{Framing}
 use Rattle.frame.specs.declared.FrameRead.the-variants.{Parts, NoFrame}
 use Rattle.tags.specs.Tags.{requestHeader, requestMessage}
-use Rattle.frame.specs.Frame.{Asked, Header, Frame, Request, Framed, refused, asked, headerIn, itemsIn, frameIn, versionOk, countOk, optionOf, optionOk, framing, framed}
+use Rattle.frame.specs.Frame.{Asked, Header, Frame, Request, Framed, refused, asked, headerIn, itemsIn, frameIn, frameWrong, isVersion, versionOk, batchMost, isCount, countOk, optionOf, optionOk, framing, framed}
 use Rattle.frame.specs.Readers.{headerRead, itemsRead, bodyEnd, itemsAt, frameRead, framingIn, framingOf}
 use Rattle.frame.proofs.Items.{none-left}
 use Rattle.octets.proofs.Maybe.{not-some, some-is}
@@ -247,14 +247,14 @@ record Accepted (o : Option Frame) (r : Request) : Type 0 where
   pub frame : Frame
   pub there : o ≡ some frame
   pub items : frame .items ≡ r .items
-  pub few : length (r .items) ≤ 16
+  pub few : length (r .items) ≤ batchMost
   pub known : optionOk (r .option) ≡ true
 
-few-items : (f : Frame) → countOk f ≡ true → length (f .items) ≤ 16
+few-items : (f : Frame) → countOk f ≡ true → length (f .items) ≤ batchMost
 few-items f c =
     let n = f .header .count in
-    let p = both (leb 1 n && leb n 16) (eqb n (length (f .items))) c in
-    let q = leb-true n 16 (both (leb 1 n) (leb n 16) (p .0) .1) in
+    let p = both (leb 1 n && leb n batchMost) (eqb n (length (f .items))) c in
+    let q = leb-true n batchMost (both (leb 1 n) (leb n batchMost) (p .0) .1) in
     let e = eqb-true n (length (f .items)) (p .1) in
     omega arith
 
@@ -288,7 +288,7 @@ pub record BatchShape (s : List ℕ) (r : Request) : Type 0 where
   pub within : framingOf s .items ≤ length s
   pub number : framingOf s .number ≡ 0
   pub option : framingOf s .option ≡ r .option
-  pub few : length (r .items) ≤ 16
+  pub few : length (r .items) ≤ batchMost
   pub known : optionOk (r .option) ≡ true
 
 some-message : (s : List ℕ) (t : Items) → message s ≡ some t → IsMessage s
@@ -326,8 +326,8 @@ batch-shape s t r h e =
 pub record Told (o : Option Frame) (at a b c d n x : ℕ) : Type 0 where
   pub frame : Frame
   pub there : o ≡ some frame
-  pub version : versionOk (frame .header) ≡ (eqb a 2 && eqb b 1)
-  pub counts : countOk frame ≡ (leb 1 d && leb d 16 && eqb d n)
+  pub version : versionOk (frame .header) ≡ isVersion a b
+  pub counts : countOk frame ≡ isCount d n
   pub option : optionOf (frame .header .option) ≡ c
   pub start : at ≡ x
 
@@ -339,9 +339,9 @@ told (some f) at {a} {b} {c} {d} {n} {x} h =
     let q : f .header .minor ≡ b = cc in
     let r : f .header .count ≡ d = cc in
     let t : length (f .items) ≡ n = cc in
-    record { frame = f; there = refl; version = ap₂ (λ (y z : ℕ). eqb y 2 && eqb z 1) p q; counts = ap₂ (λ (y z : ℕ). leb 1 y && leb y 16 && eqb y z) r t; option = cc; start = cc }
+    record { frame = f; there = refl; version = ap₂ isVersion p q; counts = ap₂ isCount r t; option = cc; start = cc }
 
-pub taken-6 : (o : Option Frame) (at : ℕ) → frameRead o at ≡ NoFrame → framingIn (framing o) at ≡ framingIn (refused 6) 0
+pub taken-6 : (o : Option Frame) (at : ℕ) → frameRead o at ≡ NoFrame → framingIn (framing o) at ≡ framingIn (refused frameWrong) 0
 unfolding frameRead framing framingIn
 taken-6 none at h = refl
 taken-6 (some f) at h = let z : _≡_ {A = ℕ} 0 1 = cc in absurd (omega arith)
@@ -350,16 +350,16 @@ module _ (o : Option Frame) (at : ℕ) {a b c d n x : ℕ} (t : Told o at a b c 
   by-framing : {k : Framed} → framing (some (t .frame)) ≡ k → framingIn (framing o) at ≡ framingIn k at
   by-framing e = ap (λ (y : Option Frame). framingIn (framing y) at) (t .there) ∙ ap (λ (y : Framed). framingIn y at) e
 
-  pub taken-7 : (eqb a 2 && eqb b 1) ≡ false → framingIn (framing o) at ≡ framingIn (refused 7) 0
+  pub taken-7 : isVersion a b ≡ false → framingIn (framing o) at ≡ framingIn (refused 7) 0
   unfolding framingIn
   taken-7 v = by-framing (other-version (t .frame) (t .version ∙ v))
 
-  module _ (v : (eqb a 2 && eqb b 1) ≡ true) where
-    pub taken-8 : (leb 1 d && leb d 16 && eqb d n) ≡ false → framingIn (framing o) at ≡ framingIn (refused 8) 0
+  module _ (v : isVersion a b ≡ true) where
+    pub taken-8 : isCount d n ≡ false → framingIn (framing o) at ≡ framingIn (refused 8) 0
     unfolding framingIn
     taken-8 k = by-framing (other-count (t .frame) (t .version ∙ v) (t .counts ∙ k))
 
-    module _ (k : (leb 1 d && leb d 16 && eqb d n) ≡ true) where
+    module _ (k : isCount d n ≡ true) where
       pub taken-9 : optionOk c ≡ false → framingIn (framing o) at ≡ framingIn (refused 9) 0
       unfolding framingIn
       taken-9 e = by-framing (other-option (t .frame) (t .version ∙ v) (t .counts ∙ k) (ap optionOk (t .option) ∙ e))

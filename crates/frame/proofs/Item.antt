@@ -3,7 +3,7 @@
 use mathlib.Core.Path.{_≡_, refl, sym, ap, ap₂, subst, _∙_}
 use Prim.Native.Nat.{ℕ, _+_, _-_, _^_, _≤_, _<_}
 use native.Mathlib.Omega.{arith}
-use mathlib.Core.Bool.{true, false, _&&_, false≢true}
+use mathlib.Core.Bool.{true, false, false≢true}
 use mathlib.Core.Option.{Option, none, some}
 use mathlib.Core.List.{List, _++_}
 use mathlib.Core.Logic.{_⊎_, inl, inr, ⊎-elim}
@@ -35,7 +35,7 @@ use Rattle.frame.specs.declared.ItemId.{ItemId}
 use Rattle.frame.specs.declared.ItemParts.{ItemParts}
 use Rattle.frame.specs.declared.ItemRead.the-variants.{Item, NoItem}
 use Rattle.tags.specs.Tags.{operationTag, requestPayload, uniqueBatchItemId}
-use Rattle.frame.specs.Frame.{Asked, idMost, idOk, idBytes, itemIn}
+use Rattle.frame.specs.Frame.{Asked, idMost, idLengthOk, idOk, idBytes, itemIn}
 use Rattle.frame.specs.Readers.{numberEnd, bytesEnd, idSpan, idAt, operationEnd, payloadAt, itemRead, idOf, partsIn, partsOf}
 use Rattle.octets.proofs.Maybe.{not-some, some-is}
 use Rattle.octets.proofs.Zeros.{drop-zeros}
@@ -60,23 +60,23 @@ pub record IdIs (s : List ℕ) (n next : ℕ) : Type 0 where
   pub is : idBytes given ≡ part s 8 n
   pub behind : isRun (tail s next) ≡ true
   pub within : next ≤ length s
-  pub most : n ≤ 16
+  pub most : n ≤ idMost
   pub there : (n ≡ 0) ⊎ (8 + n ≤ next)
 
-span-none : (f : BytesField) → idSpan f ≡ NoSpan → (f ≡ NoSpan) ⊎ ((n : ℕ) × (next : ℕ) × (f ≡ Span n next) × ((leb 1 n && leb n idMost) ≡ false))
+span-none : (f : BytesField) → idSpan f ≡ NoSpan → (f ≡ NoSpan) ⊎ ((n : ℕ) × (next : ℕ) × (f ≡ Span n next) × (idLengthOk n ≡ false))
 unfolding idSpan
 span-none NoSpan h = inl refl
 span-none (Span n next) h =
-    on-bool (leb 1 n && leb n idMost)
+    on-bool (idLengthOk n)
     (λ y. let q : Span n next ≡ NoSpan = sym (ifb-true _ _ _ y) ∙ h in let z : _≡_ {A = ℕ} 0 1 = cc in absurd (omega arith))
     (λ w. inr (n, next, refl, w))
 
-span-some : (f : BytesField) {n next : ℕ} → idSpan f ≡ Span n next → (f ≡ Span n next) × ((leb 1 n && leb n idMost) ≡ true)
+span-some : (f : BytesField) {n next : ℕ} → idSpan f ≡ Span n next → (f ≡ Span n next) × (idLengthOk n ≡ true)
 unfolding idSpan
 span-some NoSpan h = let z : _≡_ {A = ℕ} 0 1 = cc in absurd (omega arith)
 span-some (Span k l) {n} {next} h =
-    on-bool (leb 1 k && leb k idMost)
-    (λ y. let q : Span k l ≡ Span n next = sym (ifb-true _ _ _ y) ∙ h in let e : k ≡ n = cc in (q, ap (λ (x : ℕ). leb 1 x && leb x idMost) (sym e) ∙ y))
+    on-bool (idLengthOk k)
+    (λ y. let q : Span k l ≡ Span n next = sym (ifb-true _ _ _ y) ∙ h in let e : k ≡ n = cc in (q, ap idLengthOk (sym e) ∙ y))
     (λ w. let q : NoSpan ≡ Span n next = sym (ifb-false _ _ _ w) ∙ h in let z : _≡_ {A = ℕ} 0 1 = cc in absurd (omega arith))
 
 module _ (s : List ℕ) (run : isRun s ≡ true) where
@@ -93,19 +93,19 @@ module _ (s : List ℕ) (run : isRun s ≡ true) where
       on-bool (startsAt s uniqueBatchItemId)
       (λ y. ⊎-elim
       (λ f. inl (optional-there s run uniqueBatchItemId (bytesOf uniqueBatchItemId byteString) y ∙ rw (bytes-none s run uniqueBatchItemId byteString f)))
-      (λ p. inr (record { given = some (part s 8 (p .0)); behind = treeOf (tail s (p .1)); read = id-read y (p .2); bad = ap (λ (x : ℕ). leb 1 x && leb x idMost) (id-length (p .2)) ∙ p .3 }))
+      (λ p. inr (record { given = some (part s 8 (p .0)); behind = treeOf (tail s (p .1)); read = id-read y (p .2); bad = ap idLengthOk (id-length (p .2)) ∙ p .3 }))
       (span-none (bytesAt s uniqueBatchItemId byteString) (sym (ifb-true _ _ _ y) ∙ e)))
       (λ n. let q : Span 0 0 ≡ NoSpan = sym (ifb-false _ _ _ n) ∙ e in let z : _≡_ {A = ℕ} 0 1 = cc in absurd (omega arith))
 
-  pub id-some : {n next : ℕ} → idAt s ≡ Span n next → IdIs s n next
+  id-some : {n next : ℕ} → idAt s ≡ Span n next → IdIs s n next
   unfolding idAt idOk idBytes
   id-some {n} {next} e =
       on-bool (startsAt s uniqueBatchItemId)
       (λ y. let p = span-some (bytesAt s uniqueBatchItemId byteString) (sym (ifb-true _ _ _ y) ∙ e) in
       let r = bytes-rest s run uniqueBatchItemId byteString (p .0) in
       let w = bytes-ends s uniqueBatchItemId byteString (p .0) in
-      let m = leb-true n 16 (both (leb 1 n) (leb n 16) (p .1) .1) in
-      record { given = some (part s 8 n); read = id-read y (p .0); ok = ap (λ (x : ℕ). leb 1 x && leb x idMost) (id-length (p .0)) ∙ p .1; is = refl; behind = run-behind s run r; within = r .within; most = m; there = inr (w .0) })
+      let m = leb-true n idMost (both (leb 1 n) (leb n idMost) (p .1) .1) in
+      record { given = some (part s 8 n); read = id-read y (p .0); ok = ap idLengthOk (id-length (p .0)) ∙ p .1; is = refl; behind = run-behind s run r; within = r .within; most = m; there = inr (w .0) })
       (λ w. let q : Span 0 0 ≡ Span n next = sym (ifb-false _ _ _ w) ∙ e in
       let nz : n ≡ 0 = cc in
       let z : next ≡ 0 = cc in
@@ -118,7 +118,7 @@ module _ (s : List ℕ) (run : isRun s ≡ true) where
 pub record ItemShape (s : List ℕ) (a : Asked) : Type 0 where
   pub run : isRun (drop (payloadAt s) s) ≡ true
   pub payload : treeOf (drop (payloadAt s) s) ≡ a .payload
-  pub short : length (a .id) ≤ 16
+  pub short : length (a .id) ≤ idMost
   pub id : part s (operationEnd s + 8) (length (a .id)) ≡ a .id
   pub room : operationEnd s + 8 + length (a .id) ≤ length s
   pub past : payloadAt s ≤ length s
@@ -130,7 +130,7 @@ module _ (s : List ℕ) (run : isRun s ≡ true) where
   item-no-operation e = rw (number-none s run operationTag enumeration refl e)
 
   module _ {v n : ℕ} (e : numberAt s operationTag enumeration ≡ Number v n) where
-    pub item-behind : isRun (tail s n) ≡ true
+    item-behind : isRun (tail s n) ≡ true
     item-behind = run-behind s run (number-rest s run operationTag enumeration e)
 
     pub operation-end : operationEnd s ≡ n
@@ -265,11 +265,11 @@ told-item s (some a) h = record { item = a; there = refl; does = cc; start = cc;
 
 -- ---- the struct that carries the ID, and the parts
 
-pub id-filled : (v bytes : List ℕ) → length v ≤ 16 → bytes ≡ sets (replicate 16 0) 0 v → record { bytes = bytes; len = length v } ≡ idOf v
+pub id-filled : (v bytes : List ℕ) → length v ≤ idMost → bytes ≡ sets (replicate idMost 0) 0 v → record { bytes = bytes; len = length v } ≡ idOf v
 unfolding idOf
 id-filled v bytes h e =
-    let z = length-replicate {A = ℕ} 16 0 in
-    ap (λ (x : List ℕ). record { bytes = x; len = length v }) (e ∙ sets-over v (replicate 16 0) (omega arith) ∙ ap (λ (x : List ℕ). v ++ x) (drop-zeros (length v) 16))
+    let z = length-replicate {A = ℕ} idMost 0 in
+    ap (λ (x : List ℕ). record { bytes = x; len = length v }) (e ∙ sets-over v (replicate idMost 0) (omega arith) ∙ ap (λ (x : List ℕ). v ++ x) (drop-zeros (length v) idMost))
 
 module _ (s : List ℕ) (run : isRun s ≡ true) {v i l p : ℕ} (h : itemRead s (itemIn (treeOf s)) ≡ Item v i l p) where
   abbrev told : ToldItem s (itemIn (treeOf s)) v i l p
@@ -278,7 +278,7 @@ module _ (s : List ℕ) (run : isRun s ≡ true) {v i l p : ℕ} (h : itemRead s
   abbrev formed : ItemShape s (told .item)
   formed = shape s (told .item) run (told .there)
 
-  pub told-room : (i + l ≤ length s) × (l ≤ 16)
+  pub told-room : (i + l ≤ length s) × (l ≤ idMost)
   told-room = let r = formed .room in let q = formed .short in let a = told .start in let b = told .long in (omega arith, omega arith)
 
   id-cut : part s i (i + l - i) ≡ told .item .id
@@ -286,7 +286,7 @@ module _ (s : List ℕ) (run : isRun s ≡ true) {v i l p : ℕ} (h : itemRead s
       let n : i + l - i ≡ l = omega arith in
       ap (λ (x : ℕ). part s i x) n ∙ ap₂ (λ (x y : ℕ). part s x y) (sym (told .start)) (sym (told .long)) ∙ formed .id
 
-  pub id-fits : length (part s i (i + l - i)) ≤ 16
+  pub id-fits : length (part s i (i + l - i)) ≤ idMost
   id-fits = let q = formed .short in rw id-cut (q)
 
   pub parts-are : {w : ItemId} → w ≡ idOf (part s i (i + l - i)) → record { operation = v; id = w; payload = p } ≡ partsOf s
@@ -311,7 +311,7 @@ pub record PartsShape (b : List ℕ) (a : Asked) : Type 0 where
   pub within : partsOf b .payload ≤ length b
   pub run : isRun (drop (partsOf b .payload) b) ≡ true
   pub payload : treeOf (drop (partsOf b .payload) b) ≡ a .payload
-  pub short : length (a .id) ≤ 16
+  pub short : length (a .id) ≤ idMost
   pub below : Bytes b → a .operation < 256 ^ 4
 
 pub parts-shape : (b : List ℕ) (a : Asked) → isRun b ≡ true → itemIn (treeOf b) ≡ some a → PartsShape b a

@@ -3,13 +3,13 @@
 use mathlib.Core.Path.{_≡_, refl, sym, ap, _∙_}
 use Prim.Native.Nat.{ℕ, _+_, _-_, _≤_}
 use native.Mathlib.Omega.{arith}
-use mathlib.Core.Bool.{true, false}
+use mathlib.Core.Bool.{true}
 use mathlib.Core.Option.{Option, none, some}
 use mathlib.Core.List.{List, [], _∷_}
 use lib.ListN.{length, drop}
 use lib.Dec.{eqb}
 use borrow.Author.Tests.{eqb-true, eqb-false}
-use Rattle.octets.specs.Maybe.{_>>=_, _>>_, isSome}
+use Rattle.octets.specs.Maybe.{_>>=_, _>>_}
 use Rattle.octets.specs.Octets.{part}
 use Rattle.octets.proofs.If.{ifb-true, on-bool}
 use Rattle.ttlv.specs.Items.{Items, nil, value, group}
@@ -74,24 +74,20 @@ module _ (s : List ℕ) (run : isRun s ≡ true) where
     unfolding itemsIn _>>_
     items-group = ap itemsIn (tree-group s run (body-first s batchItem e))
 
-    pub items-bad : isSome (itemIn (treeOf (part s 8 (next - 8)))) ≡ false → itemsIn (treeOf s) ≡ none
-    unfolding isSome _>>=_
-    items-bad h = items-group ∙ bad (itemIn (treeOf (part s 8 (next - 8)))) h
-      where
-        bad : (o : Option Asked) → isSome o ≡ false → (o >>= λ item. itemsIn (treeOf (drop next s)) >>= λ items. some (item ∷ items)) ≡ none
-        bad none h = refl
-        bad (some a) h = let z : _≡_ {A = ℕ} 0 1 = cc in absurd (omega arith)
+    -- what follows a batch item
+    abbrev followed : Option Asked → Option (List Asked)
+    followed o = o >>= λ item. itemsIn (treeOf (drop next s)) >>= λ items. some (item ∷ items)
 
-    pub items-more : (n : ℕ) → isSome (itemIn (treeOf (part s 8 (next - 8)))) ≡ true → counted n (itemsIn (treeOf s)) ≡ counted (n + 1) (itemsIn (treeOf (tail s next)))
-    unfolding isSome _>>=_
-    items-more n h =
-        ap (counted n) items-group
-        ∙ good (itemIn (treeOf (part s 8 (next - 8)))) h
+    pub items-bad : itemIn (treeOf (part s 8 (next - 8))) ≡ none → itemsIn (treeOf s) ≡ none
+    unfolding _>>=_
+    items-bad h = items-group ∙ ap followed h
+
+    pub items-more : (n : ℕ) {a : Asked} → itemIn (treeOf (part s 8 (next - 8))) ≡ some a → counted n (itemsIn (treeOf s)) ≡ counted (n + 1) (itemsIn (treeOf (tail s next)))
+    unfolding _>>=_
+    items-more n {a} h =
+        ap (counted n) (items-group ∙ ap followed h)
+        ∙ counted-more n a (itemsIn (treeOf (drop next s)))
         ∙ ap (λ (x : List ℕ). counted (n + 1) (itemsIn (treeOf x))) (sym (rest s next))
-      where
-        good : (o : Option Asked) → isSome o ≡ true → counted n (o >>= λ item. itemsIn (treeOf (drop next s)) >>= λ items. some (item ∷ items)) ≡ counted (n + 1) (itemsIn (treeOf (drop next s)))
-        good none h = let z : _≡_ {A = ℕ} 0 1 = cc in absurd (omega arith)
-        good (some a) h = counted-more n a (itemsIn (treeOf (drop next s)))
 
 -- ---- stepping: a run of batch items is empty, or a batch item and a run again
 

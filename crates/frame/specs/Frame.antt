@@ -56,9 +56,12 @@ abbrev pub idMost : ℕ
 idMost = 16
 
 -- "A Unique Batch Item ID has 1 to 16 bytes"
+abbrev pub idLengthOk : ℕ → Bool
+idLengthOk n = leb 1 n && leb n idMost
+
 unfoldable pub idOk : Option (List ℕ) → Bool
 idOk none = true
-idOk (some v) = leb 1 (length v) && leb (length v) idMost
+idOk (some v) = idLengthOk (length v)
 
 -- the ID's bytes, none where it is absent
 unfoldable pub idBytes : Option (List ℕ) → List ℕ
@@ -98,16 +101,26 @@ frameIn t = do
 
 -- ---- refusals 6 to 9
 
+-- "frame wrong"
+abbrev pub frameWrong : ℕ
+frameWrong = 6
+
 -- "version not 2.1"
+abbrev pub isVersion : ℕ → ℕ → Bool
+isVersion major minor = eqb major 2 && eqb minor 1
+
 abbrev pub versionOk : Header → Bool
-versionOk h = eqb (h .major) 2 && eqb (h .minor) 1
+versionOk h = isVersion (h .major) (h .minor)
 
 abbrev pub batchMost : ℕ
 batchMost = 16
 
 -- "Batch Count not 1 to 16, or not the number of items"
+abbrev pub isCount : ℕ → ℕ → Bool
+isCount count found = leb 1 count && leb count batchMost && eqb count found
+
 abbrev pub countOk : Frame → Bool
-countOk f = leb 1 (f .header .count) && leb (f .header .count) batchMost && eqb (f .header .count) (length (f .items))
+countOk f = isCount (f .header .count) (length (f .items))
 
 -- "Option 1 is Continue, 2 is Stop; absent means Stop"
 abbrev pub continue : ℕ
@@ -135,7 +148,7 @@ pub data Framed : Type 0 where
 
 -- "The lowest number that applies is given"
 unfoldable pub framing : Option Frame → Framed
-framing none = refused 6
+framing none = refused frameWrong
 framing (some f) =
     ifb (not (versionOk (f .header))) (refused 7)
     (ifb (not (countOk f)) (refused 8)

@@ -2,3 +2,4 @@
 -- Assumes nothing.
 pub mod Frame
 pub mod Readers
+pub mod Refusals

@@ -1,11 +1,9 @@
 -- What the frame's readers answer of lent bytes: the frame's numbers, and where its parts start.
 -- Assumes nothing. The bytes are a run of items, whose items are `treeOf`.
 use Prim.Native.Nat.{ℕ, _+_, _-_}
-use mathlib.Core.Bool.{_&&_}
 use mathlib.Core.Option.{Option, none, some}
 use mathlib.Core.List.{List, [], _++_}
 use lib.ListN.{length, drop, replicate}
-use lib.Dec.{leb}
 use Rattle.octets.specs.If.{ifb}
 use Rattle.ttlv_types.specs.Types.{enumeration, byteString}
 use Rattle.ttlv.specs.Tree.{treeOf}
@@ -30,7 +28,7 @@ use Rattle.frame.specs.declared.Framing.{Framing}
 use Rattle.frame.specs.declared.ItemId.{ItemId}
 use Rattle.frame.specs.declared.ItemParts.{ItemParts}
 use Rattle.tags.specs.Tags.{batchErrorContinuationOption, operationTag, requestHeader, uniqueBatchItemId}
-use Rattle.frame.specs.Frame.{Asked, Header, Frame, Framed, refused, asked, stop, optionOf, idMost, framed, itemIn}
+use Rattle.frame.specs.Frame.{Asked, Header, Frame, Framed, refused, asked, stop, optionOf, idMost, idLengthOk, framed, itemIn}
 
 -- ---- the header
 
@@ -63,7 +61,7 @@ bodyEnd (Body next) = next
 bodyEnd NoBody = 0
 
 unfoldable pub idSpan : BytesField → BytesField
-idSpan (Span n next) = ifb (leb 1 n && leb n idMost) (Span n next) NoSpan
+idSpan (Span n next) = ifb (idLengthOk n) (Span n next) NoSpan
 idSpan NoSpan = NoSpan
 
 -- the length of the ID at the front of s and where it ends: no bytes, which end at 0, where it is absent

@@ -1,5 +1,6 @@
 // The message frame of a request: header and batch items.
-// It knows TTLV by its items alone, and nothing of keys. A function that asks for a run of items is given one by the TTLV check, which every request passes first.
+// It knows TTLV by its items alone, and nothing of keys. A function that asks for a run of items is
+// given one by the TTLV check, which every request passes first.
 use fields::BodyField;
 use fields::BytesField;
 use fields::NumberField;
@@ -9,10 +10,8 @@ ghost use Rattle.octets.specs.Maybe.{isSome};
 ghost use Rattle.ttlv.specs.Parse.{message};
 ghost use Rattle.ttlv.specs.Tree.{isRun, treeOf};
 ghost use Prim.Native.Nat.{_≤_};
-ghost use mathlib.Core.Bool.{_&&_};
 ghost use lib.ListN.{length};
-ghost use lib.Dec.{leb, eqb};
-ghost use Rattle.frame.specs.Frame.{versionIn, headerIn, itemIn, itemsIn, frameIn, optionOk, refused};
+ghost use Rattle.frame.specs.Frame.{versionIn, headerIn, idMost, itemIn, itemsIn, frameIn, isVersion, isCount, optionOk, refused};
 ghost use Rattle.frame.specs.Readers.{versionRead, optionAt, headerRead, idAt, itemRead, idOf, partsOf, itemsRead, itemsAt, frameRead, framingIn, framingOf};
 
 // The version that is taken.
@@ -30,20 +29,23 @@ const BATCH_MOST: u64 = 16;
 
 const ID_MOST: usize = 16;
 
-// The Unique Batch Item ID of an item, from the reader to the writer: its first `len` bytes; the others are zero. None was given where len is 0.
+// The Unique Batch Item ID of an item, from the reader to the writer: its first `len` bytes; the
+// others are zero. None was given where len is 0.
 pub struct ItemId {
     pub bytes: [u8; 16],
     pub len: usize,
 }
 
-// A batch item: the operation, the ID, and where the payload's own items start; they reach to the end of the item.
+// A batch item: the operation, the ID, and where the payload's own items start; they reach to the
+// end of the item.
 pub struct ItemParts {
     pub operation: u32,
     pub id: ItemId,
     pub payload: usize,
 }
 
-// How a request is taken as a frame: the refusal's number; or 0, the option, and where the batch items start.
+// How a request is taken as a frame: the refusal's number; or 0, the option, and where the batch
+// items start.
 pub struct Framing {
     pub number: u32,
     pub option: u32,
@@ -51,13 +53,13 @@ pub struct Framing {
 }
 
 // A Protocol Version, or that there is none by the rules.
-pub enum VersionRead {
+enum VersionRead {
     Version { major: u64, minor: u64 },
     NoVersion,
 }
 
 // A Request Header, or that there is none by the rules.
-pub enum HeaderRead {
+enum HeaderRead {
     Read {
         major: u64,
         minor: u64,
@@ -67,8 +69,9 @@ pub enum HeaderRead {
     NoHeader,
 }
 
-// A batch item with where its ID's bytes and its payload's items start, or that there is none by the rules.
-pub enum ItemRead {
+// A batch item with where its ID's bytes and its payload's items start, or that there is none by
+// the rules.
+enum ItemRead {
     Item {
         operation: u32,
         id: usize,
@@ -79,13 +82,14 @@ pub enum ItemRead {
 }
 
 // How many batch items a run has, or that it has something else.
-pub enum ItemsRead {
+enum ItemsRead {
     Items { count: usize },
     NoItems,
 }
 
-// The header's numbers, how many batch items follow and where they start, or that it is no frame by the rules.
-pub enum FrameRead {
+// The header's numbers, how many batch items follow and where they start, or that it is no frame by
+// the rules.
+enum FrameRead {
     Parts {
         major: u64,
         minor: u64,
@@ -97,7 +101,8 @@ pub enum FrameRead {
     NoFrame,
 }
 
-// The items of a Protocol Version. `read_header` shows that they are a run: the body of a structure is one.
+// The items of a Protocol Version. `read_header` shows that they are a run: the body of a structure
+// is one.
 fn read_version(s: &[u8]) -> VersionRead
     requires { ⌜ isRun (now s) ≡ true ⌝ }
     ensures { λ r. ⌜ r ≡ versionRead (versionIn (treeOf (now (s .entry)))) ⌝ }
@@ -123,7 +128,8 @@ fn read_version(s: &[u8]) -> VersionRead
     VersionRead::Version { major, minor }
 }
 
-// The option at the front, if it is there: read once, and only where none was read is it asked whether a bad one stands there.
+// The option at the front, if it is there: read once, and only where none was read is it asked
+// whether a bad one stands there.
 fn read_option(s: &[u8]) -> NumberField
     ensures { λ r. ⌜ r ≡ optionAt (now (s .entry)) ⌝ }
 {
@@ -204,7 +210,7 @@ fn read_id(s: &[u8]) -> BytesField
     BytesField::Span { len, next }
 }
 
-// The items of a Batch Item. `item_ok` and `read_item` are given a run.
+// The items of a Batch Item. `count_items` shows that they are a run; `read_item` is given one.
 fn find_item(body: &[u8]) -> ItemRead
     requires { ⌜ isRun (now body) ≡ true ⌝ }
     ensures { λ r. ⌜ r ≡ itemRead (now (body .entry)) (itemIn (treeOf (now (body .entry)))) ⌝ }
@@ -235,23 +241,6 @@ fn find_item(body: &[u8]) -> ItemRead
     }
 }
 
-// Whether a Batch Item is one by the rules. `count_items` shows that its items are a run.
-fn item_ok(body: &[u8]) -> bool
-    requires { ⌜ isRun (now body) ≡ true ⌝ }
-    ensures { λ r. ⌜ r ≡ isSome (itemIn (treeOf (now (body .entry)))) ⌝ }
-{
-    let ItemRead::Item {
-        operation: _,
-        id: _,
-        len: _,
-        payload: _,
-    } = find_item(body)
-    else {
-        return false;
-    };
-    true
-}
-
 // How many batch items a run has. `find_frame` shows that it is a run.
 fn count_items(s: &[u8]) -> ItemsRead
     requires { ⌜ isRun (now s) ≡ true ⌝ }
@@ -263,16 +252,23 @@ fn count_items(s: &[u8]) -> ItemsRead
         let BodyField::Body { next } = fields::body_field(t, tags::BATCH_ITEM) else {
             return ItemsRead::NoItems;
         };
-        if !item_ok(&t[8..next]) {
+        let ItemRead::Item {
+            operation: _,
+            id: _,
+            len: _,
+            payload: _,
+        } = find_item(&t[8..next])
+        else {
             return ItemsRead::NoItems;
-        }
+        };
         t = &t[next..];
         count += 1;
     }
     ItemsRead::Items { count }
 }
 
-// The items of a Request Message, all of them looked at. `read_frame` is given one item by the rules.
+// The items of a Request Message, all of them looked at. `read_frame` is given one item by the
+// rules.
 fn find_frame(request: &[u8]) -> FrameRead
     requires { ⌜ isSome (message (now request)) ≡ true ⌝ }
     ensures { λ r. ⌜ r ≡ frameRead (frameIn (treeOf (now (request .entry)))) (itemsAt (now (request .entry))) ⌝ }
@@ -312,7 +308,7 @@ fn find_frame(request: &[u8]) -> FrameRead
 
 // Whether the version is the one that is taken.
 fn version_ok(major: u64, minor: u64) -> bool
-    ensures { λ r. ⌜ r ≡ (eqb major 2 && eqb minor 1) ⌝ }
+    ensures { λ r. ⌜ r ≡ isVersion major minor ⌝ }
 {
     if major != MAJOR {
         return false;
@@ -322,7 +318,7 @@ fn version_ok(major: u64, minor: u64) -> bool
 
 // Whether the Batch Count is allowed and is the number of items.
 fn count_ok(count: u64, found: usize) -> bool
-    ensures { λ r. ⌜ r ≡ (leb 1 count && leb count 16 && eqb count found) ⌝ }
+    ensures { λ r. ⌜ r ≡ isCount count found ⌝ }
 {
     if count < 1 {
         return false;
@@ -354,7 +350,8 @@ fn refuse(number: u32) -> Framing
     }
 }
 
-// How a request is taken as a frame. The engine's TTLV check shows that it is one item by the rules.
+// How a request is taken as a frame. The engine's TTLV check shows that it is one item by the
+// rules.
 pub fn read_frame(request: &[u8]) -> Framing
     requires { ⌜ isSome (message (now request)) ≡ true ⌝ }
     ensures { λ r. ⌜ r ≡ framingOf (now (request .entry)) ⌝ }
@@ -388,7 +385,7 @@ pub fn read_frame(request: &[u8]) -> Framing
 
 // An ID as the struct that carries it. `read_item` shows that it has at most 16 bytes.
 fn take_id(v: &[u8]) -> ItemId
-    requires { ⌜ length (now v) ≤ 16 ⌝ }
+    requires { ⌜ length (now v) ≤ idMost ⌝ }
     ensures { λ r. ⌜ r ≡ idOf (now (v .entry)) ⌝ }
 {
     let mut bytes = [0u8; 16];
@@ -399,7 +396,8 @@ fn take_id(v: &[u8]) -> ItemId
     }
 }
 
-// The parts of a Batch Item. The engine's loop shows that it is one by the rules, from the frame that `read_frame` took.
+// The parts of a Batch Item. The engine's loop shows that it is one by the rules, from the frame
+// that `read_frame` took.
 pub fn read_item(body: &[u8]) -> ItemParts
     requires { ⌜ (isRun (now body) ≡ true) × (isSome (itemIn (treeOf (now body))) ≡ true) ⌝ }
     ensures { λ r. ⌜ r ≡ partsOf (now (body .entry)) ⌝ }

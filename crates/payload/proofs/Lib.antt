@@ -1,8 +1,9 @@
--- Laws of the payload readers, that no second outcome satisfies a contract, and worked cases.
+-- Laws of the payload readers, what their answers say, that no second outcome satisfies a contract, and worked cases.
 -- Assumes nothing.
 pub mod Steps
 pub mod Targets
 pub mod Wanted
 pub mod Commands
+pub mod Reasons
 pub mod Unique
 pub mod Worked

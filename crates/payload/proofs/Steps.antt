@@ -46,7 +46,7 @@ module _ {B : Type 0} {b : Bool} (x : Option B) where
 
 -- ---- a field that ends where the run ends
 
-pub last-number : (n : ℕ) (f : NumberField) {v next : ℕ} → lastNumber n f ≡ Number v next → (f ≡ Number v next) × (next ≡ n)
+last-number : (n : ℕ) (f : NumberField) {v next : ℕ} → lastNumber n f ≡ Number v next → (f ≡ Number v next) × (next ≡ n)
 unfolding lastNumber
 last-number n (Number w m) {v} {next} h =
     on-bool (eqb m n)
@@ -56,7 +56,7 @@ last-number n (Number w m) {v} {next} h =
     (λ e. let q : NoNumber ≡ Number v next = sym (ifb-false _ _ _ e) ∙ h in let z : _≡_ {A = ℕ} 0 1 = cc in absurd (omega arith))
 last-number n NoNumber h = let z : _≡_ {A = ℕ} 0 1 = cc in absurd (omega arith)
 
-pub last-body : (n : ℕ) (f : BodyField) {next : ℕ} → lastBody n f ≡ Body next → (f ≡ Body next) × (next ≡ n)
+last-body : (n : ℕ) (f : BodyField) {next : ℕ} → lastBody n f ≡ Body next → (f ≡ Body next) × (next ≡ n)
 unfolding lastBody
 last-body n (Body m) {next} h =
     on-bool (eqb m n)
@@ -87,11 +87,17 @@ module _ (s : List ℕ) (run : isRun s ≡ true) (tag kind : ℕ) (num : isNumbe
     abbrev then : ℕ × Items → Option B
     then = λ (v, r). p v >> (ended r >> k v)
 
-    pub only-goes : {v next : ℕ} → onlyNumberAt s tag kind ≡ Number v next → (numberOf tag kind (treeOf s) >>= then) ≡ (p v >> k v)
+    only-goes : {v next : ℕ} → onlyNumberAt s tag kind ≡ Number v next → (numberOf tag kind (treeOf s) >>= then) ≡ (p v >> k v)
     unfolding onlyNumberAt
     only-goes {v} {next} h =
         let i = last-number (length s) (numberAt s tag kind) h in
         number-goes (i .0) then ∙ ap (λ (o : Option B). p v >> o) (holds (k v) (ended-yes s run (number-rest s run tag kind (i .0)) (i .1)))
+
+    pub only-bad : {v next : ℕ} → onlyNumberAt s tag kind ≡ Number v next → p v ≡ false → (numberOf tag kind (treeOf s) >>= then) ≡ none
+    only-bad {v} h f = only-goes h ∙ fails (k v) f
+
+    pub only-is : {v next : ℕ} → onlyNumberAt s tag kind ≡ Number v next → p v ≡ true → (numberOf tag kind (treeOf s) >>= then) ≡ k v
+    only-is {v} h f = only-goes h ∙ holds (k v) f
 
     more-stops : {v next : ℕ} → numberAt s tag kind ≡ Number v next → (next ≡ length s → ⊥) → (numberOf tag kind (treeOf s) >>= then) ≡ none
     more-stops {v} {next} e n =

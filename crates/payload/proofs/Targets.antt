@@ -1,9 +1,9 @@
 -- The target that bytes stand for, by what the reader of targets answers, and the commands that ask for little more.
 -- Assumes nothing.
 use mathlib.Core.Path.{_≡_, refl, sym, ap, _∙_}
-use Prim.Native.Nat.{ℕ, _-_, _≤_}
+use Prim.Native.Nat.{ℕ, _≤_}
 use native.Mathlib.Omega.{arith}
-use mathlib.Core.Bool.{true, false}
+use mathlib.Core.Bool.{true}
 use mathlib.Core.Option.{Option, none, some}
 use mathlib.Core.List.{List}
 use lib.ListN.{length}
@@ -15,12 +15,10 @@ use Rattle.octets.proofs.If.{ifb-true, ifb-false, on-bool}
 use Rattle.ttlv_types.specs.Types.{longInteger, enumeration, textString}
 use Rattle.ttlv.specs.Items.{Items, ended}
 use Rattle.ttlv.specs.Tree.{isRun, treeOf}
-use Rattle.fields.specs.Fields.{bytesOf, numberOf}
+use Rattle.fields.specs.Fields.{bytesOf, bodyOf, numberOf}
 use Rattle.fields.specs.Found.{startsAt, bytesAt}
 use Rattle.fields.specs.declared.BytesField.{BytesField}
 use Rattle.fields.specs.declared.BytesField.the-variants.{Span, NoSpan}
-use Rattle.fields.specs.declared.NumberField.the-variants.{Number, NoNumber}
-use Rattle.fields.specs.declared.BodyField.the-variants.{Body, NoBody}
 use Rattle.octets.proofs.Bools.{both}
 use Rattle.fields.proofs.Lift.{bytes-rest}
 use Rattle.fields.proofs.Runs.{tail, tail-none, run-behind, tail-ended, tail-more, bytes-some, bytes-none, optional-there, optional-absent}
@@ -28,13 +26,32 @@ use Rattle.identifier.specs.Identifier.{serialOf}
 use Rattle.rules.specs.States.{codeOk}
 use Rattle.tags.specs.Tags.{uniqueIdentifier, usageLimitsCount, revocationReason, revocationReasonCode}
 use Rattle.payload.specs.Payload.{targetOf, targetIn, aloneIn, amountOk, allocationIn, revokeIn}
-use Rattle.payload.specs.Readers.{onlyNumberAt, onlyBodyAt, targetSpan, targetAt}
+use Rattle.payload.specs.Readers.{targetSpan, targetAt}
 use Rattle.payload.specs.declared.Target.{Target}
 use Rattle.payload.specs.declared.Target.the-variants.{Placeholder, Serial}
 use Rattle.payload.specs.declared.Command.{Command}
 use Rattle.payload.specs.declared.Command.the-variants.{GetUsageAllocation, Revoke}
-use Rattle.payload.specs.declared.TargetRead.the-variants.{Is, NoTarget}
-use Rattle.payload.proofs.Steps.{stops, goes, fails, holds, only-goes, only-stops, whole, body-goes, body-stops}
+use Rattle.payload.specs.declared.TargetRead.the-variants.{Is, InvalidField as InvalidTarget}
+use Rattle.payload.proofs.Steps.{stops, goes, fails, holds}
+
+-- ---- what the definitions ask for behind a target
+
+-- an amount
+abbrev pub asks : Target → ℕ → Option Command
+asks target amount = some (GetUsageAllocation target amount)
+
+abbrev pub amountBehind : Target → Items → Option Command
+amountBehind target t = numberOf usageLimitsCount longInteger t >>= λ (amount, r). amountOk amount >> (ended r >> asks target amount)
+
+-- a Revocation Reason, and in it a code
+abbrev pub revokes : Target → ℕ → Option Command
+revokes target code = some (Revoke target code)
+
+abbrev pub codeInside : Target → Items → Option Command
+codeInside target t = numberOf revocationReasonCode enumeration t >>= λ (code, r). codeOk code >> (ended r >> revokes target code)
+
+abbrev pub reasonBehind : Target → Items → Option Command
+reasonBehind target t = bodyOf revocationReason t >>= λ (body, r). ended r >> codeInside target body
 
 -- ---- the target
 
@@ -44,7 +61,7 @@ unfolding targetSpan
 span-is s (Span n nx) h = (n, cc, cc)
 span-is s NoSpan h = let z : _≡_ {A = ℕ} 0 1 = cc in absurd (omega arith)
 
-span-none : (s : List ℕ) (b : BytesField) → targetSpan s b ≡ NoTarget → b ≡ NoSpan
+span-none : (s : List ℕ) (b : BytesField) → targetSpan s b ≡ InvalidTarget → b ≡ NoSpan
 unfolding targetSpan
 span-none s (Span n nx) h = let z : _≡_ {A = ℕ} 0 1 = cc in absurd (omega arith)
 span-none s NoSpan h = refl
@@ -83,21 +100,21 @@ module _ (s : List ℕ) (run : isRun s ≡ true) where
         within = omega arith;
       })
 
-  pub target-none : targetAt s ≡ NoTarget → targetIn (treeOf s) ≡ none
+  pub target-none : targetAt s ≡ InvalidTarget → targetIn (treeOf s) ≡ none
   unfolding targetAt targetIn
   target-none h =
       on-bool (startsAt s uniqueIdentifier)
       (λ y. let e : bytesAt s uniqueIdentifier textString ≡ NoSpan = span-none s (bytesAt s uniqueIdentifier textString) (sym (ifb-true _ _ _ y) ∙ h) in
       let b : bytesOf uniqueIdentifier textString (treeOf s) ≡ none = bytes-none s run uniqueIdentifier textString e in
       stops _ (optional-there s run uniqueIdentifier (bytesOf uniqueIdentifier textString) y ∙ stops _ b))
-      (λ n. let q : Is Placeholder 0 ≡ NoTarget = sym (ifb-false _ _ _ n) ∙ h in let z : _≡_ {A = ℕ} 0 1 = cc in absurd (omega arith))
+      (λ n. let q : Is Placeholder 0 ≡ InvalidTarget = sym (ifb-false _ _ _ n) ∙ h in let z : _≡_ {A = ℕ} 0 1 = cc in absurd (omega arith))
 
   -- the lift: a definition that begins with the target
-  pub target-stops : {B : Type 0} (k : Target × Items → Option B) → targetAt s ≡ NoTarget → (targetIn (treeOf s) >>= k) ≡ none
+  pub target-stops : {B : Type 0} (k : Target × Items → Option B) → targetAt s ≡ InvalidTarget → (targetIn (treeOf s) >>= k) ≡ none
   target-stops k e = stops k (target-none e)
 
   module _ {target : Target} {next : ℕ} (e : targetAt s ≡ Is target next) where
-    pub target-goes : {B : Type 0} (k : Target × Items → Option B) → (targetIn (treeOf s) >>= k) ≡ k (target, treeOf (tail s next))
+    target-goes : {B : Type 0} (k : Target × Items → Option B) → (targetIn (treeOf s) >>= k) ≡ k (target, treeOf (tail s next))
     target-goes k = goes k (target-is e .read)
 
     pub target-behind : isRun (tail s next) ≡ true
@@ -117,64 +134,15 @@ module _ (s : List ℕ) (run : isRun s ≡ true) where
       unfolding aloneIn
       alone-more n = target-goes _ ∙ fails _ (tail-more s next target-behind target-within n)
 
-    -- ---- an amount
+    -- ---- what is left behind the target
 
-    abbrev asks : ℕ → Option Command
-    asks amount = some (GetUsageAllocation target amount)
-
-    pub allocation-no-amount : onlyNumberAt (tail s next) usageLimitsCount longInteger ≡ NoNumber → allocationIn (treeOf s) ≡ none
+    pub allocation-target : allocationIn (treeOf s) ≡ amountBehind target (treeOf (tail s next))
     unfolding allocationIn
-    allocation-no-amount f = target-goes _ ∙ only-stops (tail s next) target-behind usageLimitsCount longInteger refl amountOk asks f
+    allocation-target = target-goes _
 
-    module _ {amount end : ℕ} (f : onlyNumberAt (tail s next) usageLimitsCount longInteger ≡ Number amount end) where
-      asked : allocationIn (treeOf s) ≡ (amountOk amount >> asks amount)
-      unfolding allocationIn
-      asked = target-goes _ ∙ only-goes (tail s next) target-behind usageLimitsCount longInteger refl amountOk asks f
-
-      pub allocation-bad-amount : amountOk amount ≡ false → allocationIn (treeOf s) ≡ none
-      allocation-bad-amount x = asked ∙ fails (asks amount) x
-
-      pub allocation-is : amountOk amount ≡ true → allocationIn (treeOf s) ≡ some (GetUsageAllocation target amount)
-      allocation-is x = asked ∙ holds (asks amount) x
-
-    -- ---- a revocation code
-
-    abbrev revokes : ℕ → Option Command
-    revokes code = some (Revoke target code)
-
-    abbrev reason : Items → Option Command
-    reason t = numberOf revocationReasonCode enumeration t >>= λ (code, u). codeOk code >> (ended u >> revokes code)
-
-    pub revoke-no-reason : onlyBodyAt (tail s next) revocationReason ≡ NoBody → revokeIn (treeOf s) ≡ none
+    pub revoke-target : revokeIn (treeOf s) ≡ reasonBehind target (treeOf (tail s next))
     unfolding revokeIn
-    revoke-no-reason f = target-goes _ ∙ body-stops (tail s next) target-behind revocationReason reason f
-
-    module _ {end : ℕ} (f : onlyBodyAt (tail s next) revocationReason ≡ Body end) where
-      pub reason-past : 8 ≤ end
-      reason-past = whole (tail s next) target-behind revocationReason f .past
-
-      pub reason-within : end ≤ length (tail s next)
-      reason-within = whole (tail s next) target-behind revocationReason f .within
-
-      inner : isRun (part (tail s next) 8 (end - 8)) ≡ true
-      inner = whole (tail s next) target-behind revocationReason f .inner
-
-      reasoned : revokeIn (treeOf s) ≡ reason (treeOf (part (tail s next) 8 (end - 8)))
-      unfolding revokeIn
-      reasoned = target-goes _ ∙ body-goes (tail s next) target-behind revocationReason reason f
-
-      pub revoke-no-code : onlyNumberAt (part (tail s next) 8 (end - 8)) revocationReasonCode enumeration ≡ NoNumber → revokeIn (treeOf s) ≡ none
-      revoke-no-code g = reasoned ∙ only-stops (part (tail s next) 8 (end - 8)) inner revocationReasonCode enumeration refl codeOk revokes g
-
-      module _ {code last : ℕ} (g : onlyNumberAt (part (tail s next) 8 (end - 8)) revocationReasonCode enumeration ≡ Number code last) where
-        coded : revokeIn (treeOf s) ≡ (codeOk code >> revokes code)
-        coded = reasoned ∙ only-goes (part (tail s next) 8 (end - 8)) inner revocationReasonCode enumeration refl codeOk revokes g
-
-        pub revoke-bad-code : codeOk code ≡ false → revokeIn (treeOf s) ≡ none
-        revoke-bad-code x = coded ∙ fails (revokes code) x
-
-        pub revoke-is : codeOk code ≡ true → revokeIn (treeOf s) ≡ some (Revoke target code)
-        revoke-is x = coded ∙ holds (revokes code) x
+    revoke-target = target-goes _
 
 -- a code fits 32 bits
 pub code-most : (code : ℕ) → codeOk code ≡ true → code ≤ 7

@@ -3,7 +3,7 @@
 use mathlib.Core.Path.{_≡_, refl, ap, ap₂, _∙_}
 use Prim.Native.Nat.{ℕ, _-_, _≤_}
 use native.Mathlib.Omega.{arith}
-use mathlib.Core.Bool.{Bool, true, false, false≢true}
+use mathlib.Core.Bool.{true, false, false≢true}
 use mathlib.Core.Option.{Option, none, some}
 use mathlib.Core.List.{List}
 use lib.ListN.{length}
@@ -16,7 +16,7 @@ use Rattle.ttlv_types.specs.Types.{integer, longInteger, enumeration}
 use Rattle.ttlv.specs.Items.{Items, ended}
 use Rattle.ttlv.specs.Parse.{firstOf}
 use Rattle.ttlv.specs.Tree.{isRun, treeOf}
-use Rattle.fields.specs.Fields.{optional}
+use Rattle.fields.specs.Fields.{bodyOf, numberOf}
 use Rattle.fields.specs.Found.{startsIn, startsAt, numberAt, bodyAt}
 use Rattle.fields.specs.declared.NumberField.the-variants.{Number, NoNumber}
 use Rattle.fields.specs.declared.BodyField.the-variants.{Body, NoBody}
@@ -26,15 +26,22 @@ use Rattle.fields.proofs.Found.{body-first}
 use Rattle.values.specs.Values.{bitsOk, maskOk, unitOk, totalOk}
 use Rattle.rules.specs.declared.Attributes.{Attributes}
 use Rattle.tags.specs.Tags.{attributes, cryptographicAlgorithm, cryptographicLength, cryptographicUsageMask, objectType, usageLimits, usageLimitsTotal, usageLimitsUnit}
-use Rattle.payload.specs.Payload.{Limit, limitIn, limitFirst, wantedOf, attributesIn, createIn}
-use Rattle.payload.specs.Readers.{onlyNumberAt, onlyBodyAt, limitRead, limitsIn, limitsRead, maskedIn, attributesRead}
+use Rattle.payload.specs.Payload.{symmetricKey, aes, Limit, limitIn, limitFirst, wantedOf, limitsIn, maskedIn, attributesIn, createIn}
+use Rattle.payload.specs.Readers.{onlyBodyAt, limitRead, limitsRead, attributesRead}
 use Rattle.payload.specs.declared.Command.{Command}
 use Rattle.payload.specs.declared.Command.the-variants.{Create}
-use Rattle.payload.specs.declared.LimitRead.the-variants.{Limited, NoLimit}
-use Rattle.payload.specs.declared.AttributesRead.the-variants.{Wanted, NoAttributes}
-use Rattle.payload.proofs.Steps.{stops, goes, fails, holds, number-within, number-behind, number-goes, number-stops, only-goes, only-stops, Whole, whole, other-body, body-goes, body-stops}
+use Rattle.payload.specs.declared.LimitRead.the-variants.{Limited, InvalidField as InvalidLimit}
+use Rattle.payload.specs.declared.AttributesRead.the-variants.{Wanted, InvalidField as InvalidAttributes}
+use Rattle.payload.proofs.Steps.{stops, goes, fails, holds, number-behind, number-goes, number-stops, Whole, whole, other-body, body-goes, body-stops}
 
 -- ---- a limit
+
+-- the unit, and then the limit, with the total that stands in front
+abbrev pub limits : ℕ → ℕ → Option Limit
+limits total unit = some (record { unit = unit; total = total })
+
+abbrev pub unitBehind : ℕ → Items → Option Limit
+unitBehind total t = numberOf usageLimitsUnit enumeration t >>= λ (unit, r). unitOk unit >> (ended r >> limits total unit)
 
 module _ (s : List ℕ) (run : isRun s ≡ true) where
   pub limit-no-total : numberAt s usageLimitsTotal longInteger ≡ NoNumber → limitIn (treeOf s) ≡ none
@@ -42,36 +49,13 @@ module _ (s : List ℕ) (run : isRun s ≡ true) where
   limit-no-total e = number-stops s run usageLimitsTotal longInteger refl _ e
 
   module _ {total next : ℕ} (e : numberAt s usageLimitsTotal longInteger ≡ Number total next) where
-    pub limit-within : next ≤ length s
-    limit-within = number-within s run usageLimitsTotal longInteger refl e
-
-    behind : isRun (tail s next) ≡ true
-    behind = number-behind s run usageLimitsTotal longInteger refl e
-
-    abbrev limits : ℕ → Option Limit
-    limits unit = some (record { unit = unit; total = total })
-
     pub limit-bad-total : totalOk total ≡ false → limitIn (treeOf s) ≡ none
     unfolding limitIn
     limit-bad-total f = number-goes s run usageLimitsTotal longInteger refl e _ ∙ fails _ f
 
-    module _ (f : totalOk total ≡ true) where
-      pub limit-no-unit : onlyNumberAt (tail s next) usageLimitsUnit enumeration ≡ NoNumber → limitIn (treeOf s) ≡ none
-      unfolding limitIn
-      limit-no-unit g =
-          number-goes s run usageLimitsTotal longInteger refl e _ ∙ (holds _ f ∙ only-stops (tail s next) behind usageLimitsUnit enumeration refl unitOk limits g)
-
-      module _ {unit end : ℕ} (g : onlyNumberAt (tail s next) usageLimitsUnit enumeration ≡ Number unit end) where
-        limited : limitIn (treeOf s) ≡ (unitOk unit >> limits unit)
-        unfolding limitIn
-        limited =
-            number-goes s run usageLimitsTotal longInteger refl e _ ∙ (holds _ f ∙ only-goes (tail s next) behind usageLimitsUnit enumeration refl unitOk limits g)
-
-        pub limit-bad-unit : unitOk unit ≡ false → limitIn (treeOf s) ≡ none
-        limit-bad-unit x = limited ∙ fails (limits unit) x
-
-        pub limit-is : unitOk unit ≡ true → limitIn (treeOf s) ≡ limits unit
-        limit-is x = limited ∙ holds (limits unit) x
+    pub limit-unit : totalOk total ≡ true → limitIn (treeOf s) ≡ unitBehind total (treeOf (tail s next))
+    unfolding limitIn
+    limit-unit f = number-goes s run usageLimitsTotal longInteger refl e _ ∙ holds _ f
 
 -- ---- Usage Limits, or nothing
 
@@ -131,37 +115,31 @@ module _ (s : List ℕ) (run : isRun s ≡ true) where
 
 -- ---- from the mask on
 
--- what follows the end of Attributes
-limits-then : {B : Type 0} (k : Option Limit → Option B) (o : Option (Option Limit × Items)) → (o >>= λ (limit, v). ended v >> k limit) ≡ ((o >>= λ (limit, v). ended v >> some limit) >>= k)
-unfolding _>>=_ _>>_
-limits-then k none = refl
-limits-then k (some (limit, v)) = go (ended v)
-  where
-    go : (b : Bool) → (b >> k limit) ≡ ((b >> some limit) >>= k)
-    go true = refl
-    go false = refl
+-- the attributes with the limit that was read
+abbrev pub withLimits : ℕ → ℕ → Option (Option Limit) → Option Attributes
+withLimits bits mask o = o >>= λ limit. some (wantedOf bits mask limit)
 
-limits-none : (o : Option (Option Limit)) → limitsRead o ≡ NoLimit → o ≡ none
-unfolding limitsRead
-limits-none none h = refl
-limits-none (some none) h = let z : _≡_ {A = ℕ} 0 1 = cc in absurd (omega arith)
-limits-none (some (some limit)) h = let z : _≡_ {A = ℕ} 0 1 = cc in absurd (omega arith)
-
-abbrev pub wants : ℕ → ℕ → ℕ → ℕ → Attributes
+abbrev wants : ℕ → ℕ → ℕ → ℕ → Attributes
 wants bits mask unit total = record { bits = bits; mask = mask; unit = unit; total = total }
 
-limits-some : (bits mask : ℕ) (o : Option (Option Limit)) {unit total : ℕ} → limitsRead o ≡ Limited unit total
-    → (o >>= λ limit. some (wantedOf bits mask limit)) ≡ some (wants bits mask unit total)
-unfolding limitsRead wantedOf _>>=_
-limits-some bits mask none h = let z : _≡_ {A = ℕ} 0 1 = cc in absurd (omega arith)
-limits-some bits mask (some none) {unit} {total} h =
-    let p : 0 ≡ unit = cc in
-    let q : 0 ≡ total = cc in
-    ap₂ (λ (x : ℕ) (y : ℕ). some (wants bits mask x y)) p q
-limits-some bits mask (some (some limit)) {unit} {total} h =
-    let p : limit .unit ≡ unit = cc in
-    let q : limit .total ≡ total = cc in
-    ap₂ (λ (x : ℕ) (y : ℕ). some (wants bits mask x y)) p q
+module _ (bits mask : ℕ) where
+  pub limits-none : (o : Option (Option Limit)) → limitsRead o ≡ InvalidLimit → withLimits bits mask o ≡ none
+  unfolding limitsRead _>>=_
+  limits-none none h = refl
+  limits-none (some none) h = let z : _≡_ {A = ℕ} 0 1 = cc in absurd (omega arith)
+  limits-none (some (some limit)) h = let z : _≡_ {A = ℕ} 0 1 = cc in absurd (omega arith)
+
+  pub limits-some : (o : Option (Option Limit)) {unit total : ℕ} → limitsRead o ≡ Limited unit total → withLimits bits mask o ≡ some (wants bits mask unit total)
+  unfolding limitsRead wantedOf _>>=_
+  limits-some none h = let z : _≡_ {A = ℕ} 0 1 = cc in absurd (omega arith)
+  limits-some (some none) {unit} {total} h =
+      let p : 0 ≡ unit = cc in
+      let q : 0 ≡ total = cc in
+      ap₂ (λ (x : ℕ) (y : ℕ). some (wants bits mask x y)) p q
+  limits-some (some (some limit)) {unit} {total} h =
+      let p : limit .unit ≡ unit = cc in
+      let q : limit .total ≡ total = cc in
+      ap₂ (λ (x : ℕ) (y : ℕ). some (wants bits mask x y)) p q
 
 module _ (s : List ℕ) (run : isRun s ≡ true) (bits : ℕ) where
   pub masked-no-mask : numberAt s cryptographicUsageMask integer ≡ NoNumber → maskedIn bits (treeOf s) ≡ none
@@ -169,30 +147,19 @@ module _ (s : List ℕ) (run : isRun s ≡ true) (bits : ℕ) where
   masked-no-mask e = number-stops s run cryptographicUsageMask integer refl _ e
 
   module _ {mask next : ℕ} (e : numberAt s cryptographicUsageMask integer ≡ Number mask next) where
-    pub mask-within : next ≤ length s
-    mask-within = number-within s run cryptographicUsageMask integer refl e
-
-    pub mask-behind : isRun (tail s next) ≡ true
-    mask-behind = number-behind s run cryptographicUsageMask integer refl e
-
     pub masked-bad-mask : maskOk mask ≡ false → maskedIn bits (treeOf s) ≡ none
     unfolding maskedIn
     masked-bad-mask f = number-goes s run cryptographicUsageMask integer refl e _ ∙ fails _ f
 
-    module _ (f : maskOk mask ≡ true) where
-      masked : maskedIn bits (treeOf s) ≡ (limitsIn (treeOf (tail s next)) >>= λ limit. some (wantedOf bits mask limit))
-      unfolding maskedIn limitsIn
-      masked =
-          number-goes s run cryptographicUsageMask integer refl e _
-          ∙ (holds _ f ∙ limits-then (λ limit. some (wantedOf bits mask limit)) (optional usageLimits limitFirst (treeOf (tail s next))))
-
-      pub masked-bad-limits : limitsRead (limitsIn (treeOf (tail s next))) ≡ NoLimit → maskedIn bits (treeOf s) ≡ none
-      masked-bad-limits g = masked ∙ stops _ (limits-none (limitsIn (treeOf (tail s next))) g)
-
-      pub masked-is : {unit total : ℕ} → limitsRead (limitsIn (treeOf (tail s next))) ≡ Limited unit total → maskedIn bits (treeOf s) ≡ some (wants bits mask unit total)
-      masked-is g = masked ∙ limits-some bits mask (limitsIn (treeOf (tail s next))) g
+    pub masked-limits : maskOk mask ≡ true → maskedIn bits (treeOf s) ≡ withLimits bits mask (limitsIn (treeOf (tail s next)))
+    unfolding maskedIn
+    masked-limits f = number-goes s run cryptographicUsageMask integer refl e _ ∙ holds _ f
 
 -- ---- Attributes
+
+-- from the length on
+abbrev pub lengthIn : Items → Option Attributes
+lengthIn t = numberOf cryptographicLength integer t >>= λ (bits, r). bitsOk bits >> maskedIn bits r
 
 module _ (s : List ℕ) (run : isRun s ≡ true) where
   pub attributes-no-algorithm : numberAt s cryptographicAlgorithm enumeration ≡ NoNumber → attributesIn (treeOf s) ≡ none
@@ -200,43 +167,26 @@ module _ (s : List ℕ) (run : isRun s ≡ true) where
   attributes-no-algorithm e = number-stops s run cryptographicAlgorithm enumeration refl _ e
 
   module _ {algorithm next : ℕ} (e : numberAt s cryptographicAlgorithm enumeration ≡ Number algorithm next) where
-    pub algorithm-within : next ≤ length s
-    algorithm-within = number-within s run cryptographicAlgorithm enumeration refl e
-
-    algorithm-behind : isRun (tail s next) ≡ true
-    algorithm-behind = number-behind s run cryptographicAlgorithm enumeration refl e
-
-    pub attributes-other-algorithm : (algorithm ≡ 3 → ⊥) → attributesIn (treeOf s) ≡ none
+    pub attributes-other-algorithm : (algorithm ≡ aes → ⊥) → attributesIn (treeOf s) ≡ none
     unfolding attributesIn
-    attributes-other-algorithm f = number-goes s run cryptographicAlgorithm enumeration refl e _ ∙ fails _ (ne-eqb algorithm 3 f)
+    attributes-other-algorithm f = number-goes s run cryptographicAlgorithm enumeration refl e _ ∙ fails _ (ne-eqb algorithm aes f)
 
-    module _ (f : algorithm ≡ 3) where
-      pub attributes-no-length : numberAt (tail s next) cryptographicLength integer ≡ NoNumber → attributesIn (treeOf s) ≡ none
-      unfolding attributesIn
-      attributes-no-length g =
-          number-goes s run cryptographicAlgorithm enumeration refl e _
-          ∙ (holds _ (eq-eqb algorithm 3 f) ∙ number-stops (tail s next) algorithm-behind cryptographicLength integer refl _ g)
+    -- the algorithm is AES: what is left is the length and what stands behind it
+    pub attributes-length : algorithm ≡ aes → attributesIn (treeOf s) ≡ lengthIn (treeOf (tail s next))
+    unfolding attributesIn
+    attributes-length f = number-goes s run cryptographicAlgorithm enumeration refl e _ ∙ holds _ (eq-eqb algorithm aes f)
 
-      module _ {bits after : ℕ} (g : numberAt (tail s next) cryptographicLength integer ≡ Number bits after) where
-        pub length-within : after ≤ length (tail s next)
-        length-within = number-within (tail s next) algorithm-behind cryptographicLength integer refl g
+  pub length-none : numberAt s cryptographicLength integer ≡ NoNumber → lengthIn (treeOf s) ≡ none
+  length-none e = number-stops s run cryptographicLength integer refl _ e
 
-        pub length-behind : isRun (tail (tail s next) after) ≡ true
-        length-behind = number-behind (tail s next) algorithm-behind cryptographicLength integer refl g
+  module _ {bits next : ℕ} (e : numberAt s cryptographicLength integer ≡ Number bits next) where
+    pub length-bad : bitsOk bits ≡ false → lengthIn (treeOf s) ≡ none
+    length-bad f = number-goes s run cryptographicLength integer refl e _ ∙ fails _ f
 
-        pub attributes-bad-length : bitsOk bits ≡ false → attributesIn (treeOf s) ≡ none
-        unfolding attributesIn
-        attributes-bad-length x =
-            number-goes s run cryptographicAlgorithm enumeration refl e _
-            ∙ (holds _ (eq-eqb algorithm 3 f) ∙ (number-goes (tail s next) algorithm-behind cryptographicLength integer refl g _ ∙ fails _ x))
+    pub length-is : bitsOk bits ≡ true → lengthIn (treeOf s) ≡ maskedIn bits (treeOf (tail s next))
+    length-is f = number-goes s run cryptographicLength integer refl e _ ∙ holds _ f
 
-        pub attributes-is : bitsOk bits ≡ true → attributesIn (treeOf s) ≡ maskedIn bits (treeOf (tail (tail s next) after))
-        unfolding attributesIn maskedIn
-        attributes-is x =
-            number-goes s run cryptographicAlgorithm enumeration refl e _
-            ∙ (holds _ (eq-eqb algorithm 3 f) ∙ (number-goes (tail s next) algorithm-behind cryptographicLength integer refl g _ ∙ holds _ x))
-
-attributes-none : (o : Option Attributes) → attributesRead o ≡ NoAttributes → o ≡ none
+attributes-none : (o : Option Attributes) → attributesRead o ≡ InvalidAttributes → o ≡ none
 unfolding attributesRead
 attributes-none none h = refl
 attributes-none (some w) h = let z : _≡_ {A = ℕ} 0 1 = cc in absurd (omega arith)
@@ -248,8 +198,14 @@ attributes-some (some v) {w} h = let p : v ≡ w = cc in ap (λ (x : Attributes)
 
 -- ---- Create
 
-abbrev creates : Items → Option Command
+abbrev pub creates : Items → Option Command
 creates t = attributesIn t >>= λ wanted. some (Create wanted)
+
+pub creates-none : (t : Items) → attributesRead (attributesIn t) ≡ InvalidAttributes → creates t ≡ none
+creates-none t h = stops _ (attributes-none (attributesIn t) h)
+
+pub creates-some : (t : Items) {wanted : Attributes} → attributesRead (attributesIn t) ≡ Wanted wanted → creates t ≡ some (Create wanted)
+creates-some t h = goes _ (attributes-some (attributesIn t) h)
 
 module _ (s : List ℕ) (run : isRun s ≡ true) where
   pub create-no-type : numberAt s objectType enumeration ≡ NoNumber → createIn (treeOf s) ≡ none
@@ -257,42 +213,23 @@ module _ (s : List ℕ) (run : isRun s ≡ true) where
   create-no-type e = number-stops s run objectType enumeration refl _ e
 
   module _ {kind next : ℕ} (e : numberAt s objectType enumeration ≡ Number kind next) where
-    pub type-within : next ≤ length s
-    type-within = number-within s run objectType enumeration refl e
-
-    type-behind : isRun (tail s next) ≡ true
-    type-behind = number-behind s run objectType enumeration refl e
-
-    pub create-other-type : (kind ≡ 2 → ⊥) → createIn (treeOf s) ≡ none
+    pub create-other-type : (kind ≡ symmetricKey → ⊥) → createIn (treeOf s) ≡ none
     unfolding createIn
-    create-other-type f = number-goes s run objectType enumeration refl e _ ∙ fails _ (ne-eqb kind 2 f)
+    create-other-type f = number-goes s run objectType enumeration refl e _ ∙ fails _ (ne-eqb kind symmetricKey f)
 
-    module _ (f : kind ≡ 2) where
-      pub create-no-attributes : onlyBodyAt (tail s next) attributes ≡ NoBody → createIn (treeOf s) ≡ none
+    module _ (f : kind ≡ symmetricKey) where
+      typed : createIn (treeOf s) ≡ (bodyOf attributes (treeOf (tail s next)) >>= λ (body, r). ended r >> creates body)
       unfolding createIn
-      create-no-attributes g =
-          number-goes s run objectType enumeration refl e _ ∙ (holds _ (eq-eqb kind 2 f) ∙ body-stops (tail s next) type-behind attributes creates g)
+      typed = number-goes s run objectType enumeration refl e _ ∙ holds _ (eq-eqb kind symmetricKey f)
 
-      module _ {end : ℕ} (g : onlyBodyAt (tail s next) attributes ≡ Body end) where
-        pub body-past : 8 ≤ end
-        body-past = whole (tail s next) type-behind attributes g .past
+      behind-type : isRun (tail s next) ≡ true
+      behind-type = number-behind s run objectType enumeration refl e
 
-        pub body-ends : end ≤ length (tail s next)
-        body-ends = whole (tail s next) type-behind attributes g .within
+      pub create-no-attributes : onlyBodyAt (tail s next) attributes ≡ NoBody → createIn (treeOf s) ≡ none
+      create-no-attributes g = typed ∙ body-stops (tail s next) behind-type attributes creates g
 
-        pub body-run : isRun (part (tail s next) 8 (end - 8)) ≡ true
-        body-run = whole (tail s next) type-behind attributes g .inner
-
-        created : createIn (treeOf s) ≡ creates (treeOf (part (tail s next) 8 (end - 8)))
-        unfolding createIn
-        created =
-            number-goes s run objectType enumeration refl e _ ∙ (holds _ (eq-eqb kind 2 f) ∙ body-goes (tail s next) type-behind attributes creates g)
-
-        pub create-bad-attributes : attributesRead (attributesIn (treeOf (part (tail s next) 8 (end - 8)))) ≡ NoAttributes → createIn (treeOf s) ≡ none
-        create-bad-attributes h = created ∙ stops _ (attributes-none (attributesIn (treeOf (part (tail s next) 8 (end - 8)))) h)
-
-        pub create-is : {wanted : Attributes} → attributesRead (attributesIn (treeOf (part (tail s next) 8 (end - 8)))) ≡ Wanted wanted → createIn (treeOf s) ≡ some (Create wanted)
-        create-is h = created ∙ goes _ (attributes-some (attributesIn (treeOf (part (tail s next) 8 (end - 8)))) h)
+      pub create-body : {end : ℕ} → onlyBodyAt (tail s next) attributes ≡ Body end → createIn (treeOf s) ≡ creates (treeOf (part (tail s next) 8 (end - 8)))
+      create-body g = typed ∙ body-goes (tail s next) behind-type attributes creates g
 
 -- ---- how great the numbers are: what a cast asks
 

@@ -2,3 +2,4 @@
 -- Assumes nothing.
 pub mod Payload
 pub mod Readers
+pub mod Reasons

@@ -58,6 +58,21 @@ unfoldable pub wantedOf : ℕ → ℕ → Option Limit → Attributes
 wantedOf bits mask none = record { bits = bits; mask = mask; unit = 0; total = 0 }
 wantedOf bits mask (some limit) = record { bits = bits; mask = mask; unit = limit .unit; total = limit .total }
 
+-- the end of Attributes: "[Usage Limits]", and nothing behind it
+unfoldable pub limitsIn : Items → Option (Option Limit)
+limitsIn t = do
+  (limit, r) ← optional usageLimits limitFirst t
+  ended r
+  some limit
+
+-- from the mask on, for a key of this length: "Cryptographic Usage Mask, [Usage Limits]"
+unfoldable pub maskedIn : ℕ → Items → Option Attributes
+maskedIn bits t = do
+  (mask, r) ← numberOf cryptographicUsageMask integer t
+  maskOk mask
+  limit ← limitsIn r
+  some (wantedOf bits mask limit)
+
 -- "Attributes { Cryptographic Algorithm = 3, Cryptographic Length, Cryptographic Usage Mask, [Usage Limits] }"
 unfoldable pub attributesIn : Items → Option Attributes
 attributesIn t = do
@@ -65,11 +80,7 @@ attributesIn t = do
   eqb algorithm aes
   (bits, s) ← numberOf cryptographicLength integer r
   bitsOk bits
-  (mask, u) ← numberOf cryptographicUsageMask integer s
-  maskOk mask
-  (limit, v) ← optional usageLimits limitFirst u
-  ended v
-  some (wantedOf bits mask limit)
+  maskedIn bits s
 
 -- "Object Type = 2; Attributes { .. }"
 unfoldable pub createIn : Items → Option Command

@@ -6,11 +6,8 @@ use mathlib.Core.List.{List}
 use lib.ListN.{length}
 use lib.Dec.{eqb}
 use Rattle.octets.specs.If.{ifb}
-use Rattle.octets.specs.Maybe.{_>>=_, _>>_}
 use Rattle.octets.specs.Octets.{part}
-use Rattle.ttlv_types.specs.Types.{integer, textString}
-use Rattle.ttlv.specs.Items.{Items, ended}
-use Rattle.fields.specs.Fields.{numberOf, optional}
+use Rattle.ttlv_types.specs.Types.{textString}
 use Rattle.fields.specs.Found.{startsAt, bytesAt, numberAt, bodyAt}
 use Rattle.fields.specs.declared.BytesField.{BytesField}
 use Rattle.fields.specs.declared.BytesField.the-variants.{Span, NoSpan}
@@ -19,21 +16,20 @@ use Rattle.fields.specs.declared.NumberField.the-variants.{Number, NoNumber}
 use Rattle.fields.specs.declared.BodyField.{BodyField}
 use Rattle.fields.specs.declared.BodyField.the-variants.{Body, NoBody}
 use Rattle.identifier.specs.Identifier.{serialOf}
-use Rattle.values.specs.Values.{maskOk}
 use Rattle.rules.specs.declared.Attributes.{Attributes}
 use Rattle.rules.specs.Numbers.{rekey, activate, destroy}
-use Rattle.tags.specs.Tags.{cryptographicUsageMask, uniqueIdentifier, usageLimits}
-use Rattle.payload.specs.Payload.{Limit, limitFirst, wantedOf}
+use Rattle.tags.specs.Tags.{uniqueIdentifier}
+use Rattle.payload.specs.Payload.{Limit}
 use Rattle.payload.specs.declared.Target.{Target}
 use Rattle.payload.specs.declared.Target.the-variants.{Placeholder, Serial}
 use Rattle.payload.specs.declared.Command.{Command}
 use Rattle.payload.specs.declared.Command.the-variants.{Rekey, Activate, Destroy, GetAttributes}
 use Rattle.payload.specs.declared.TargetRead.{TargetRead}
-use Rattle.payload.specs.declared.TargetRead.the-variants.{Is, NoTarget}
+use Rattle.payload.specs.declared.TargetRead.the-variants.{Is, InvalidField as InvalidTarget}
 use Rattle.payload.specs.declared.LimitRead.{LimitRead}
-use Rattle.payload.specs.declared.LimitRead.the-variants.{Limited, NoLimit}
+use Rattle.payload.specs.declared.LimitRead.the-variants.{Limited, InvalidField as InvalidLimit}
 use Rattle.payload.specs.declared.AttributesRead.{AttributesRead}
-use Rattle.payload.specs.declared.AttributesRead.the-variants.{Wanted, NoAttributes}
+use Rattle.payload.specs.declared.AttributesRead.the-variants.{Wanted, InvalidField as InvalidAttributes}
 
 -- ---- a field with nothing behind it
 
@@ -57,7 +53,7 @@ onlyBodyAt s tag = lastBody (length s) (bodyAt s tag)
 
 unfoldable pub targetSpan : List ℕ → BytesField → TargetRead
 targetSpan s (Span n next) = Is (Serial (serialOf (part s 8 n))) next
-targetSpan s NoSpan = NoTarget
+targetSpan s NoSpan = InvalidTarget
 
 -- the target at the front of s and where it ends: the placeholder, which ends at 0, where no identifier is given
 unfoldable pub targetAt : List ℕ → TargetRead
@@ -75,32 +71,16 @@ aloneOf operation target =
 
 -- a limit as the reader answers it
 unfoldable pub limitRead : Option Limit → LimitRead
-limitRead none = NoLimit
+limitRead none = InvalidLimit
 limitRead (some limit) = Limited (limit .unit) (limit .total)
 
--- the end of Attributes: "[Usage Limits]"
-unfoldable pub limitsIn : Items → Option (Option Limit)
-limitsIn t = do
-  (limit, v) ← optional usageLimits limitFirst t
-  ended v
-  some limit
-
--- the same as the reader answers it: no limit is unit 0 and total 0
+-- the end of Attributes as the reader answers it: no limit is unit 0 and total 0
 unfoldable pub limitsRead : Option (Option Limit) → LimitRead
-limitsRead none = NoLimit
+limitsRead none = InvalidLimit
 limitsRead (some none) = Limited 0 0
 limitsRead (some (some limit)) = Limited (limit .unit) (limit .total)
 
--- Attributes from the mask on, with the length that stands in front
-unfoldable pub maskedIn : ℕ → Items → Option Attributes
-maskedIn bits t = do
-  (mask, u) ← numberOf cryptographicUsageMask integer t
-  maskOk mask
-  (limit, v) ← optional usageLimits limitFirst u
-  ended v
-  some (wantedOf bits mask limit)
-
 -- attributes as the reader answers them
 unfoldable pub attributesRead : Option Attributes → AttributesRead
-attributesRead none = NoAttributes
+attributesRead none = InvalidAttributes
 attributesRead (some wanted) = Wanted wanted

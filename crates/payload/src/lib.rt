@@ -1,15 +1,17 @@
 // Payloads: what an item asks for, as a command, or that it is not allowed or not supported.
-// It knows TTLV by its items alone, and looks at no table. A function that asks for a run of items is given one by the frame's reader, whose items are runs.
+// It knows TTLV by its items alone, and looks at no table. A function that asks for a run of items
+// is given one by the frame's reader, whose items are runs.
 use fields::BodyField;
-use fields::BytesField;
 use fields::NumberField;
 use rules::Attributes;
+use ttlv::First;
 ghost use mathlib.Core.Path.{_≡_};
 ghost use mathlib.Core.Bool.{true};
 ghost use Rattle.ttlv.specs.Tree.{isRun, treeOf};
 ghost use Rattle.rules.specs.States.{codeOk};
-ghost use Rattle.payload.specs.Payload.{limitIn, attributesIn, createIn, aloneIn, amountOk, allocationIn, revokeIn, orInvalid, command};
-ghost use Rattle.payload.specs.Readers.{onlyNumberAt, onlyBodyAt, targetAt, limitRead, limitsIn, limitsRead, maskedIn, attributesRead, aloneOf};
+ghost use Rattle.fields.specs.Found.{startsIn};
+ghost use Rattle.payload.specs.Payload.{limitIn, limitsIn, maskedIn, attributesIn, createIn, aloneIn, amountOk, allocationIn, revokeIn, orInvalid, command};
+ghost use Rattle.payload.specs.Readers.{onlyNumberAt, onlyBodyAt, targetAt, limitRead, limitsRead, attributesRead, aloneOf};
 
 // The operations.
 const CREATE: u32 = 0x01;
@@ -25,7 +27,8 @@ const SYMMETRIC_KEY: u64 = 2;
 
 const AES: u64 = 3;
 
-// The record that an item is about: the one whose serial its identifier text names, 0 where it names none; or the placeholder's.
+// The record that an item is about: the one whose serial its identifier text names, 0 where it
+// names none; or the placeholder's.
 pub enum Target {
     Placeholder,
     Serial { serial: u32 },
@@ -46,22 +49,24 @@ pub enum Command {
     GetAttributes { target: Target },
 }
 
-// The target at the front, with the rest of the run from next on. Or an identifier that is no Text String stands there.
-pub enum TargetRead {
+// The target at the front, with the rest of the run from next on. Or an identifier that is no Text
+// String stands there.
+enum TargetRead {
     Is { target: Target, next: usize },
-    NoTarget,
+    InvalidField,
 }
 
-// A usage limit, with unit 0 and total 0 where there is none. Or something that is no limit by the rules.
-pub enum LimitRead {
+// A usage limit, with unit 0 and total 0 where there is none. Or something that is no limit by the
+// rules.
+enum LimitRead {
     Limited { unit: u8, total: u64 },
-    NoLimit,
+    InvalidField,
 }
 
 // The attributes of a new key, or that there are none by the rules.
-pub enum AttributesRead {
+enum AttributesRead {
     Wanted { wanted: Attributes },
-    NoAttributes,
+    InvalidField,
 }
 
 // The number of the item at the front, if it has this tag and type and nothing is behind it.
@@ -90,23 +95,50 @@ fn only_body(s: &[u8], tag: u32) -> BodyField
     BodyField::Body { next: end }
 }
 
-// The target at the front: an item with the identifier's tag has to be a Text String.
+// Whether an item is there and has this tag.
+fn is_tagged(item: First, tag: u32) -> bool
+    ensures { λ r. ⌜ r ≡ startsIn tag item ⌝ }
+{
+    match item {
+        First::End => false,
+        First::Bad => false,
+        First::Value {
+            tag: found,
+            kind: _,
+            len: _,
+            next: _,
+        } => found == tag,
+        First::Group {
+            tag: found,
+            next: _,
+        } => found == tag,
+    }
+}
+
+// The target at the front, its item read once. No identifier is given where no item with its tag
+// stands there; one that is no Text String is Invalid Field.
 fn read_target(s: &[u8]) -> TargetRead
     ensures { λ r. ⌜ r ≡ targetAt (now (s .entry)) ⌝ }
 {
-    if !fields::starts_with(s, tags::UNIQUE_IDENTIFIER) {
+    let item = ttlv::read_first(s);
+    if !is_tagged(item, tags::UNIQUE_IDENTIFIER) {
         return TargetRead::Is {
             target: Target::Placeholder,
             next: 0,
         };
     }
-    let BytesField::Span { len, next } = fields::bytes_field(
-        s,
-        tags::UNIQUE_IDENTIFIER,
-        ttlv_types::TEXT_STRING,
-    ) else {
-        return TargetRead::NoTarget;
+    let First::Value {
+        tag: _,
+        kind,
+        len,
+        next,
+    } = item
+    else {
+        return TargetRead::InvalidField;
     };
+    if kind != ttlv_types::TEXT_STRING {
+        return TargetRead::InvalidField;
+    }
     let stop = 8 + len;
     TargetRead::Is {
         target: Target::Serial {
@@ -126,20 +158,20 @@ fn read_limit(s: &[u8]) -> LimitRead
         tags::USAGE_LIMITS_TOTAL,
         ttlv_types::LONG_INTEGER,
     ) else {
-        return LimitRead::NoLimit;
+        return LimitRead::InvalidField;
     };
     if !values::total_ok(total) {
-        return LimitRead::NoLimit;
+        return LimitRead::InvalidField;
     }
     let NumberField::Number {
         value: unit,
         next: _,
     } = only_number(&s[next..], tags::USAGE_LIMITS_UNIT, ttlv_types::ENUMERATION)
     else {
-        return LimitRead::NoLimit;
+        return LimitRead::InvalidField;
     };
     if !values::unit_ok(unit) {
-        return LimitRead::NoLimit;
+        return LimitRead::InvalidField;
     }
     LimitRead::Limited {
         unit: unit as u8,
@@ -156,7 +188,7 @@ fn read_limits(s: &[u8]) -> LimitRead
         return LimitRead::Limited { unit: 0, total: 0 };
     }
     let BodyField::Body { next } = only_body(s, tags::USAGE_LIMITS) else {
-        return LimitRead::NoLimit;
+        return LimitRead::InvalidField;
     };
     read_limit(&s[8..next])
 }
@@ -171,13 +203,13 @@ fn read_masked(s: &[u8], bits: u16) -> AttributesRead
         tags::CRYPTOGRAPHIC_USAGE_MASK,
         ttlv_types::INTEGER,
     ) else {
-        return AttributesRead::NoAttributes;
+        return AttributesRead::InvalidField;
     };
     if !values::mask_ok(mask) {
-        return AttributesRead::NoAttributes;
+        return AttributesRead::InvalidField;
     }
     let LimitRead::Limited { unit, total } = read_limits(&s[next..]) else {
-        return AttributesRead::NoAttributes;
+        return AttributesRead::InvalidField;
     };
     AttributesRead::Wanted {
         wanted: Attributes {
@@ -199,10 +231,10 @@ fn read_attributes(s: &[u8]) -> AttributesRead
         next,
     } = fields::number_field(s, tags::CRYPTOGRAPHIC_ALGORITHM, ttlv_types::ENUMERATION)
     else {
-        return AttributesRead::NoAttributes;
+        return AttributesRead::InvalidField;
     };
     if algorithm != AES {
-        return AttributesRead::NoAttributes;
+        return AttributesRead::InvalidField;
     }
     let t = &s[next..];
     let NumberField::Number {
@@ -210,10 +242,10 @@ fn read_attributes(s: &[u8]) -> AttributesRead
         next: after,
     } = fields::number_field(t, tags::CRYPTOGRAPHIC_LENGTH, ttlv_types::INTEGER)
     else {
-        return AttributesRead::NoAttributes;
+        return AttributesRead::InvalidField;
     };
     if !values::bits_ok(bits) {
-        return AttributesRead::NoAttributes;
+        return AttributesRead::InvalidField;
     }
     read_masked(&t[after..], bits as u16)
 }
@@ -348,7 +380,8 @@ fn read_revoke(s: &[u8]) -> Command
     }
 }
 
-// What an item with this operation and this payload asks for. The frame's reader shows that a payload is a run of items.
+// What an item with this operation and this payload asks for. The frame's reader shows that a
+// payload is a run of items.
 pub fn read_command(operation: u32, s: &[u8]) -> Command
     requires { ⌜ isRun (now s) ≡ true ⌝ }
     ensures { λ r. ⌜ r ≡ command operation (treeOf (now (s .entry))) ⌝ }

@@ -1,21 +1,24 @@
 -- `frame::count_items`. What is counted and what is left decide; the rest of the run is shorter.
 -- Assumes nothing.
-use borrow.Author.Needs.{needs}
 use mathlib.Core.Path.{_≡_, sym, ap, _∙_}
-use Prim.Native.Nat.{_+_, _-_, _≤_}
+use Prim.Native.Nat.{ℕ, _+_, _-_, _≤_}
 use native.Mathlib.Omega.{arith}
+use mathlib.Core.List.{List}
 use lib.ListN.{length, length-take, length-drop}
 use mathlib.Core.Bool.{true}
 use Rattle.ttlv.specs.Tree.{isRun, treeOf}
-use borrow.Author.Tests.{not-true, not-false}
-use Rattle.fields.proofs.Found.{body-ends}
+use Rattle.ttlv.proofs.Tree.{Rest}
+use Rattle.fields.specs.Found.{bodyAt}
+use Rattle.fields.specs.declared.BodyField.the-variants.{Body}
 use Rattle.fields.proofs.Lift.{body-rest, body-is-run}
+use Rattle.fields.proofs.Runs.{run-behind}
 use Rattle.frame.specs.declared.ItemsRead.the-variants.{Items as Counted}
 use Rattle.tags.specs.Tags.{batchItem}
 use Rattle.frame.specs.Frame.{itemsIn}
 use Rattle.frame.specs.Readers.{itemsRead}
-use Rattle.fields.proofs.Runs.{run-behind}
+use Rattle.frame.proofs.Item.{item-absent, told-item}
 use Rattle.frame.proofs.Items.{counted, counted-none, items-end, items-other, items-bad, items-more}
+use borrow.Author.Needs.{needs}
 use Rattle.frame.proofs.count_items.Statement.{statement}
 use Rattle.frame.proofs.count_items.Tie as tie
 
@@ -26,8 +29,7 @@ abbrev μ-loop : tie.MeasureT-loop
 μ-loop s t₀ count₀ t count = length t
 
 loop-holds : tie.Need-loop-holds Inv-loop μ-loop
-loop-holds c =
-    (c .before .pre, counted-none (itemsIn (treeOf (c .before .args .s .now))), omega arith)
+loop-holds c = (c .before .pre, counted-none (itemsIn (treeOf (c .before .args .s .now))), omega arith)
 
 body-field-requires : tie.Need-body-field-requires Inv-loop μ-loop
 body-field-requires c κs = search needs
@@ -40,103 +42,96 @@ enum-told c = search needs
 
 returns : tie.Need-returns Inv-loop μ-loop
 returns c =
-    let l = c .before .before .before .before .loop in
-    let t = l .t .now in
-    let run = l .inv .0 in
-    sym (l .inv .1 ∙ ap (counted (l .count)) (items-other t run (c .before .before .before .loop-test .taken) (sym (c .before .before .body-field .ensures) ∙ c .enum-told .given .1)))
+    let at-body = c .before .before in
+    let turn = at-body .before in
+    let l = turn .before .loop in
+    sym (l .inv .1 ∙ ap (counted (l .count)) (items-other (l .t .now) (l .inv .0) (turn .loop-test .taken) (sym (at-body .body-field .ensures) ∙ c .enum-told .given .1)))
 
-sub-item-ok : tie.Need-sub-item-ok Inv-loop μ-loop
-sub-item-ok c =
-    let l = c .before .before .before .before .before .loop in
-    let t = l .t .now in
-    let e = sym (c .before .before .before .body-field .ensures) ∙ c .before .next .given .1 in
-    let w = body-ends t batchItem e in
-    omega arith
+-- ---- a Batch Item is at the front: what was left when the turn began, and where the item ends
 
-part-item-ok-start : tie.Need-part-item-ok-start Inv-loop μ-loop
-part-item-ok-start c =
-    let l = c .before .before .before .before .before .loop in
-    let t = l .t .now in
-    let e = sym (c .before .before .before .body-field .ensures) ∙ c .before .next .given .1 in
-    let w = body-ends t batchItem e in
-    omega arith
+abbrev at-loop : tie.After-next Inv-loop μ-loop → tie.At-loop Inv-loop μ-loop
+at-loop c = c .before .before .before .before
 
-part-item-ok-end : tie.Need-part-item-ok-end Inv-loop μ-loop
-part-item-ok-end c =
-    let l = c .before .before .before .before .before .loop in
-    let t = l .t .now in
-    let e = sym (c .before .before .before .body-field .ensures) ∙ c .before .next .given .1 in
-    let w = body-ends t batchItem e in
-    omega arith
+abbrev T : tie.After-next Inv-loop μ-loop → List ℕ
+T c = at-loop c .loop .t .now
 
-item-ok-requires : tie.Need-item-ok-requires Inv-loop μ-loop
-item-ok-requires c κs =
-    let l = c .before .before .before .before .before .before .loop in
-    let t = l .t .now in
-    let run = l .inv .0 in
-    let e = sym (c .before .before .before .before .body-field .ensures) ∙ c .before .before .next .given .1 in
-    body-is-run t run batchItem e
+abbrev Next : tie.After-next Inv-loop μ-loop → ℕ
+Next c = c .next .given .0 .0
+
+run : (c : tie.After-next Inv-loop μ-loop) → isRun (T c) ≡ true
+run c = at-loop c .loop .inv .0
+
+found : (c : tie.After-next Inv-loop μ-loop) → bodyAt (T c) batchItem ≡ Body (Next c)
+found c = sym (c .before .before .body-field .ensures) ∙ c .next .given .1
+
+ends : (c : tie.After-next Inv-loop μ-loop) → Rest (T c) (Next c)
+ends c = body-rest (T c) (run c) batchItem (found c)
+
+sub-find-item : tie.Need-sub-find-item Inv-loop μ-loop
+sub-find-item c = ends (c .before) .past
+
+part-find-item-start : tie.Need-part-find-item-start Inv-loop μ-loop
+part-find-item-start c = omega (arith, ends (c .before))
+
+part-find-item-end : tie.Need-part-find-item-end Inv-loop μ-loop
+part-find-item-end c = omega (arith, ends (c .before))
+
+find-item-requires : tie.Need-find-item-requires Inv-loop μ-loop
+find-item-requires c κs = let k = c .before .before in body-is-run (T k) (run k) batchItem (found k)
+
+enum-told-2 : tie.Need-enum-told-2 Inv-loop μ-loop
+enum-told-2 c = search needs
+
+enum-told-3 : tie.Need-enum-told-3 Inv-loop μ-loop
+enum-told-3 c = search needs
+
+-- ---- what the reader of the item answered
+
+abbrev at-next : tie.After-find-item Inv-loop μ-loop → tie.After-next Inv-loop μ-loop
+at-next c = c .before .before .before
 
 returns-2 : tie.Need-returns-2 Inv-loop μ-loop
 returns-2 c =
-    let l = c .before .before .before .before .before .before .before .before .loop in
-    let t = l .t .now in
-    let run = l .inv .0 in
-    let e = sym (c .before .before .before .before .before .before .body-field .ensures) ∙ c .before .before .before .before .next .given .1 in
-    sym (l .inv .1 ∙ ap (counted (l .count)) (items-bad t run e (sym (c .before .item-ok .ensures) ∙ not-true _ (c .if1 .taken))))
+    let at-item = c .before .before in
+    let n = at-next at-item in
+    sym (at-loop n .loop .inv .1 ∙ ap (counted (at-loop n .loop .count)) (items-bad (T n) (run n) (found n) (item-absent _ _ (sym (at-item .find-item .ensures) ∙ c .enum-told3 .given .1))))
+
+-- ---- it is a batch item: the rest of the run is left
+
+abbrev counts : tie.After-enum-told2 Inv-loop μ-loop → tie.After-next Inv-loop μ-loop
+counts c = at-next (c .before .before)
 
 sub-t : tie.Need-sub-t Inv-loop μ-loop
-sub-t c =
-    let l = c .before .before .before .before .before .before .before .before .loop in
-    let t = l .t .now in
-    let e = sym (c .before .before .before .before .before .before .body-field .ensures) ∙ c .before .before .before .before .next .given .1 in
-    let w = body-ends t batchItem e in
-    omega arith
+sub-t c = ends (counts c) .within
 
 part-t-start : tie.Need-part-t-start Inv-loop μ-loop
-part-t-start c =
-    let l = c .before .before .before .before .before .before .before .before .loop in
-    let t = l .t .now in
-    let e = sym (c .before .before .before .before .before .before .body-field .ensures) ∙ c .before .before .before .before .next .given .1 in
-    let w = body-ends t batchItem e in
-    omega arith
+part-t-start c = omega (arith, ends (counts c))
 
 part-t-end : tie.Need-part-t-end Inv-loop μ-loop
 part-t-end c = search needs
 
+-- how many were counted before this one, and that there is room for it
+fewer : (c : tie.After-enum-told2 Inv-loop μ-loop) → at-loop (counts c) .loop .count + length (T (counts c)) ≤ length (at-loop (counts c) .before .before .args .s .now)
+fewer c = at-loop (counts c) .loop .inv .2
+
 add-count : tie.Need-add-count Inv-loop μ-loop
-add-count c =
-    let l = c .before .before .before .before .before .before .before .before .before .loop in
-    let t = l .t .now in
-    let e = sym (c .before .before .before .before .before .before .before .body-field .ensures) ∙ c .before .before .before .before .before .next .given .1 in
-    let w = body-ends t batchItem e in
-    let b = l .inv .2 in
-    omega arith
+add-count c = omega (arith, ends (counts (c .before)), fewer (c .before))
 
 loop-less : tie.Need-loop-less Inv-loop μ-loop
-loop-less c =
-    let l = c .before .before .before .before .before .before .before .before .before .loop in
-    let t = l .t .now in
-    let e = sym (c .before .before .before .before .before .before .before .body-field .ensures) ∙ c .before .before .before .before .before .next .given .1 in
-    let w = body-ends t batchItem e in
-    rw (length-take, length-drop) (omega arith)
+loop-less c = rw (length-take, length-drop) (omega (arith, ends (counts (c .before))))
 
 loop-again : tie.Need-loop-again Inv-loop μ-loop
 loop-again c =
-    let l = c .before .before .before .before .before .before .before .before .before .loop in
-    let t = l .t .now in
-    let run = l .inv .0 in
-    let e = sym (c .before .before .before .before .before .before .before .body-field .ensures) ∙ c .before .before .before .before .before .next .given .1 in
-    let w = body-ends t batchItem e in
-    let b = l .inv .2 in
-    (run-behind t run (body-rest t run batchItem e), l .inv .1 ∙ items-more t run e (l .count) (sym (c .before .before .item-ok .ensures) ∙ not-false _ (c .before .if1 .left)), rw (length-take, length-drop) (omega arith))
+    let good = c .before in
+    let k = counts good in
+    let l = at-loop k .loop in
+    let item = told-item _ _ (sym (good .before .before .find-item .ensures) ∙ good .enum-told2 .given .1) in
+    (run-behind (T k) (run k) (ends k), l .inv .1 ∙ items-more (T k) (run k) (found k) (l .count) (item .there), rw (length-take, length-drop) (omega (arith, ends k, fewer good)))
 
 returns-3 : tie.Need-returns-3 Inv-loop μ-loop
 returns-3 c =
     let l = c .before .loop in
-    let t = l .t .now in
-    let run = l .inv .0 in
-    sym (l .inv .1 ∙ ap (counted (l .count)) (items-end t run (c .loop-test .left)) ∙ ap Counted (omega arith))
+    sym (l .inv .1 ∙ ap (counted (l .count)) (items-end (l .t .now) (l .inv .0) (c .loop-test .left)) ∙ ap Counted (omega arith))
 
 pub count-items-spec : {M : Type 1} → statement M
 count-items-spec =
@@ -149,10 +144,12 @@ count-items-spec =
     enum-known-next
     enum-told
     returns
-    sub-item-ok
-    part-item-ok-start
-    part-item-ok-end
-    item-ok-requires
+    sub-find-item
+    part-find-item-start
+    part-find-item-end
+    find-item-requires
+    enum-told-2
+    enum-told-3
     returns-2
     sub-t
     part-t-start

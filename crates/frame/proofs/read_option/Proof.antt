@@ -25,7 +25,9 @@ starts-with-requires c κs = search needs
 returns : tie.Need-returns
 unfolding optionAt
 returns c =
-    sym (ifb-true _ _ _ (sym (c .before .starts-with .ensures) ∙ c .if1 .taken) ∙ sym (c .before .before .before .before .number-field .ensures) ∙ c .before .before .enum-told .given .1)
+    let asked = c .before in
+    let told = asked .before in
+    sym (ifb-true _ _ _ (sym (asked .starts-with .ensures) ∙ c .if1 .taken) ∙ sym (told .before .before .number-field .ensures) ∙ told .enum-told .given .1)
 
 returns-2 : tie.Need-returns-2
 unfolding optionAt
@@ -34,8 +36,10 @@ returns-2 c = sym (ifb-false _ _ _ (sym (c .before .starts-with .ensures) ∙ c 
 returns-3 : tie.Need-returns-3
 unfolding optionAt
 returns-3 c =
-    let e = sym (c .before .before .before .number-field .ensures) ∙ c .before .value .given .1 in
-    sym (ifb-true _ _ _ (number-starts (c .before .before .before .before .before .args .s .now) batchErrorContinuationOption enumeration e) ∙ e)
+    let read = c .before in
+    let at-number = read .before .before in
+    let e = sym (at-number .number-field .ensures) ∙ read .value .given .1 in
+    sym (ifb-true _ _ _ (number-starts (at-number .before .before .args .s .now) batchErrorContinuationOption enumeration e) ∙ e)
 
 pub read-option-spec : {M : Type 1} → statement M
 read-option-spec =

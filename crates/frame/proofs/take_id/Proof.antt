@@ -13,7 +13,9 @@ put-all-requires c κs = search needs
 
 returns : tie.Need-returns
 returns c =
-    id-filled (c .before .before .before .before .args .v .now) _ (c .before .before .before .before .pre) (c .before .put-all .ensures)
+    let put = c .before in
+    let at-start = put .before .before .before in
+    id-filled (at-start .args .v .now) _ (at-start .pre) (put .put-all .ensures)
 
 pub take-id-spec : {M : Type 1} → statement M
 take-id-spec = tie.close (tie.spec slice-aggregate-put-all put-all-requires returns)

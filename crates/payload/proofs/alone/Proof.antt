@@ -1,35 +1,46 @@
 -- `payload::alone`. The chain of tests.
 -- Assumes nothing.
-use mathlib.Core.Path.{sym, _∙_}
+use mathlib.Core.Path.{_≡_, sym, _∙_}
+use Prim.Native.Nat.{ℕ}
+use mathlib.Core.Bool.{false}
+use lib.Dec.{eqb}
 use Rattle.octets.proofs.If.{ifb-true, ifb-false}
 use borrow.Author.Tests.{eq-eqb, ne-eqb}
+use Rattle.rules.specs.Numbers.{rekey, activate, destroy}
 use Rattle.payload.specs.Readers.{aloneOf}
 use Rattle.payload.proofs.alone.Statement.{statement}
 use Rattle.payload.proofs.alone.Tie as tie
 
 returns : tie.Need-returns
 unfolding aloneOf
-returns c =
-    let o = c .before .args .operation in
-    sym (ifb-true _ _ _ (eq-eqb o 0x04 (c .if1 .taken)))
+returns c = sym (ifb-true _ _ _ (eq-eqb (c .before .args .operation) rekey (c .if1 .taken)))
+
+-- ---- the operations that it is not
+
+abbrev Op : tie.Else1 → ℕ
+Op c = c .before .args .operation
+
+not-rekey : (c : tie.Else1) → eqb (Op c) rekey ≡ false
+not-rekey c = ne-eqb (Op c) rekey (c .if1 .left)
+
+not-activate : (c : tie.Else2) → eqb (Op (c .before)) activate ≡ false
+not-activate c = ne-eqb (Op (c .before)) activate (c .if2 .left)
 
 returns-2 : tie.Need-returns-2
 unfolding aloneOf
-returns-2 c =
-    let o = c .before .before .args .operation in
-    sym (ifb-false _ _ _ (ne-eqb o 0x04 (c .before .if1 .left)) ∙ ifb-true _ _ _ (eq-eqb o 0x12 (c .if2 .taken)))
+returns-2 c = let e = c .before in sym (ifb-false _ _ _ (not-rekey e) ∙ ifb-true _ _ _ (eq-eqb (Op e) activate (c .if2 .taken)))
 
 returns-3 : tie.Need-returns-3
 unfolding aloneOf
 returns-3 c =
-    let o = c .before .before .before .args .operation in
-    sym (ifb-false _ _ _ (ne-eqb o 0x04 (c .before .before .if1 .left)) ∙ (ifb-false _ _ _ (ne-eqb o 0x12 (c .before .if2 .left)) ∙ ifb-true _ _ _ (eq-eqb o 0x14 (c .if3 .taken))))
+    let two = c .before in
+    sym (ifb-false _ _ _ (not-rekey (two .before)) ∙ (ifb-false _ _ _ (not-activate two) ∙ ifb-true _ _ _ (eq-eqb (Op (two .before)) destroy (c .if3 .taken))))
 
 returns-4 : tie.Need-returns-4
 unfolding aloneOf
 returns-4 c =
-    let o = c .before .before .before .args .operation in
-    sym (ifb-false _ _ _ (ne-eqb o 0x04 (c .before .before .if1 .left)) ∙ (ifb-false _ _ _ (ne-eqb o 0x12 (c .before .if2 .left)) ∙ ifb-false _ _ _ (ne-eqb o 0x14 (c .if3 .left))))
+    let at-2 = c .before in
+    sym (ifb-false _ _ _ (not-rekey (at-2 .before)) ∙ (ifb-false _ _ _ (not-activate at-2) ∙ ifb-false _ _ _ (ne-eqb (Op (at-2 .before)) destroy (c .if3 .left))))
 
 pub alone-spec : {M : Type 1} → statement M
 alone-spec = tie.close (tie.spec returns returns-2 returns-3 returns-4)

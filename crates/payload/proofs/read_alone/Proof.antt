@@ -1,8 +1,15 @@
 -- `payload::read_alone`. The target, by whether it ends where the bytes end.
 -- Assumes nothing.
-use mathlib.Core.Path.{sym, ap, _∙_}
+use mathlib.Core.Path.{_≡_, sym, ap, _∙_}
+use Prim.Native.Nat.{ℕ}
+use mathlib.Core.Bool.{true}
+use mathlib.Core.List.{List}
+use Rattle.ttlv.specs.Tree.{isRun}
 use Rattle.payload.specs.Payload.{aloneIn, orInvalid}
-use Rattle.payload.specs.Readers.{aloneOf}
+use Rattle.payload.specs.Readers.{targetAt, aloneOf}
+use Rattle.payload.specs.declared.Target.{Target}
+use Rattle.payload.specs.declared.Command.{Command}
+use Rattle.payload.specs.declared.TargetRead.the-variants.{Is}
 use Rattle.payload.proofs.Targets.{target-stops, alone-is, alone-more}
 use borrow.Author.Needs.{needs}
 use Rattle.payload.proofs.read_alone.Statement.{statement}
@@ -20,17 +27,36 @@ enum-told c = search needs
 returns : tie.Need-returns
 unfolding orInvalid aloneIn
 returns c =
-    let a = c .before .before .before .before .args in
-    let run = c .before .before .before .before .pre in
-    sym (ap orInvalid (target-stops (a .s .now) run _ (sym (c .before .before .read-target .ensures) ∙ c .enum-told .given .1)))
+    let at-read = c .before .before in
+    let at-start = at-read .before .before in
+    sym (ap orInvalid (target-stops (at-start .args .s .now) (at-start .pre) _ (sym (at-read .read-target .ensures) ∙ c .enum-told .given .1)))
+
+-- ---- the target is known: the payload, and where the target ends
+
+abbrev start : tie.After-target → tie.Start
+start c = c .before .before .before .before
+
+abbrev S : tie.After-target → List ℕ
+S c = start c .args .s .now
+
+abbrev Named : tie.After-target → Target
+Named c = c .target .given .0 .0
+
+abbrev Next : tie.After-target → ℕ
+Next c = c .target .given .0 .1 .0
+
+run : (c : tie.After-target) → isRun (S c) ≡ true
+run c = start c .pre
+
+named : (c : tie.After-target) → targetAt (S c) ≡ Is (Named c) (Next c)
+named c = sym (c .before .before .read-target .ensures) ∙ c .target .given .1
+
+abbrev make : tie.After-target → Target → Command
+make c = aloneOf (start c .args .operation)
 
 returns-2 : tie.Need-returns-2
 unfolding orInvalid
-returns-2 c =
-    let a = c .before .before .before .before .before .before .args in
-    let run = c .before .before .before .before .before .before .pre in
-    let named = sym (c .before .before .before .before .read-target .ensures) ∙ c .before .before .target .given .1 in
-    sym (ap orInvalid (alone-more (a .s .now) run named (aloneOf (a .operation)) (c .if1 .taken)))
+returns-2 c = let k = c .before .before in sym (ap orInvalid (alone-more (S k) (run k) (named k) (make k) (c .if1 .taken)))
 
 alone-requires : tie.Need-alone-requires
 alone-requires c κs = search needs
@@ -38,10 +64,9 @@ alone-requires c κs = search needs
 returns-3 : tie.Need-returns-3
 unfolding orInvalid
 returns-3 c =
-    let a = c .before .before .before .before .before .before .before .args in
-    let run = c .before .before .before .before .before .before .before .pre in
-    let named = sym (c .before .before .before .before .before .read-target .ensures) ∙ c .before .before .before .target .given .1 in
-    c .alone .ensures ∙ sym (ap orInvalid (alone-is (a .s .now) run named (aloneOf (a .operation)) (c .before .if1 .left)))
+    let e = c .before in
+    let t = e .before .before in
+    c .alone .ensures ∙ sym (ap orInvalid (alone-is (S t) (run t) (named t) (make t) (e .if1 .left)))
 
 pub read-alone-spec : {M : Type 1} → statement M
 read-alone-spec =

@@ -1,7 +1,6 @@
 -- `payload::read_command`. By the number of the operation.
 -- Assumes nothing.
 use mathlib.Core.Path.{sym, _∙_}
-use Rattle.ttlv.specs.Tree.{treeOf}
 use Rattle.payload.proofs.Commands.{of-create, of-rekey, of-allocation, of-activate, of-revoke, of-destroy, of-attributes, of-none}
 use borrow.Author.Needs.{needs}
 use Rattle.payload.proofs.read_command.Statement.{statement}
@@ -11,62 +10,48 @@ read-create-requires : tie.Need-read-create-requires
 read-create-requires c κs = search needs
 
 returns : tie.Need-returns
-returns c =
-    let a = c .before .before .before .args in
-    c .read-create .ensures ∙ sym (of-create (a .operation) (treeOf (a .s .now)) (c .before .if1 .taken))
+returns c = c .read-create .ensures ∙ sym (of-create _ _ (c .before .if1 .taken))
 
 read-alone-requires : tie.Need-read-alone-requires
 read-alone-requires c κs = search needs
 
 returns-2 : tie.Need-returns-2
-returns-2 c =
-    let a = c .before .before .before .before .args in
-    c .read-alone .ensures ∙ sym (of-rekey (a .operation) (treeOf (a .s .now)) (c .before .if2 .taken))
+returns-2 c = c .read-alone .ensures ∙ sym (of-rekey _ _ (c .before .if2 .taken))
 
 read-allocation-requires : tie.Need-read-allocation-requires
 read-allocation-requires c κs = search needs
 
 returns-3 : tie.Need-returns-3
-returns-3 c =
-    let a = c .before .before .before .before .before .args in
-    c .read-allocation .ensures ∙ sym (of-allocation (a .operation) (treeOf (a .s .now)) (c .before .if3 .taken))
+returns-3 c = c .read-allocation .ensures ∙ sym (of-allocation _ _ (c .before .if3 .taken))
 
 read-alone-requires-2 : tie.Need-read-alone-requires-2
 read-alone-requires-2 c κs = search needs
 
 returns-4 : tie.Need-returns-4
-returns-4 c =
-    let a = c .before .before .before .before .before .before .args in
-    c .read-alone2 .ensures ∙ sym (of-activate (a .operation) (treeOf (a .s .now)) (c .before .if4 .taken))
+returns-4 c = c .read-alone2 .ensures ∙ sym (of-activate _ _ (c .before .if4 .taken))
 
 read-revoke-requires : tie.Need-read-revoke-requires
 read-revoke-requires c κs = search needs
 
 returns-5 : tie.Need-returns-5
-returns-5 c =
-    let a = c .before .before .before .before .before .before .before .args in
-    c .read-revoke .ensures ∙ sym (of-revoke (a .operation) (treeOf (a .s .now)) (c .before .if5 .taken))
+returns-5 c = c .read-revoke .ensures ∙ sym (of-revoke _ _ (c .before .if5 .taken))
 
 read-alone-requires-3 : tie.Need-read-alone-requires-3
 read-alone-requires-3 c κs = search needs
 
 returns-6 : tie.Need-returns-6
-returns-6 c =
-    let a = c .before .before .before .before .before .before .before .before .args in
-    c .read-alone3 .ensures ∙ sym (of-destroy (a .operation) (treeOf (a .s .now)) (c .before .if6 .taken))
+returns-6 c = c .read-alone3 .ensures ∙ sym (of-destroy _ _ (c .before .if6 .taken))
 
 read-alone-requires-4 : tie.Need-read-alone-requires-4
 read-alone-requires-4 c κs = search needs
 
 returns-7 : tie.Need-returns-7
-returns-7 c =
-    let a = c .before .before .before .before .before .before .before .before .before .args in
-    c .read-alone4 .ensures ∙ sym (of-attributes (a .operation) (treeOf (a .s .now)) (c .before .if7 .taken))
+returns-7 c = c .read-alone4 .ensures ∙ sym (of-attributes _ _ (c .before .if7 .taken))
 
 returns-8 : tie.Need-returns-8
 returns-8 c =
-    let a = c .before .before .before .before .before .before .before .before .args in
-    sym (of-none (a .operation) (treeOf (a .s .now)) (c .before .before .before .before .before .before .if1 .left) (c .before .before .before .before .before .if2 .left) (c .before .before .before .before .if3 .left) (c .before .before .before .if4 .left) (c .before .before .if5 .left) (c .before .if6 .left) (c .if7 .left))
+    let at-4 = c .before .before .before in
+    sym (of-none _ _ (at-4 .before .before .before .if1 .left) (at-4 .before .before .if2 .left) (at-4 .before .if3 .left) (at-4 .if4 .left) (c .before .before .if5 .left) (c .before .if6 .left) (c .if7 .left))
 
 pub read-command-spec : {M : Type 1} → statement M
 read-command-spec =

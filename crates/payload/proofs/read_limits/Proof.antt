@@ -1,10 +1,15 @@
 -- `payload::read_limits`. Nothing, a structure and nothing behind it, or anything else.
 -- Assumes nothing.
-use mathlib.Core.Path.{sym, ap, _∙_}
+use mathlib.Core.Path.{_≡_, sym, ap, _∙_}
+use Prim.Native.Nat.{ℕ}
 use native.Mathlib.Omega.{arith}
+use mathlib.Core.Bool.{true}
+use mathlib.Core.List.{List}
+use Rattle.ttlv.specs.Tree.{isRun}
+use Rattle.fields.specs.declared.BodyField.the-variants.{Body}
 use Rattle.tags.specs.Tags.{usageLimits}
-use Rattle.payload.specs.Readers.{limitsRead}
-use Rattle.payload.proofs.Steps.{whole}
+use Rattle.payload.specs.Readers.{onlyBodyAt, limitsRead}
+use Rattle.payload.proofs.Steps.{Whole, whole}
 use Rattle.payload.proofs.Wanted.{limits-empty, limits-other, limits-is}
 use borrow.Author.Needs.{needs}
 use Rattle.payload.proofs.read_limits.Statement.{statement}
@@ -12,10 +17,15 @@ use Rattle.payload.proofs.read_limits.Tie as tie
 
 returns : tie.Need-returns
 unfolding limitsRead
-returns c =
-    let a = c .before .before .args in
-    let run = c .before .before .pre in
-    sym (ap limitsRead (limits-empty (a .s .now) run (c .if1 .taken)))
+returns c = let at-start = c .before .before in sym (ap limitsRead (limits-empty (at-start .args .s .now) (at-start .pre) (c .if1 .taken)))
+
+-- ---- something is there: the items
+
+abbrev S : tie.Else1 → List ℕ
+S c = c .before .before .args .s .now
+
+run : (c : tie.Else1) → isRun (S c) ≡ true
+run c = c .before .before .pre
 
 only-body-requires : tie.Need-only-body-requires
 only-body-requires c κs = search needs
@@ -29,52 +39,37 @@ enum-told c = search needs
 returns-2 : tie.Need-returns-2
 unfolding limitsRead
 returns-2 c =
-    let a = c .before .before .before .before .before .args in
-    let run = c .before .before .before .before .before .pre in
-    sym (ap limitsRead (limits-other (a .s .now) run (c .before .before .before .if1 .left) (sym (c .before .before .only-body .ensures) ∙ c .enum-told .given .1)))
+    let at-body = c .before .before in
+    let e = at-body .before in
+    sym (ap limitsRead (limits-other (S e) (run e) (e .if1 .left) (sym (at-body .only-body .ensures) ∙ c .enum-told .given .1)))
+
+-- ---- Usage Limits is there, and nothing behind it
+
+abbrev at-else : tie.After-next → tie.Else1
+at-else c = c .before .before .before
+
+body : (c : tie.After-next) → onlyBodyAt (S (at-else c)) usageLimits ≡ Body (c .next .given .0 .0)
+body c = sym (c .before .before .only-body .ensures) ∙ c .next .given .1
+
+inside : (c : tie.After-next) → Whole (S (at-else c)) (run (at-else c)) usageLimits (c .next .given .0 .0)
+inside c = whole (S (at-else c)) (run (at-else c)) usageLimits (body c)
 
 sub-read-limit : tie.Need-sub-read-limit
-sub-read-limit c =
-    let a = c .before .before .before .before .before .before .args in
-    let run = c .before .before .before .before .before .before .pre in
-    let body = sym (c .before .before .before .only-body .ensures) ∙ c .before .next .given .1 in
-    let w = whole (a .s .now) run usageLimits body in
-    w .past
+sub-read-limit c = inside (c .before) .past
 
 part-read-limit-start : tie.Need-part-read-limit-start
-part-read-limit-start c =
-    let a = c .before .before .before .before .before .before .args in
-    let run = c .before .before .before .before .before .before .pre in
-    let body = sym (c .before .before .before .only-body .ensures) ∙ c .before .next .given .1 in
-    let w = whole (a .s .now) run usageLimits body in
-    let p = w .past in
-    let q = w .within in
-    omega arith
+part-read-limit-start c = omega (arith, inside (c .before))
 
 part-read-limit-end : tie.Need-part-read-limit-end
-part-read-limit-end c =
-    let a = c .before .before .before .before .before .before .args in
-    let run = c .before .before .before .before .before .before .pre in
-    let body = sym (c .before .before .before .only-body .ensures) ∙ c .before .next .given .1 in
-    let w = whole (a .s .now) run usageLimits body in
-    let p = w .past in
-    let q = w .within in
-    omega arith
+part-read-limit-end c = omega (arith, inside (c .before))
 
 read-limit-requires : tie.Need-read-limit-requires
-read-limit-requires c κs =
-    let a = c .before .before .before .before .before .before .before .args in
-    let run = c .before .before .before .before .before .before .before .pre in
-    let body = sym (c .before .before .before .before .only-body .ensures) ∙ c .before .before .next .given .1 in
-    let w = whole (a .s .now) run usageLimits body in
-    w .inner
+read-limit-requires c κs = inside (c .before .before) .inner
 
 returns-3 : tie.Need-returns-3
 returns-3 c =
-    let a = c .before .before .before .before .before .before .before .before .args in
-    let run = c .before .before .before .before .before .before .before .before .pre in
-    let body = sym (c .before .before .before .before .before .only-body .ensures) ∙ c .before .before .before .next .given .1 in
-    c .read-limit .ensures ∙ sym (limits-is (a .s .now) run body)
+    let k = c .before .before .before in
+    c .read-limit .ensures ∙ sym (limits-is (S (at-else k)) (run (at-else k)) (body k))
 
 pub read-limits-spec : {M : Type 1} → statement M
 read-limits-spec =

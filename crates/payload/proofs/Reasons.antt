@@ -1,0 +1,99 @@
+-- What the readers' answers say in the papers' terms: a command is of the operation that asked for it, and a part that cannot be read is Invalid Field.
+-- Assumes nothing. The promises are of the answers themselves; these laws say what the definitions of the same name in specs give of them.
+use Prim.Native.Nat.{ℕ}
+use mathlib.Core.Path.{_≡_, refl, sym, ap, _∙_}
+use mathlib.Core.Bool.{true}
+use mathlib.Core.Option.{Option, none, some}
+use mathlib.Core.List.{List}
+use native.Mathlib.Omega.{arith}
+use lib.Dec.{eqb}
+use borrow.Author.Tests.{eqb-true}
+use Rattle.octets.proofs.If.{on-if}
+use Rattle.octets.proofs.Maybe.{some-is, on-bind, on-test}
+use Rattle.ttlv.specs.Items.{Items}
+use Rattle.ttlv.specs.Tree.{isRun, treeOf}
+use Rattle.rules.specs.Numbers.{create, rekey, getAttributes, getUsageAllocation, activate, revoke, destroy}
+use Rattle.rules.specs.declared.Attributes.{Attributes}
+use Rattle.payload.specs.Payload.{Limit, createIn, targetIn, aloneIn, allocationIn, revokeIn, orInvalid, command}
+use Rattle.payload.specs.Readers.{targetAt, limitRead, limitsRead, attributesRead}
+use Rattle.payload.specs.Reasons.{operationOf, reasonOf, readReason, targetReason, limitReason, attributesReason}
+use Rattle.payload.specs.declared.Target.{Target}
+use Rattle.payload.specs.declared.Command.{Command}
+use Rattle.payload.specs.declared.Command.the-variants.{Rekey, Activate, Destroy, GetAttributes}
+use Rattle.payload.specs.declared.TargetRead.{TargetRead}
+use Rattle.payload.specs.declared.TargetRead.the-variants.{Is, InvalidField as InvalidTarget}
+use Rattle.payload.proofs.Targets.{target-is, target-none}
+
+-- ---- a command
+
+-- what was read is of the operation
+Of : ℕ → Option Command → Type 0
+Of operation o = (c : Command) → o ≡ some c → operationOf c ≡ some operation
+
+create-of : (t : Items) → Of create (createIn t)
+unfolding Of createIn operationOf
+create-of t c h =
+    on-bind h λ a e1 h1. on-test h1 λ kind h2. on-bind h2 λ b e2 h3. on-test h3 λ end h4. on-bind h4 λ wanted e4 h5.
+    ap operationOf (sym (some-is h5))
+
+alone-of : {operation : ℕ} (make : Target → Command) → ((target : Target) → operationOf (make target) ≡ some operation) → (t : Items) → Of operation (aloneIn make t)
+unfolding Of aloneIn
+alone-of make f t c h = on-bind h λ a e1 h1. on-test h1 λ end h2. ap operationOf (sym (some-is h2)) ∙ f (a .0)
+
+allocation-of : (t : Items) → Of getUsageAllocation (allocationIn t)
+unfolding Of allocationIn operationOf
+allocation-of t c h =
+    on-bind h λ a e1 h1. on-bind h1 λ b e2 h2. on-test h2 λ amount h3. on-test h3 λ end h4. ap operationOf (sym (some-is h4))
+
+revoke-of : (t : Items) → Of revoke (revokeIn t)
+unfolding Of revokeIn operationOf
+revoke-of t c h =
+    on-bind h λ a e1 h1. on-bind h1 λ b e2 h2. on-test h2 λ end h3. on-bind h3 λ code e3 h4. on-test h4 λ good h5. on-test h5 λ end2 h6.
+    ap operationOf (sym (some-is h6))
+
+-- a command is of the operation that asked for it, unless it fails by itself
+Asked : ℕ → Command → Type 0
+Asked operation c = reasonOf c ≡ none → operationOf c ≡ some operation
+
+asked : (operation n : ℕ) (o : Option Command) → eqb operation n ≡ true → Of n o → Asked operation (orInvalid o)
+unfolding Asked Of orInvalid reasonOf
+asked operation n none e f h = let z : _≡_ {A = ℕ} 0 1 = cc in absurd (omega arith)
+asked operation n (some c) e f h = f c refl ∙ ap (λ (x : ℕ). some x) (sym (eqb-true operation n e))
+
+pub command-operation : (operation : ℕ) (t : Items) → reasonOf (command operation t) ≡ none → operationOf (command operation t) ≡ some operation
+unfolding Asked command reasonOf operationOf
+command-operation operation t =
+    on-if (Asked operation) (λ e. asked operation create _ e (create-of t))
+    (λ _. on-if (Asked operation) (λ e. asked operation rekey _ e (alone-of Rekey (λ target. refl) t))
+    (λ _. on-if (Asked operation) (λ e. asked operation getUsageAllocation _ e (allocation-of t))
+    (λ _. on-if (Asked operation) (λ e. asked operation activate _ e (alone-of Activate (λ target. refl) t))
+    (λ _. on-if (Asked operation) (λ e. asked operation revoke _ e (revoke-of t))
+    (λ _. on-if (Asked operation) (λ e. asked operation destroy _ e (alone-of Destroy (λ target. refl) t))
+    (λ _. on-if (Asked operation) (λ e. asked operation getAttributes _ e (alone-of GetAttributes (λ target. refl) t))
+    (λ _ h. let z : _≡_ {A = ℕ} 0 1 = cc in absurd (omega arith))))))))
+
+-- ---- a part of a payload
+
+pub target-reason : (s : List ℕ) (run : isRun s ≡ true) → targetReason (targetAt s) ≡ readReason (targetIn (treeOf s))
+unfolding targetReason readReason
+target-reason s run = go (targetAt s) refl
+  where
+    go : (r : TargetRead) → targetAt s ≡ r → targetReason r ≡ readReason (targetIn (treeOf s))
+    go (Is target next) e = sym (ap readReason (target-is s run e .read))
+    go InvalidTarget e = sym (ap readReason (target-none s run e))
+
+pub limit-reason : (o : Option Limit) → limitReason (limitRead o) ≡ readReason o
+unfolding limitReason limitRead readReason
+limit-reason none = refl
+limit-reason (some limit) = refl
+
+pub limits-reason : (o : Option (Option Limit)) → limitReason (limitsRead o) ≡ readReason o
+unfolding limitReason limitsRead readReason
+limits-reason none = refl
+limits-reason (some none) = refl
+limits-reason (some (some limit)) = refl
+
+pub attributes-reason : (o : Option Attributes) → attributesReason (attributesRead o) ≡ readReason o
+unfolding attributesReason attributesRead readReason
+attributes-reason none = refl
+attributes-reason (some wanted) = refl

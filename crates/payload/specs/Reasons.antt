@@ -1,0 +1,60 @@
+-- What each answer of the payload readers says in the papers' terms, case by case: the operation, and the reason of a failure.
+-- Assumes nothing. The laws that tie these to the readers' promises stand in the proofs of the same name.
+use Prim.Native.Nat.{ℕ}
+use mathlib.Core.Option.{Option, none, some}
+use Rattle.rules.specs.Numbers.{create, rekey, getAttributes, getUsageAllocation, activate, revoke, destroy}
+use Rattle.rules.specs.declared.Reason.{Reason}
+use Rattle.rules.specs.declared.Reason.the-variants.{OperationNotSupported, InvalidField}
+use Rattle.payload.specs.declared.Command.{Command}
+use Rattle.payload.specs.declared.Command.the-variants.{Unsupported, Invalid, Create, Rekey, GetUsageAllocation, Activate, Revoke, Destroy, GetAttributes}
+use Rattle.payload.specs.declared.TargetRead.{TargetRead}
+use Rattle.payload.specs.declared.TargetRead.the-variants.{Is, InvalidField as InvalidTarget}
+use Rattle.payload.specs.declared.LimitRead.{LimitRead}
+use Rattle.payload.specs.declared.LimitRead.the-variants.{Limited, InvalidField as InvalidLimit}
+use Rattle.payload.specs.declared.AttributesRead.{AttributesRead}
+use Rattle.payload.specs.declared.AttributesRead.the-variants.{Wanted, InvalidField as InvalidAttributes}
+
+-- ---- a command
+
+-- the number of the operation that a command carries out
+unfoldable pub operationOf : Command → Option ℕ
+operationOf Unsupported = none
+operationOf Invalid = none
+operationOf (Create wanted) = some create
+operationOf (Rekey target) = some rekey
+operationOf (GetUsageAllocation target amount) = some getUsageAllocation
+operationOf (Activate target) = some activate
+operationOf (Revoke target code) = some revoke
+operationOf (Destroy target) = some destroy
+operationOf (GetAttributes target) = some getAttributes
+
+-- the reason with which it fails before any record is looked at
+unfoldable pub reasonOf : Command → Option Reason
+reasonOf Unsupported = some OperationNotSupported
+reasonOf Invalid = some InvalidField
+reasonOf (Create wanted) = none
+reasonOf (Rekey target) = none
+reasonOf (GetUsageAllocation target amount) = none
+reasonOf (Activate target) = none
+reasonOf (Revoke target code) = none
+reasonOf (Destroy target) = none
+reasonOf (GetAttributes target) = none
+
+-- ---- a part of a payload
+
+-- "One of wrong shape or with a value not allowed here fails with Invalid Field": what was read, or nothing
+unfoldable pub readReason : {A : Type 0} → Option A → Option Reason
+readReason none = some InvalidField
+readReason (some a) = none
+
+unfoldable pub targetReason : TargetRead → Option Reason
+targetReason (Is target next) = none
+targetReason InvalidTarget = some InvalidField
+
+unfoldable pub limitReason : LimitRead → Option Reason
+limitReason (Limited unit total) = none
+limitReason InvalidLimit = some InvalidField
+
+unfoldable pub attributesReason : AttributesRead → Option Reason
+attributesReason (Wanted wanted) = none
+attributesReason InvalidAttributes = some InvalidField
