@@ -33,8 +33,8 @@ use Rattle.payload.specs.declared.Command.the-variants.{Unsupported, Invalid, C
 use Rattle.payload.specs.Payload.{command}
 use Rattle.act.specs.declared.Outcome.the-variants.{Created, Done}
 use Rattle.act.specs.declared.Deed.{Deed}
-use Rattle.act.specs.Act.{Env, Did, failing, refusal, carried, sought, createPlan, rekeyPlan, allocationPlan, activatePlan, revokePlan, destroyPlan, showPlan, onFound, plan, step}
-use Rattle.act.specs.Perform.{carriedOut, inPlaces, performing, roomFor, linkedAt, replacing, storing, movePlan, deedPlan, aboutPlan}
+use Rattle.act.specs.Act.{Env, Did, emptyHolder, failing, refusal, carried, sought, createPlan, rekeyPlan, allocationPlan, activatePlan, revokePlan, destroyPlan, showPlan, onFound, plan, step, carriedOut, inPlaces, performing}
+use Rattle.act.specs.Perform.{placeForNew, linkedAt, replacing, storing, movePlan, deedPlan, aboutPlan}
 
 -- ---- a test at a time
 
@@ -56,55 +56,55 @@ is-done t did = ap (carried t did) due-end
 pub refused : (t : List ℕ) (reason : Reason) → carriedOut t (refusal t reason) ≡ failing t reason
 refused t reason = fails-first t (failing t reason) (true ⇒ reason) [] refl
 
--- ---- room for a new object
+-- ---- a place for a new object
 
 module _ (n : ℕ) (t : List ℕ) where
-  pub room-issued : lastSerial t ≡ serialMost → roomFor n t ≡ Nothing
-  unfolding roomFor
-  room-issued e = ifb-true (eqb (lastSerial t) serialMost) Nothing (newPlace n t) (eq-eqb (lastSerial t) serialMost e)
+  pub nowhere-issued : lastSerial t ≡ serialMost → placeForNew n t ≡ Nothing
+  unfolding placeForNew
+  nowhere-issued e = ifb-true (eqb (lastSerial t) serialMost) Nothing (newPlace n t) (eq-eqb (lastSerial t) serialMost e)
 
-  pub room-left : (lastSerial t ≡ serialMost → ⊥) → roomFor n t ≡ newPlace n t
-  unfolding roomFor
-  room-left h = ifb-false (eqb (lastSerial t) serialMost) Nothing (newPlace n t) (ne-eqb (lastSerial t) serialMost h)
+  pub place-unissued : (lastSerial t ≡ serialMost → ⊥) → placeForNew n t ≡ newPlace n t
+  unfolding placeForNew
+  place-unissued h = ifb-false (eqb (lastSerial t) serialMost) Nothing (newPlace n t) (ne-eqb (lastSerial t) serialMost h)
 
-  module _ (i : ℕ) (is : roomFor n t ≡ At i) where
-    pub room-serial : lastSerial t ≡ serialMost → ⊥
-    room-serial e = At-not (sym is ∙ room-issued e)
+  module _ (i : ℕ) (is : placeForNew n t ≡ At i) where
+    pub unissued : lastSerial t ≡ serialMost → ⊥
+    unissued e = At-not (sym is ∙ nowhere-issued e)
 
-    pub room-place : newPlace n t ≡ At i
-    room-place = sym (room-left room-serial) ∙ is
+    pub new-there : newPlace n t ≡ At i
+    new-there = sym (place-unissued unissued) ∙ is
 
     pub not-full : isFull n t ≡ false
     unfolding isFull
-    not-full = rw (isNothing-at (newPlace n t) i room-place, ne-eqb (lastSerial t) serialMost room-serial)
+    not-full = rw (isNothing-at (newPlace n t) i new-there, ne-eqb (lastSerial t) serialMost unissued)
 
-  full-by : (b : Bool) → eqb (lastSerial t) serialMost ≡ b → roomFor n t ≡ Nothing → isFull n t ≡ true
+  full-by : (b : Bool) → eqb (lastSerial t) serialMost ≡ b → placeForNew n t ≡ Nothing → isFull n t ≡ true
   unfolding isFull
   full-by true e is = rw e (on-bool (isNothing (newPlace n t)) (λ p. rw p) (λ p. rw p))
-  full-by false e is = rw (isNothing-none (newPlace n t) (sym (room-left (eqb-false (lastSerial t) serialMost e)) ∙ is))
+  full-by false e is = rw (isNothing-none (newPlace n t) (sym (place-unissued (eqb-false (lastSerial t) serialMost e)) ∙ is))
 
-  pub full : roomFor n t ≡ Nothing → isFull n t ≡ true
+  pub full : placeForNew n t ≡ Nothing → isFull n t ≡ true
   full is = full-by (eqb (lastSerial t) serialMost) refl is
 
 -- ---- Create
 
 module _ (n : ℕ) (fresh t : List ℕ) (wanted : Attributes) where
-  pub create-full : roomFor n t ≡ Nothing → carriedOut t (createPlan (inPlaces n fresh) 0 t wanted) ≡ failing t ServerLimitExceeded
+  pub create-full : placeForNew n t ≡ Nothing → carriedOut t (createPlan (inPlaces n fresh) emptyHolder t wanted) ≡ failing t ServerLimitExceeded
   unfolding createPlan
   create-full is = fails-first t _ _ _ (full n t is)
 
-  pub create-at : (i : ℕ) → roomFor n t ≡ At i → carriedOut t (createPlan (inPlaces n fresh) 0 t wanted)
+  pub create-at : (i : ℕ) → placeForNew n t ≡ At i → carriedOut t (createPlan (inPlaces n fresh) emptyHolder t wanted)
       ≡ record { outcome = Created (nextSerial t); table = bornAt n t (newRecord (nextSerial t) wanted fresh) (At i); holder = nextSerial t }
   unfolding createPlan withBorn
   create-at i is =
       goes-on t _ _ _ (not-full n t i is) ∙ is-done t _
-      ∙ ap (λ (f : Found). record { outcome = Created (nextSerial t); table = bornAt n t (newRecord (nextSerial t) wanted fresh) f; holder = nextSerial t }) (room-place n t i is)
+      ∙ ap (λ (f : Found). record { outcome = Created (nextSerial t); table = bornAt n t (newRecord (nextSerial t) wanted fresh) f; holder = nextSerial t }) (new-there n t i is)
 
 -- ---- Re-key
 
 module _ (n : ℕ) (fresh t : List ℕ) (i : ℕ) where
   abbrev rekeyed : Did
-  rekeyed = carriedOut t (rekeyPlan (inPlaces n fresh) 0 t i (placeAt n t i))
+  rekeyed = carriedOut t (rekeyPlan (inPlaces n fresh) emptyHolder t i (placeAt n t i))
 
   pub rekey-destroyed : isDestroyed (placeAt n t i .state) ≡ true → rekeyed ≡ failing t ObjectDestroyed
   unfolding rekeyPlan
@@ -116,17 +116,17 @@ module _ (n : ℕ) (fresh t : List ℕ) (i : ℕ) where
     rekey-twice h = goes-on t _ _ _ live ∙ fails-first t _ _ _ (ap not (ne-eqb (placeAt n t i .replacement) 0 h))
 
     module _ (first : placeAt n t i .replacement ≡ 0) where
-      rekey-room : (f : Found) → roomFor n t ≡ f → rekeyed ≡ replacing n fresh t i (placeAt n t i) f
+      rekey-by : (f : Found) → placeForNew n t ≡ f → rekeyed ≡ replacing n fresh t i (placeAt n t i) f
       unfolding rekeyPlan replacing withHeir linkedAt heirOf
-      rekey-room (At place) is =
+      rekey-by (At place) is =
           goes-on t _ _ _ live ∙ goes-on t _ _ _ (ap not (eq-eqb (placeAt n t i .replacement) 0 first)) ∙ goes-on t _ _ _ (not-full n t place is) ∙ is-done t _
           ∙ ap (λ (f : Found). let heir = heirOf (nextSerial t) (placeAt n t i) fresh in
-          record { outcome = Done (nextSerial t); table = bornAt n (withPlace n t i (linkedTo (nextSerial t) (placeAt n t i))) heir f; holder = nextSerial t }) (room-place n t place is)
-      rekey-room Nothing is =
+          record { outcome = Done (nextSerial t); table = bornAt n (withPlace n t i (linkedTo (nextSerial t) (placeAt n t i))) heir f; holder = nextSerial t }) (new-there n t place is)
+      rekey-by Nothing is =
           goes-on t _ _ _ live ∙ goes-on t _ _ _ (ap not (eq-eqb (placeAt n t i .replacement) 0 first)) ∙ fails-first t _ _ _ (full n t is)
 
-      pub rekey-first : rekeyed ≡ replacing n fresh t i (placeAt n t i) (roomFor n t)
-      rekey-first = rekey-room (roomFor n t) refl
+      pub rekey-first : rekeyed ≡ replacing n fresh t i (placeAt n t i) (placeForNew n t)
+      rekey-first = rekey-by (placeForNew n t) refl
 
 -- ---- grants
 
@@ -177,7 +177,7 @@ module _ (n : ℕ) (fresh : List ℕ) (holder : ℕ) (t : List ℕ) (deed : Deed
       ap (λ (f : Found). carriedOut t (onFound (inPlaces n fresh) holder t (deedPlan (inPlaces n fresh) holder t deed) f)) e
       ∙ refused t ObjectNotFound
 
--- ---- the clock plays no part
+-- ---- items and commands
 
 same-plan : (env : Env) (holder : ℕ) (t : List ℕ) (c : Command) → plan env holder t c ≡ plan (inPlaces (env .places) (env .fresh)) holder t c
 unfolding plan createPlan rekeyPlan allocationPlan activatePlan revokePlan destroyPlan showPlan onFound

@@ -4,8 +4,8 @@ use mathlib.Core.Path.{sym, ap, _∙_}
 use Rattle.table.specs.Records.{placeAt}
 use Rattle.act.specs.declared.Deed.{Deed}
 use Rattle.act.specs.declared.Performed.{Performed}
-use Rattle.act.specs.Act.{rekeyPlan, allocationPlan, showPlan}
-use Rattle.act.specs.Perform.{leaves, showing, carriedOut, inPlaces, deedPlan}
+use Rattle.act.specs.Act.{rekeyPlan, allocationPlan, showPlan, leaves, carriedOut, inPlaces}
+use Rattle.act.specs.Perform.{showing, deedPlan}
 use Rattle.act.proofs.Plans.{is-done}
 use borrow.Author.Needs.{needs}
 use Rattle.act.proofs.act_at.Statement.{statement}

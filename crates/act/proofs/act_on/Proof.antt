@@ -5,8 +5,7 @@ use Rattle.search.specs.declared.Found.the-variants.{At, Nothing}
 use Rattle.search.specs.Search.{find}
 use Rattle.search.proofs.Finds.{find-below}
 use Rattle.act.specs.declared.Performed.{Performed}
-use Rattle.act.specs.Act.{sought}
-use Rattle.act.specs.Perform.{leaves}
+use Rattle.act.specs.Act.{sought, leaves}
 use Rattle.act.proofs.Plans.{about-found, about-none}
 use borrow.Author.Needs.{needs}
 use Rattle.act.proofs.act_on.Statement.{statement}

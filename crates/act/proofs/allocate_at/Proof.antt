@@ -5,8 +5,8 @@ use mathlib.Core.List.{[]}
 use Rattle.table.specs.declared.Record.{Record}
 use Rattle.changes.specs.Records.{withCount}
 use Rattle.act.specs.declared.Performed.{Performed}
-use Rattle.act.specs.Act.{allocationPlan}
-use Rattle.act.specs.Perform.{leaves, carriedOut, inPlaces, storing}
+use Rattle.act.specs.Act.{allocationPlan, leaves, carriedOut, inPlaces}
+use Rattle.act.specs.Perform.{storing}
 use Rattle.act.proofs.Plans.{onGranted, granted}
 use borrow.Author.Needs.{needs}
 use Rattle.act.proofs.allocate_at.Statement.{statement}

@@ -4,7 +4,8 @@ use mathlib.Core.Path.{sym, ap, _∙_}
 use Rattle.table.specs.declared.Record.{Record}
 use Rattle.changes.specs.Records.{movedTo}
 use Rattle.act.specs.declared.Performed.{Performed}
-use Rattle.act.specs.Perform.{leaves, carriedOut, storing, movePlan}
+use Rattle.act.specs.Act.{leaves, carriedOut}
+use Rattle.act.specs.Perform.{storing, movePlan}
 use Rattle.act.proofs.Plans.{onNext, moved}
 use borrow.Author.Needs.{needs}
 use Rattle.act.proofs.move_at.Statement.{statement}

@@ -5,8 +5,8 @@ use Rattle.octets.specs.If.{ifb}
 use Rattle.rules.specs.declared.Reason.the-variants.{OperationNotSupported, InvalidField}
 use Rattle.rules.specs.States.{moveTests}
 use Rattle.act.specs.declared.Performed.{Performed}
-use Rattle.act.specs.Act.{createPlan, activatePlan, revokePlan, destroyPlan, plan}
-use Rattle.act.specs.Perform.{leaves, performing, movePlan, deedPlan}
+use Rattle.act.specs.Act.{createPlan, activatePlan, revokePlan, destroyPlan, plan, leaves, performing}
+use Rattle.act.specs.Perform.{movePlan, deedPlan}
 use Rattle.act.proofs.Plans.{refused}
 use borrow.Author.Needs.{needs}
 use Rattle.act.proofs.perform.Statement.{statement}

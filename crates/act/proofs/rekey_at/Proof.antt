@@ -6,7 +6,8 @@ use Rattle.table.specs.declared.Record.{Record}
 use Rattle.table.specs.Records.{placeAt}
 use Rattle.search.specs.Search.{isDestroyed}
 use Rattle.act.specs.declared.Performed.{Performed}
-use Rattle.act.specs.Perform.{leaves, roomFor, replacing}
+use Rattle.act.specs.Act.{leaves}
+use Rattle.act.specs.Perform.{placeForNew, replacing}
 use Rattle.act.proofs.Plans.{rekey-destroyed, rekey-twice, rekey-first}
 use borrow.Author.Needs.{needs}
 use Rattle.act.proofs.rekey_at.Statement.{statement}
@@ -58,7 +59,7 @@ returns-3 c =
     let live : isDestroyed (placeAt (a .n) (a .t .now) (a .i) .state) ≡ false = ap (λ (r : Record). isDestroyed (r .state)) (sym p) ∙ sym (c .before .before .before .before .before .before .before .is-destroyed .ensures) ∙ c .before .before .before .before .before .before .if1 .left in
     let once : placeAt (a .n) (a .t .now) (a .i) .replacement ≡ 0 = ap (λ (r : Record). r .replacement) (sym p) ∙ c .before .before .before .before .if2 .left in
     c .before .before .replace-at .ensures
-    ∙ ap (λ (r : Record). replacing (a .n) (a .fresh .now) (a .t .now) (a .i) r (roomFor (a .n) (a .t .now))) p
+    ∙ ap (λ (r : Record). replacing (a .n) (a .fresh .now) (a .t .now) (a .i) r (placeForNew (a .n) (a .t .now))) p
     ∙ sym (rekey-first (a .n) (a .fresh .now) (a .t .now) (a .i) live once)
 
 pub rekey-at-spec : {M : Type 1} → statement M
