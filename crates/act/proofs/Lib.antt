@@ -2,5 +2,6 @@
 -- Assumes nothing.
 pub mod Went
 pub mod Plans
+pub mod Returns
 pub mod Kept
 pub mod Unique
