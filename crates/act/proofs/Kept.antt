@@ -28,8 +28,7 @@ use Rattle.frame.specs.Frame.{Asked}
 use Rattle.payload.specs.declared.Command.{Command}
 use Rattle.payload.specs.declared.Command.the-variants.{Unsupported, Invalid, Create, Rekey, GetUsageAllocation, Activate, Revoke, Destroy, GetAttributes}
 use Rattle.payload.specs.Payload.{command}
-use Rattle.act.specs.Act.{Env, Did, Plan, carried, sought, createPlan, rekeyPlan, allocationPlan, activatePlan, revokePlan, destroyPlan, showPlan, onFound, plan, step}
-use Rattle.act.specs.Perform.{inPlaces, performing}
+use Rattle.act.specs.Act.{Env, Did, Plan, carried, sought, createPlan, rekeyPlan, allocationPlan, activatePlan, revokePlan, destroyPlan, showPlan, onFound, plan, step, inPlaces, performing}
 
 -- bytes, as many as before
 pub record Kept (t u : List ℕ) : Type 0 where

@@ -3,5 +3,6 @@
 pub mod Went
 pub mod Plans
 pub mod Reasons
+pub mod Returns
 pub mod Kept
 pub mod Unique

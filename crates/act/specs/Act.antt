@@ -29,18 +29,28 @@ use Rattle.payload.specs.Payload.{command}
 use Rattle.act.specs.declared.Shown.{Shown}
 use Rattle.act.specs.declared.Outcome.{Outcome}
 use Rattle.act.specs.declared.Outcome.the-variants.{Failed, Created, Done, Showed}
+use Rattle.act.specs.declared.Performed.{Performed}
 
 -- ---- what an item meets
 
 -- the number of places, the clock's 64 bits, and the part of the fresh strip that is the item's
 pub record Env : Type 0 where
   pub places : ℕ
+  -- no plan reads the clock yet, so that it plays no part in what items do; dates will
   pub clock : ℕ
   pub fresh : List ℕ
+
+-- the clock where none is at hand
+abbrev pub noClock : ℕ
+noClock = 0
 
 -- "Item i, from 0, takes bytes 32i to 32i+31 of the fresh strip"
 abbrev pub envAt : ℕ → ℕ → List ℕ → ℕ → Env
 envAt places clock strip i = record { places = places; clock = clock; fresh = part strip (materialSize * i) materialSize }
+
+-- the placeholder, where it is empty
+abbrev pub emptyHolder : ℕ
+emptyHolder = 0
 
 -- the serial that an item is about: the one that it names, or the placeholder's; 0 is none
 unfoldable pub sought : ℕ → Target → ℕ
@@ -49,7 +59,7 @@ sought holder (Serial serial) = serial
 
 -- ---- what an item leaves
 
--- what became of it, the table, and the placeholder, 0 where it is empty
+-- what became of it, the table, and the placeholder
 pub record Did : Type 0 where
   pub outcome : Outcome
   pub table : List ℕ
@@ -57,7 +67,7 @@ pub record Did : Type 0 where
 
 -- "A failed item changes nothing in the table"; "a failed item empties" the placeholder
 abbrev pub failing : List ℕ → Reason → Did
-failing t reason = record { outcome = Failed reason; table = t; holder = 0 }
+failing t reason = record { outcome = Failed reason; table = t; holder = emptyHolder }
 
 -- the conditions in order, and what is done where none holds
 pub record Plan : Type 0 where
@@ -72,6 +82,9 @@ refusal t reason = record { tests = true ⇒ reason ∷ []; did = failing t reas
 unfoldable pub carried : List ℕ → Did → Option Reason → Did
 carried t did none = did
 carried t did (some reason) = failing t reason
+
+abbrev pub carriedOut : List ℕ → Plan → Did
+carriedOut t p = carried t (p .did) (due (p .tests))
 
 -- ---- the operations, each as its line of 01 says
 
@@ -166,9 +179,21 @@ module _ (env : Env) (holder : ℕ) (t : List ℕ) where
 
   -- one item carried out
   unfoldable pub step : Asked → Did
-  step asked =
-      let p = plan (command (asked .operation) (asked .payload)) in
-      carried t (p .did) (due (p .tests))
+  step asked = carriedOut t (plan (command (asked .operation) (asked .payload)))
+
+-- ---- one command, as `perform` carries it out
+
+-- what an item meets, without a clock
+abbrev pub inPlaces : ℕ → List ℕ → Env
+inPlaces n fresh = record { places = n; clock = noClock; fresh = fresh }
+
+-- a command carried out on a table of n places with an item's part of the fresh strip
+unfoldable pub performing : ℕ → List ℕ → ℕ → List ℕ → Command → Did
+performing n fresh holder t command = carriedOut t (plan (inPlaces n fresh) holder t command)
+
+-- what an item leaves: the function's answer, and the table after it
+abbrev pub leaves : Performed → List ℕ → Did
+leaves r t = record { outcome = r .outcome; table = t; holder = r .holder }
 
 -- whether an item failed
 unfoldable pub isFailed : Outcome → Bool

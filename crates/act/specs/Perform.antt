@@ -1,4 +1,4 @@
--- What `perform` and the functions below it leave, said by the plans.
+-- For the private functions: what those below `perform` leave, said by the plans. Nothing here has to be believed.
 -- Assumes nothing.
 use Prim.Native.Nat.{ℕ, _<_}
 use mathlib.Core.List.{List, []}
@@ -12,51 +12,31 @@ use Rattle.table.specs.Records.{placeAt, withPlace, lastSerial}
 use Rattle.search.specs.Search.{newPlace}
 use Rattle.rules.specs.declared.Reason.{Reason}
 use Rattle.rules.specs.declared.Reason.the-variants.{ServerLimitExceeded}
-use Rattle.rules.specs.Tests.{due}
 use Rattle.rules.specs.States.{moveTests}
 use Rattle.changes.specs.Records.{heirOf, linkedTo}
 use Rattle.changes.specs.Changes.{serialMost, nextSerial, bornAt}
 use Rattle.payload.specs.declared.Target.{Target}
-use Rattle.payload.specs.declared.Command.{Command}
 use Rattle.act.specs.declared.Outcome.the-variants.{Failed, Done, Showed}
 use Rattle.act.specs.declared.Performed.{Performed}
 use Rattle.act.specs.declared.Deed.{Deed}
 use Rattle.act.specs.declared.Deed.the-variants.{Replace, Allocate, Move, Show}
-use Rattle.act.specs.Act.{Env, Did, Plan, failing, carried, shownOf, rekeyPlan, allocationPlan, showPlan, changed, moved, targeted, plan}
+use Rattle.act.specs.Act.{Env, Did, Plan, emptyHolder, failing, shownOf, rekeyPlan, allocationPlan, showPlan, changed, moved, targeted, inPlaces}
 
--- ---- the answer of a function
-
--- what an item leaves: a function's answer, and the table after it
-abbrev pub leaves : Performed → List ℕ → Did
-leaves r t = record { outcome = r .outcome; table = t; holder = r .holder }
+-- ---- answers
 
 -- "a failed item empties" the placeholder
 abbrev pub failed : Reason → Performed
-failed reason = record { outcome = Failed reason; holder = 0 }
+failed reason = record { outcome = Failed reason; holder = emptyHolder }
 
 -- Get Attributes shows the record and keeps the placeholder
 abbrev pub showing : ℕ → Record → Performed
 showing holder r = record { outcome = Showed (shownOf r); holder = holder }
 
--- ---- a command carried out
-
--- the reason that is due in a plan, or what it does
-abbrev pub carriedOut : List ℕ → Plan → Did
-carriedOut t p = carried t (p .did) (due (p .tests))
-
--- what an item meets, but for the clock, which plays no part
-abbrev pub inPlaces : ℕ → List ℕ → Env
-inPlaces n fresh = record { places = n; clock = 0; fresh = fresh }
-
--- a command carried out on a table of n places with an item's part of the fresh strip
-unfoldable pub performing : ℕ → List ℕ → ℕ → List ℕ → Command → Did
-performing n fresh holder t command = carriedOut t (plan (inPlaces n fresh) holder t command)
-
 -- ---- by parts
 
 -- where a new object goes: nowhere if every serial is issued
-unfoldable pub roomFor : ℕ → List ℕ → Found
-roomFor n t = ifb (eqb (lastSerial t) serialMost) Nothing (newPlace n t)
+unfoldable pub placeForNew : ℕ → List ℕ → Found
+placeForNew n t = ifb (eqb (lastSerial t) serialMost) Nothing (newPlace n t)
 
 -- what storing an heir asks: the old record's place, and another one of the table's
 pub record TwoPlaces (n : ℕ) (t : List ℕ) (i place : ℕ) : Type 0 where

@@ -5,8 +5,8 @@ ghost use Rattle.table.specs.Layout.{Table, Place};
 ghost use Rattle.table.specs.Records.{placeAt};
 ghost use Rattle.search.specs.declared.Found.the-variants.{At};
 ghost use Rattle.changes.specs.Changes.{bornAt};
-ghost use Rattle.act.specs.Act.{sought, createPlan, rekeyPlan, allocationPlan, isFailed};
-ghost use Rattle.act.specs.Perform.{TwoPlaces, inPlaces, leaves, failed, showing, storing, roomFor, linkedAt, replacing, carriedOut, movePlan, deedPlan, aboutPlan, performing};
+ghost use Rattle.act.specs.Act.{emptyHolder, sought, createPlan, rekeyPlan, allocationPlan, carriedOut, inPlaces, performing, leaves, isFailed};
+ghost use Rattle.act.specs.Perform.{TwoPlaces, failed, showing, storing, placeForNew, linkedAt, replacing, movePlan, deedPlan, aboutPlan};
 use payload::Command;
 use payload::Target;
 use rules::Attributes;
@@ -46,7 +46,9 @@ pub struct Performed {
     pub holder: u32,
 }
 
-// What is asked of a record that stands.
+// What is done to a record that stands. A `Command` reads as a line of 01, a `Deed` as what the
+// record meets, so that a command is taken apart twice: which record it is about is seen to once,
+// between the two.
 enum Deed {
     Replace,
     // so many units
@@ -91,9 +93,9 @@ fn sought(holder: u32, target: Target) -> u32
 }
 
 // Where a new object goes: nowhere if every serial is issued, else the table's place for a new key.
-fn room(t: &[u8], n: usize) -> Found
+fn place_for_new(t: &[u8], n: usize) -> Found
     requires { ⌜ Table n (now t) ⌝ }
-    ensures { λ r. ⌜ r ≡ roomFor n (now (t .entry)) ⌝ }
+    ensures { λ r. ⌜ r ≡ placeForNew n (now (t .entry)) ⌝ }
 {
     if table::last_serial(t) == SERIAL_MOST {
         return Found::Nothing;
@@ -125,9 +127,9 @@ fn put_heir(t: &mut [u8], n: usize, i: usize, place: usize, heir: Record)
 // Create.
 fn create(t: &mut [u8], n: usize, wanted: Attributes, fresh: &[u8]) -> Performed
     requires { ⌜ Table n (now t) ⌝ }
-    ensures { λ r. ⌜ leaves r (now (t .exit)) ≡ carriedOut (now (t .entry)) (createPlan (inPlaces n (now (fresh .entry))) 0 (now (t .entry)) wanted) ⌝ }
+    ensures { λ r. ⌜ leaves r (now (t .exit)) ≡ carriedOut (now (t .entry)) (createPlan (inPlaces n (now (fresh .entry))) emptyHolder (now (t .entry)) wanted) ⌝ }
 {
-    match room(t, n) {
+    match place_for_new(t, n) {
         Found::At(i) => {
             let serial = table::last_serial(t) + 1;
             let born = changes::new_record(serial, wanted, fresh);
@@ -141,12 +143,13 @@ fn create(t: &mut [u8], n: usize, wanted: Attributes, fresh: &[u8]) -> Performed
     }
 }
 
-// Re-key of the record at place i, which is neither destroyed nor replaced: that its new object has room is left to see.
+// Re-key of the record at place i, which is neither destroyed nor replaced: whether there is a place
+// for the new object is left to see.
 fn replace_at(t: &mut [u8], n: usize, i: usize, old: Record, fresh: &[u8]) -> Performed
     requires { ⌜ Place n (now t) i ⌝ }
-    ensures { λ r. ⌜ leaves r (now (t .exit)) ≡ replacing n (now (fresh .entry)) (now (t .entry)) i old (roomFor n (now (t .entry))) ⌝ }
+    ensures { λ r. ⌜ leaves r (now (t .exit)) ≡ replacing n (now (fresh .entry)) (now (t .entry)) i old (placeForNew n (now (t .entry))) ⌝ }
 {
-    match room(t, n) {
+    match place_for_new(t, n) {
         Found::At(place) => {
             let serial = table::last_serial(t) + 1;
             let heir = changes::heir_of(serial, old, fresh);
@@ -163,7 +166,7 @@ fn replace_at(t: &mut [u8], n: usize, i: usize, old: Record, fresh: &[u8]) -> Pe
 // Re-key of the record at place i.
 fn rekey_at(t: &mut [u8], n: usize, i: usize, fresh: &[u8]) -> Performed
     requires { ⌜ Place n (now t) i ⌝ }
-    ensures { λ r. ⌜ leaves r (now (t .exit)) ≡ carriedOut (now (t .entry)) (rekeyPlan (inPlaces n (now (fresh .entry))) 0 (now (t .entry)) i (placeAt n (now (t .entry)) i)) ⌝ }
+    ensures { λ r. ⌜ leaves r (now (t .exit)) ≡ carriedOut (now (t .entry)) (rekeyPlan (inPlaces n (now (fresh .entry))) emptyHolder (now (t .entry)) i (placeAt n (now (t .entry)) i)) ⌝ }
 {
     let old = records::load(t, n, i);
     if search::is_destroyed(old.state) {
@@ -274,7 +277,8 @@ fn act_on(
     }
 }
 
-// One command carried out on the stored table: its answer, the placeholder after it, and the table that it leaves.
+// One command carried out on the stored table: its answer, the placeholder after it, and the table
+// that it leaves.
 pub fn perform(t: &mut [u8], n: usize, holder: u32, command: Command, fresh: &[u8]) -> Performed
     requires { ⌜ Table n (now t) ⌝ }
     ensures { λ r. ⌜ leaves r (now (t .exit)) ≡ performing n (now (fresh .entry)) holder (now (t .entry)) command ⌝ }

@@ -1,14 +1,14 @@
 -- The refusal ladder: the number of a call is the lowest whose condition holds, and a refusal touches nothing.
 -- Assumes nothing.
-use Prim.Native.Nat.{ℕ, suc, _+_, _≤_, _<_}
-use mathlib.Core.Path.{_≡_, refl, ap, _∙_}
+use Prim.Native.Nat.{ℕ, zero, suc, _+_, _≤_, _<_}
+use mathlib.Core.Path.{_≡_, refl, sym, ap, subst, _∙_}
 use mathlib.Core.Bool.{Bool, true, false, not, _||_}
 use mathlib.Core.Option.{Option, none, some}
 use mathlib.Core.List.{List, [], _∷_}
 use lib.ListN.{length}
 use lib.Dec.{ltb, eqb}
 use native.Mathlib.Omega.{arith}
-use borrow.Author.Tests.{ltb-false, eqb-true, not-false}
+use borrow.Author.Tests.{ne-eqb, not-false}
 use Rattle.octets.specs.If.{ifb}
 use Rattle.octets.proofs.If.{ifb-false, on-if}
 use Rattle.octets.specs.Maybe.{_>>=_, isSome}
@@ -16,10 +16,12 @@ use Rattle.ttlv.specs.Items.{Items}
 use Rattle.ttlv.specs.Parse.{message}
 use Rattle.table.specs.Layout.{placeCount}
 use Rattle.soundness.specs.Sound.{sound}
-use Rattle.frame.specs.Frame.{Frame, Framed, Request, refused, asked, frameIn, framing, framed, versionOk, countOk, optionOf, optionOk}
+use Rattle.frame.specs.Frame.{Frame, Framed, Request, refused, asked, frameIn, framing, versionOk, countOk, optionOf, optionOk}
 use Rattle.engine.specs.Batch.{Ran, running}
 use Rattle.engine.specs.Effects.{Effect, roomLeast, stripSize, requestMost}
-use Rattle.engine.specs.Serving.{turnedAway, requested, answered, carryOut, serving}
+use Rattle.engine.specs.Serving.{turnedAway, answered, earlyRefusal, carryOut, serving}
+use Rattle.engine.proofs.Early.{Passed, passed}
+use Rattle.engine.proofs.Serves.{refused-early, frame-decides}
 use Rattle.demands.specs.Box.{Call}
 use Rattle.demands.specs.Demand2.{frameOf, ofFrame, refusalConditions, lowest}
 
@@ -57,46 +59,46 @@ framing-number clock t strip out f =
     number : Framed → ℕ
     number x = carryOut clock t strip out x .number
 
--- refusals 5 to 9, by what the request's bytes read as
-read-number : (clock : ℕ) (t strip out : List ℕ) (m : Option Items)
-    → carryOut clock t strip out (requested m) .number
-    ≡ lowest 5
-    (not (isSome m)
-    ∷ not (isSome (m >>= frameIn))
-    ∷ ofFrame (λ f. not (versionOk (f .header))) (m >>= frameIn)
-    ∷ ofFrame (λ f. not (countOk f)) (m >>= frameIn)
-    ∷ ofFrame (λ f. not (optionOk (optionOf (f .header .option)))) (m >>= frameIn)
+-- refusals 6 to 9, by what the message reads as
+frame-number : (clock : ℕ) (t strip out : List ℕ) (o : Option Frame)
+    → carryOut clock t strip out (framing o) .number
+    ≡ lowest 6
+    (not (isSome o)
+    ∷ ofFrame (λ f. not (versionOk (f .header))) o
+    ∷ ofFrame (λ f. not (countOk f)) o
+    ∷ ofFrame (λ f. not (optionOk (optionOf (f .header .option)))) o
     ∷ [])
-unfolding carryOut requested framing framed lowest isSome _>>=_ ofFrame ifb
-read-number clock t strip out none = refl
-read-number clock t strip out (some items) = by-frame (frameIn items)
-  where
-    by-frame : (o : Option Frame)
-        → carryOut clock t strip out (framing o) .number
-        ≡ lowest 6
-        (not (isSome o)
-        ∷ ofFrame (λ f. not (versionOk (f .header))) o
-        ∷ ofFrame (λ f. not (countOk f)) o
-        ∷ ofFrame (λ f. not (optionOk (optionOf (f .header .option)))) o
-        ∷ [])
-    by-frame none = refl
-    by-frame (some f) = framing-number clock t strip out f
+unfolding carryOut framing lowest isSome ofFrame ifb
+frame-number clock t strip out none = refl
+frame-number clock t strip out (some f) = framing-number clock t strip out f
+
+-- the number of a call, by its early refusal
+abbrev numbered : Call → ℕ → ℕ
+numbered c early = ifb (eqb early 0) (carryOut (c .clock) (c .table) (c .strip) (c .output) (framing (message (c .request) >>= frameIn))) (turnedAway (c .table) (c .output) early) .number
+
+rung : (c : Call) (k : ℕ) (b : Bool) (later : ℕ) {rest : ℕ} → numbered c later ≡ rest → numbered c (ifb b (suc k) later) ≡ ifb b (suc k) rest
+unfolding ifb
+rung c k true later e = ap (λ (x : Effect). x .number) (ifb-false (eqb (suc k) 0) _ _ (ne-eqb (suc k) 0 (λ z. omega arith)))
+rung c k false later e = e
+
+none-early : (c : Call) → numbered c 0 ≡ lowest 6
+    (not (isSome (frameOf c))
+    ∷ ofFrame (λ f. not (versionOk (f .header))) (frameOf c)
+    ∷ ofFrame (λ f. not (countOk f)) (frameOf c)
+    ∷ ofFrame (λ f. not (optionOk (optionOf (f .header .option)))) (frameOf c)
+    ∷ [])
+unfolding ifb frameOf
+none-early c = frame-number (c .clock) (c .table) (c .strip) (c .output) (frameOf c)
 
 pub served-number : (c : Call) → served c .number ≡ lowest 1 (refusalConditions c)
-unfolding serving lowest refusalConditions frameOf
+unfolding serving earlyRefusal lowest refusalConditions
 served-number c =
-    if-ap number (ltb (length (c .output)) roomLeast) _ _
-    ∙ ap (ifb (ltb (length (c .output)) roomLeast) 1)
-    (if-ap number (not (eqb (length (c .strip)) stripSize)) _ _
-    ∙ ap (ifb (not (eqb (length (c .strip)) stripSize)) 2)
-    (if-ap number (not (sound placeCount (c .table))) _ _
-    ∙ ap (ifb (not (sound placeCount (c .table))) 3)
-    (if-ap number (eqb (length (c .request)) 0 || ltb requestMost (length (c .request))) _ _
-    ∙ ap (ifb (eqb (length (c .request)) 0 || ltb requestMost (length (c .request))) 4)
-    (read-number (c .clock) (c .table) (c .strip) (c .output) (message (c .request))))))
-  where
-    number : Effect → ℕ
-    number e = e .number
+    rung c 0 (ltb (length (c .output)) roomLeast) _
+    (rung c 1 (not (eqb (length (c .strip)) stripSize)) _
+    (rung c 2 (not (sound placeCount (c .table))) _
+    (rung c 3 (eqb (length (c .request)) 0 || ltb requestMost (length (c .request))) _
+    (rung c 4 (not (isSome (message (c .request)))) _
+    (none-early c)))))
 
 -- the lowest of some conditions is one of their numbers, or 0
 pub lowest-most : (k : ℕ) (bs : List Bool) → 1 ≤ k → lowest k bs < k + length bs
@@ -157,18 +159,17 @@ module _ (c : Call) where
         asks = ifb-false _ _ _ version ∙ ifb-false _ _ _ counted ∙ ifb-false _ _ _ option;
       }))))
 
-  by-reading : roomLeast ≤ length (c .output) → length (c .strip) ≡ stripSize → sound placeCount (c .table) ≡ true
-      → (m : Option Items) → message (c .request) ≡ m → Told c (carryOut (c .clock) (c .table) (c .strip) (c .output) (requested m))
-  unfolding requested framed carryOut
-  by-reading room strip right none e = away 4
-  by-reading room strip right (some items) e = by-frame room strip right items e (frameIn items) refl
-
   -- every call is turned away or answered
   pub told : Told c (served c)
-  unfolding serving
-  told =
-      on-if (Told c) (λ n. away 0)
-      (λ room. on-if (Told c) (λ n. away 1)
-      (λ strip. on-if (Told c) (λ n. away 2)
-      (λ right. on-if (Told c) (λ n. away 3)
-      (λ n. by-reading (ltb-false (length (c .output)) roomLeast room) (eqb-true (length (c .strip)) stripSize (not-false _ strip)) (not-false _ right) (message (c .request)) refl))))
+  unfolding framing carryOut _>>=_
+  told = by-early (earlyRefusal (c .request) (c .table) (c .strip) (length (c .output))) refl
+    where
+      by-reading : Passed (c .request) (c .table) (c .strip) (c .output) → (m : Option Items) → message (c .request) ≡ m
+          → Told c (carryOut (c .clock) (c .table) (c .strip) (c .output) (framing (m >>= frameIn)))
+      by-reading p none m = away 5
+      by-reading p (some items) m = by-frame (p .room) (p .strip-size) (p .right) items m (frameIn items) refl
+
+      by-early : (k : ℕ) → earlyRefusal (c .request) (c .table) (c .strip) (length (c .output)) ≡ k → Told c (served c)
+      by-early zero e = let p = passed (c .request) (c .table) (c .strip) (c .output) e in subst (Told c) (sym (frame-decides p (c .clock))) (by-reading p (message (c .request)) refl)
+      by-early (suc k) e =
+          subst (Told c) (sym (refused-early (c .request) (c .table) (c .strip) (c .clock) (c .output) (suc k) (sym e) (λ z. omega arith))) (away k)

@@ -1,18 +1,19 @@
 -- Refusals 1 to 5, rung by rung: what the ladder answers from what the branches know.
 -- Assumes nothing.
-use Prim.Native.Nat.{ℕ, _<_, _≤_}
+use Prim.Native.Nat.{ℕ, suc, _<_, _≤_}
 use mathlib.Core.Path.{_≡_, sym, _∙_}
 use mathlib.Core.Bool.{Bool, true, false, not}
 use mathlib.Core.List.{List}
 use lib.ListN.{length}
-use borrow.Author.Tests.{not-true, not-false}
+use native.Mathlib.Omega.{arith}
+use borrow.Author.Tests.{ltb-false, eqb-true, not-true, not-false}
 use Rattle.octets.specs.Maybe.{isSome}
-use Rattle.octets.proofs.If.{chain}
+use Rattle.octets.proofs.If.{chain, on-if}
 use Rattle.ttlv.specs.Parse.{message}
 use Rattle.table.specs.Layout.{placeCount}
 use Rattle.soundness.specs.Sound.{sound}
 use Rattle.engine.specs.Effects.{roomLeast, stripSize, requestMost}
-use Rattle.engine.specs.Calls.{earlyRefusal}
+use Rattle.engine.specs.Serving.{earlyRefusal}
 
 -- a test that a function answered, under `!`
 pub yes-if : (r b : Bool) → r ≡ b → not r ≡ false → b ≡ true
@@ -54,3 +55,36 @@ module _ (request t strip : List ℕ) (room : ℕ) where
             pub early-0 : isSome (message request) ≡ true → 0 ≡ earlyRefusal request t strip room
             unfolding earlyRefusal
             early-0 h = sym (simp (chain, s, h))
+
+-- ---- the ladder read back
+
+-- what holds of a call to which none of them applies
+pub record Passed (request t strip out : List ℕ) : Type 0 where
+  pub none-early : earlyRefusal request t strip (length out) ≡ 0
+  pub room : roomLeast ≤ length out
+  pub strip-size : length strip ≡ stripSize
+  pub right : sound placeCount t ≡ true
+  pub is-message : isSome (message request) ≡ true
+
+module _ (request t strip out : List ℕ) where
+  -- the ladder, by its number
+  data Early : ℕ → Type 0 where
+    refuses : (k : ℕ) → Early (suc k)
+    passes : roomLeast ≤ length out → length strip ≡ stripSize → sound placeCount t ≡ true → isSome (message request) ≡ true → Early 0
+
+  early : Early (earlyRefusal request t strip (length out))
+  unfolding earlyRefusal
+  early =
+      on-if Early (λ e. refuses 0) (λ a.
+      on-if Early (λ e. refuses 1) (λ b.
+      on-if Early (λ e. refuses 2) (λ s.
+      on-if Early (λ e. refuses 3) (λ l.
+      on-if Early (λ e. refuses 4) (λ m.
+      passes (ltb-false (length out) roomLeast a) (eqb-true (length strip) stripSize (not-false _ b)) (not-false _ s) (not-false _ m))))))
+
+  pub passed : earlyRefusal request t strip (length out) ≡ 0 → Passed request t strip out
+  passed none-early = go early none-early
+    where
+      go : {k : ℕ} → Early k → k ≡ 0 → Passed request t strip out
+      go (refuses k) z = absurd (omega arith)
+      go (passes a b s m) z = record { none-early = none-early; room = a; strip-size = b; right = s; is-message = m }

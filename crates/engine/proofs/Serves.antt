@@ -3,18 +3,18 @@
 use Prim.Native.Nat.{ℕ, suc, _+_, _-_, _*_, _%_, _≤_}
 use native.Mathlib.Omega.{arith}
 use mathlib.Core.Path.{_≡_, refl, sym, ap, subst, _∙_}
-use mathlib.Core.Bool.{Bool, true, false, not, _||_, true≢false, false≢true}
+use mathlib.Core.Bool.{true, false≢true}
 use mathlib.Core.Option.{Option, none, some}
 use mathlib.Core.List.{List, [], _∷_, _++_}
 use lib.ListN.{length, take, drop, length-append, length-drop, length-take}
 use lib.Seq.{take-all}
-use lib.Dec.{ltb, eqb}
-use borrow.Author.Tests.{ltb-false, eqb-true, not-false, not-true}
+use lib.Dec.{eqb}
+use borrow.Author.Tests.{eq-eqb, ne-eqb}
 use borrow.Rule.Slice.PartMut.{putMid, midOf}
 use Rattle.octets.specs.If.{ifb}
-use Rattle.octets.specs.Maybe.{isSome}
+use Rattle.octets.specs.Maybe.{_>>=_, isSome}
 use Rattle.octets.specs.Octets.{over}
-use Rattle.octets.proofs.If.{ifb-true, ifb-false, on-if, on-bool}
+use Rattle.octets.proofs.If.{ifb-true, ifb-false, on-if}
 use Rattle.octets.proofs.Over.{lent, over-front}
 use Rattle.ttlv.specs.Items.{Items, encode}
 use Rattle.ttlv.specs.Parse.{message}
@@ -22,67 +22,37 @@ use Rattle.ttlv.specs.Tree.{isRun, treeOf}
 use Rattle.ttlv.proofs.Back.{eights}
 use Rattle.ttlv.proofs.Message.{message-tree}
 use Rattle.table.specs.Layout.{placeCount}
-use Rattle.soundness.specs.Sound.{sound}
 use Rattle.soundness.proofs.SoundIs.{sound-is}
 use Rattle.frame.specs.declared.Framing.{Framing}
 use Rattle.frame.specs.Frame.{Asked, Frame, Framed, Request, refused, asked, frameIn, framing, framed, itemsIn, batchMost}
 use Rattle.frame.specs.Readers.{itemsAt, framingIn, framingOf}
 use Rattle.frame.proofs.Frame.{BatchShape, batch-shape}
-use Rattle.act.specs.Act.{Did, envAt, step}
+use Rattle.act.specs.Act.{Did, noClock, emptyHolder, envAt, step}
 use Rattle.act.proofs.Plans.{step-performs}
 use Rattle.answer.specs.Respond.{respond, batchItems}
 use Rattle.answer.specs.Front.{longestItem, frameSize, front}
 use Rattle.answer.proofs.Front.{frame-size, respond-splits}
 use Rattle.engine.specs.declared.BatchDone.{BatchDone}
-use Rattle.engine.specs.Batch.{Ran, answerTo, lastly, firstly, endsBatch, batch, running}
-use Rattle.engine.specs.Effects.{Effect, roomLeast, stripSize, requestMost}
-use Rattle.engine.specs.Serving.{turnedAway, requested, responseTo, answered, carryOut, serving}
-use Rattle.engine.specs.Calls.{earlyRefusal, askedAll, RanIs, ranOver, Runs, ServedIs}
+use Rattle.engine.specs.Batch.{Ran, answerTo, lastly, firstly, endsBatch, batch, firstItem, running}
+use Rattle.engine.specs.Effects.{Effect}
+use Rattle.engine.specs.Serving.{turnedAway, responseTo, answered, earlyRefusal, requested, carryOut, serving}
+use Rattle.engine.specs.Calls.{askedAll, RanIs, ranOver, Runs, ServedIs}
+use Rattle.engine.proofs.Early.{Passed, passed}
 
 -- ---- the ladder
 
--- what holds where no early refusal applies
-pub record Passed (request t strip : List ℕ) (clock : ℕ) (out : List ℕ) : Type 0 where
-  pub room : roomLeast ≤ length out
-  pub strip-size : length strip ≡ stripSize
-  pub right : sound placeCount t ≡ true
-  pub is-message : isSome (message request) ≡ true
-  pub goes-on : serving request t strip clock out ≡ carryOut clock t strip out (requested (message request))
+-- an early refusal is the outcome
+pub refused-early : (request t strip : List ℕ) (clock : ℕ) (out : List ℕ) (k : ℕ) → k ≡ earlyRefusal request t strip (length out) → (k ≡ 0 → ⊥)
+    → serving request t strip clock out ≡ turnedAway t out k
+unfolding serving
+refused-early request t strip clock out k e h =
+    ap (λ (n : ℕ). ifb (eqb n 0) (carryOut clock t strip out (requested request)) (turnedAway t out n)) (sym e)
+    ∙ ifb-false _ _ _ (ne-eqb k 0 h)
 
-module _ (request t strip : List ℕ) (clock : ℕ) (out : List ℕ) where
-  -- the early refusals as the definitions have them
-  no-message : isSome (message request) ≡ false → carryOut clock t strip out (requested (message request)) ≡ turnedAway t out 5
-  unfolding carryOut requested isSome
-  no-message e = go (message request) e
-    where
-      go : (m : Option Items) → isSome m ≡ false → carryOut clock t strip out (requested m) ≡ turnedAway t out 5
-      go none h = refl
-      go (some x) h = absurd (true≢false h)
-
-  -- an early refusal is the outcome; otherwise the frame decides
-  pub data Early : ℕ → Type 0 where
-    away : (k : ℕ) → serving request t strip clock out ≡ turnedAway t out (suc k) → Early (suc k)
-    passed : Passed request t strip clock out → Early 0
-
-  pub early : Early (earlyRefusal request t strip (length out))
-  unfolding earlyRefusal serving
-  early =
-      rung (ltb (length out) roomLeast) (λ e. away 0 (ifb-true _ _ _ e)) (λ r.
-      rung (not (eqb (length strip) stripSize)) (λ e. away 1 (ifb-false _ _ _ r ∙ ifb-true _ _ _ e)) (λ s.
-      rung (not (sound placeCount t)) (λ e. away 2 (ifb-false _ _ _ r ∙ ifb-false _ _ _ s ∙ ifb-true _ _ _ e)) (λ u.
-      rung (eqb (length request) 0 || ltb requestMost (length request)) (λ e. away 3 (ifb-false _ _ _ r ∙ ifb-false _ _ _ s ∙ ifb-false _ _ _ u ∙ ifb-true _ _ _ e)) (λ q.
-      rung (not (isSome (message request)))
-      (λ e. away 4 (ifb-false _ _ _ r ∙ ifb-false _ _ _ s ∙ ifb-false _ _ _ u ∙ ifb-false _ _ _ q ∙ no-message (not-true _ e)))
-      (λ e. passed (record {
-        room = ltb-false (length out) roomLeast r;
-        strip-size = eqb-true (length strip) stripSize (not-false _ s);
-        right = not-false _ u;
-        is-message = not-false _ e;
-        goes-on = ifb-false _ _ _ r ∙ ifb-false _ _ _ s ∙ ifb-false _ _ _ u ∙ ifb-false _ _ _ q;
-      }))))))
-    where
-      rung : (b : Bool) {x y : ℕ} → (b ≡ true → Early x) → (b ≡ false → Early y) → Early (ifb b x y)
-      rung b {x} {y} f g = on-bool b (λ e. subst Early (sym (ifb-true b x y e)) (f e)) (λ e. subst Early (sym (ifb-false b x y e)) (g e))
+-- where there is none, the frame decides
+pub frame-decides : {request t strip out : List ℕ} → Passed request t strip out → (clock : ℕ) → serving request t strip clock out ≡ carryOut clock t strip out (requested request)
+unfolding serving
+frame-decides {request} {t} {strip} {out} p clock = ifb-true _ _ _ (eq-eqb (earlyRefusal request t strip (length out)) 0 (p .none-early))
 
 -- ---- the frame
 
@@ -96,23 +66,24 @@ unfolding framing
 framing-taken none = not-taken 5
 framing-taken (some f) = on-if Taken (λ e. not-taken 6) (λ e. on-if Taken (λ e. not-taken 7) (λ e. on-if Taken (λ e. not-taken 8) (λ e. taken _)))
 
-module _ (request t strip : List ℕ) (clock : ℕ) (out : List ℕ) (p : Passed request t strip clock out) where
+module _ {request t strip out : List ℕ} (p : Passed request t strip out) (clock : ℕ) where
   -- by the number of the frame: the refusal is the outcome, or the batch of the request that was read
-  pub data Frames : ℕ → Type 0 where
+  data Frames : ℕ → Type 0 where
     refuses : (k : ℕ) → serving request t strip clock out ≡ turnedAway t out (suc k) → Frames (suc k)
     takes : (r : Request) → BatchShape request r → serving request t strip clock out ≡ answered clock out (running placeCount clock strip t r) → Frames 0
 
-  pub frames : Frames (framingOf request .number)
-  unfolding framingOf framingIn framed carryOut requested isSome
+  frames : Frames (framingOf request .number)
+  unfolding framingOf framingIn framed carryOut isSome _>>=_
   frames = by-message (message request) refl (p .is-message)
     where
+      decided : {items : Items} {f : Framed} → message request ≡ some items → framed items ≡ f → serving request t strip clock out ≡ carryOut clock t strip out f
+      decided m e = frame-decides p clock ∙ ap (λ (x : Option Items). carryOut clock t strip out (framing (x >>= frameIn))) m ∙ ap (carryOut clock t strip out) e
+
       by-taken : (items : Items) → message request ≡ some items → (f : Framed) → framed items ≡ f → Taken f → Frames (framingOf request .number)
       by-taken items m f e (not-taken k) =
-          subst Frames (sym (ap (λ (x : Framed). framingIn x (itemsAt request) .number) (ap framed (message-tree request items m .1) ∙ e)))
-          (refuses k (p .goes-on ∙ ap (λ (x : Option Items). carryOut clock t strip out (requested x)) m ∙ ap (carryOut clock t strip out) e))
+          subst Frames (sym (ap (λ (x : Framed). framingIn x (itemsAt request) .number) (ap framed (message-tree request items m .1) ∙ e))) (refuses k (decided m e))
       by-taken items m f e (taken r) =
-          subst Frames (sym (batch-shape request items r m e .number))
-          (takes r (batch-shape request items r m e) (p .goes-on ∙ ap (λ (x : Option Items). carryOut clock t strip out (requested x)) m ∙ ap (carryOut clock t strip out) e))
+          subst Frames (sym (batch-shape request items r m e .number)) (takes r (batch-shape request items r m e) (decided m e))
 
       by-message : (o : Option Items) → message request ≡ o → isSome o ≡ true → Frames (framingOf request .number)
       by-message none m h = absurd (false≢true h)
@@ -123,19 +94,19 @@ module _ (request t strip : List ℕ) (clock : ℕ) (out : List ℕ) (p : Passed
 
 -- ---- the batch
 
--- the clock plays no part in what items do
+-- a batch under any clock is the batch without one
 pub batch-clock : (places clock : ℕ) (strip : List ℕ) (option : ℕ) (items : List Asked) (i holder : ℕ) (t : List ℕ)
-    → batch places 0 strip option i holder t items ≡ batch places clock strip option i holder t items
+    → batch places noClock strip option i holder t items ≡ batch places clock strip option i holder t items
 unfolding batch
 batch-clock places clock strip option [] i holder t = refl
 batch-clock places clock strip option (a ∷ later) i holder t =
-    ap (λ (did : Did). ifb (endsBatch option did) (lastly (answerTo a did) (did .table)) (firstly (answerTo a did) (batch places 0 strip option (i + 1) (did .holder) (did .table) later)))
-    (step-performs (envAt places 0 strip i) holder t a ∙ sym (step-performs (envAt places clock strip i) holder t a))
+    ap (λ (did : Did). ifb (endsBatch option did) (lastly (answerTo a did) (did .table)) (firstly (answerTo a did) (batch places noClock strip option (i + 1) (did .holder) (did .table) later)))
+    (step-performs (envAt places noClock strip i) holder t a ∙ sym (step-performs (envAt places clock strip i) holder t a))
     ∙ ap (λ (rest : Ran). ifb (endsBatch option (step (envAt places clock strip i) holder t a))
     (lastly (answerTo a (step (envAt places clock strip i) holder t a)) (step (envAt places clock strip i) holder t a .table)) (firstly (answerTo a (step (envAt places clock strip i) holder t a)) rest))
     (batch-clock places clock strip option later (i + 1) (step (envAt places clock strip i) holder t a .holder) (step (envAt places clock strip i) holder t a .table))
 
-module _ (request t strip : List ℕ) (clock : ℕ) (out : List ℕ) (p : Passed request t strip clock out) (r : Request) (shape : BatchShape request r) where
+module _ {request t strip out : List ℕ} (p : Passed request t strip out) (clock : ℕ) {r : Request} (shape : BatchShape request r) where
   -- the batch items, as they are lent
   abbrev lentItems : List ℕ
   lentItems = take (length request - framingOf request .items) (drop (framingOf request .items) request)
@@ -162,11 +133,11 @@ module _ (request t strip : List ℕ) (clock : ℕ) (out : List ℕ) (p : Passed
   pub ran-is : (option : ℕ) → option ≡ framingOf request .option → ranOver lentItems strip option t ≡ running placeCount clock strip t r
   unfolding running askedAll
   ran-is option e =
-      ap (λ (o : Option (List Asked)). batch placeCount 0 strip option 0 0 t (askedAll o)) lent-asks
-      ∙ ap (λ (k : ℕ). batch placeCount 0 strip k 0 0 t (r .items)) (e ∙ shape .option)
-      ∙ batch-clock placeCount clock strip (r .option) (r .items) 0 0 t
+      ap (λ (o : Option (List Asked)). batch placeCount noClock strip option firstItem emptyHolder t (askedAll o)) lent-asks
+      ∙ ap (λ (k : ℕ). batch placeCount noClock strip k firstItem emptyHolder t (r .items)) (e ∙ shape .option)
+      ∙ batch-clock placeCount clock strip (r .option) (r .items) firstItem emptyHolder t
 
-  module _ (ran : Ran) (done : BatchDone) (t′ ys out′ : List ℕ) (is : RanIs ran (midOf frameSize (length out - frameSize) out) done t′ ys)
+  module _ {ran : Ran} {done : BatchDone} {t′ ys out′ : List ℕ} (is : RanIs ran (midOf frameSize (length out - frameSize) out) done t′ ys)
       (fronted : out′ ≡ over (front clock (done .count) (done .used)) (putMid frameSize (length out - frameSize) out ys)) where
     split : encode (respond (responseTo clock ran)) ≡ front clock (done .count) (done .used) ++ encode (batchItems (ran .answers))
     split =
@@ -187,87 +158,80 @@ module _ (request t strip : List ℕ) (clock : ℕ) (out : List ℕ) (p : Passed
 
 -- ---- what `serve` answers
 
-module _ (request t strip : List ℕ) (clock : ℕ) (out : List ℕ) where
-  -- a call that is turned away
-  away-is : (k : ℕ) → serving request t strip clock out ≡ turnedAway t out k → ServedIs request t strip clock out (record { number = k; length = 0 }) t out
-  away-is k e = record {
-    number = sym (ap (λ (x : Effect). x .number) e);
-    length = sym (ap (λ (x : Effect). x .length) e);
-    table = sym (ap (λ (x : Effect). x .table) e);
-    output = sym (ap (λ (x : Effect). x .output) e);
-  }
+-- a call that is turned away
+away-is : {request t strip : List ℕ} {clock : ℕ} {out : List ℕ} (k : ℕ) → serving request t strip clock out ≡ turnedAway t out k
+    → ServedIs request t strip clock out (record { number = k; length = 0 }) t out
+away-is k e = record {
+  number = sym (ap (λ (x : Effect). x .number) e);
+  length = sym (ap (λ (x : Effect). x .length) e);
+  table = sym (ap (λ (x : Effect). x .table) e);
+  output = sym (ap (λ (x : Effect). x .output) e);
+}
 
-  module _ (k : ℕ) (e : k ≡ earlyRefusal request t strip (length out)) where
-    pub early-away : (k ≡ 0 → ⊥) → ServedIs request t strip clock out (record { number = k; length = 0 }) t out
-    early-away z = away-is k (go k (subst (Early request t strip clock out) (sym e) (early request t strip clock out)) z)
-      where
-        go : (n : ℕ) → Early request t strip clock out n → (n ≡ 0 → ⊥) → serving request t strip clock out ≡ turnedAway t out n
-        go n (away j q) h = q
-        go n (passed q) h = absurd (h refl)
+pub early-away : (request t strip : List ℕ) (clock : ℕ) (out : List ℕ) (k : ℕ) → k ≡ earlyRefusal request t strip (length out) → (k ≡ 0 → ⊥)
+    → ServedIs request t strip clock out (record { number = k; length = 0 }) t out
+early-away request t strip clock out k e h = away-is k (refused-early request t strip clock out k e h)
 
-    pub early-passed : k ≡ 0 → Passed request t strip clock out
-    early-passed z = go k (subst (Early request t strip clock out) (sym e) (early request t strip clock out)) z
-      where
-        go : (n : ℕ) → Early request t strip clock out n → n ≡ 0 → Passed request t strip clock out
-        go n (away j q) h = absurd (omega arith)
-        go n (passed q) h = q
+-- a call that is answered: no refusal applies, and the frame says where its items stand
+pub record Asks (request t strip : List ℕ) (clock : ℕ) (out : List ℕ) (f : Framing) : Type 0 where
+  pub passed : Passed request t strip out
+  pub framing-is : f ≡ framingOf request
+  pub request-is : Request
+  pub shape : BatchShape request request-is
+  pub answers : serving request t strip clock out ≡ answered clock out (running placeCount clock strip t request-is)
 
-  -- a request whose frame was read
-  pub record Asks : Type 0 where
-    pub request-is : Request
-    pub shape : BatchShape request request-is
-    pub answers : serving request t strip clock out ≡ answered clock out (running placeCount clock strip t request-is)
+module _ {request t strip out : List ℕ} (p : Passed request t strip out) (clock : ℕ) {f : Framing} (e : f ≡ framingOf request) where
+  frames-by : Frames p clock (f .number)
+  frames-by = subst (λ (x : Framing). Frames p clock (x .number)) (sym e) (frames p clock)
 
-  module _ (p : Passed request t strip clock out) (f : Framing) (e : f ≡ framingOf request) where
-    frames-by : Frames request t strip clock out p (f .number)
-    frames-by = subst (λ (x : Framing). Frames request t strip clock out p (x .number)) (sym e) (frames request t strip clock out p)
+  pub frame-away : (f .number ≡ 0 → ⊥) → ServedIs request t strip clock out (record { number = f .number; length = 0 }) t out
+  frame-away h = away-is (f .number) (go frames-by h)
+    where
+      go : {n : ℕ} → Frames p clock n → (n ≡ 0 → ⊥) → serving request t strip clock out ≡ turnedAway t out n
+      go (refuses j q) h = q
+      go (takes r s q) h = absurd (h refl)
 
-    pub frame-away : (f .number ≡ 0 → ⊥) → ServedIs request t strip clock out (record { number = f .number; length = 0 }) t out
-    frame-away z = away-is (f .number) (go (f .number) frames-by z)
-      where
-        go : (n : ℕ) → Frames request t strip clock out p n → (n ≡ 0 → ⊥) → serving request t strip clock out ≡ turnedAway t out n
-        go n (refuses j q) h = q
-        go n (takes r s q) h = absurd (h refl)
+  pub frame-asks : f .number ≡ 0 → Asks request t strip clock out f
+  frame-asks z = go frames-by z
+    where
+      go : {n : ℕ} → Frames p clock n → n ≡ 0 → Asks request t strip clock out f
+      go (refuses j q) z = absurd (omega arith)
+      go (takes r s q) z = record { passed = p; framing-is = e; request-is = r; shape = s; answers = q }
 
-    pub frame-asks : f .number ≡ 0 → Asks
-    frame-asks z = go (f .number) frames-by z
-      where
-        go : (n : ℕ) → Frames request t strip clock out p n → n ≡ 0 → Asks
-        go n (refuses j q) h = absurd (omega arith)
-        go n (takes r s q) h = record { request-is = r; shape = s; answers = q }
+module _ {request t strip : List ℕ} {clock : ℕ} {out : List ℕ} {f : Framing} (a : Asks request t strip clock out f) where
+  -- where the batch items start
+  pub from-within : f .items ≤ length request
+  from-within = subst (λ (x : Framing). x .items ≤ length request) (sym (a .framing-is)) (a .shape .within)
 
-    module _ (a : Asks) where
-      -- where the batch items start
-      pub from-within : f .items ≤ length request
-      from-within = subst (λ (x : Framing). x .items ≤ length request) (sym e) (a .shape .within)
+  -- the batch items, as they are lent
+  abbrev items : Framing → List ℕ
+  items x = take (length request - x .items) (drop (x .items) request)
 
-      pub runs-from : Runs (take (length request - f .items) (drop (f .items) request)) t strip (midOf frameSize (length out - frameSize) out)
-      runs-from = subst (λ (x : Framing). Runs (take (length request - x .items) (drop (x .items) request)) t strip (midOf frameSize (length out - frameSize) out)) (sym e)
-          (runs request t strip clock out p (a .request-is) (a .shape))
+  pub runs-from : Runs (items f) t strip (midOf frameSize (length out - frameSize) out)
+  runs-from = subst (λ (x : Framing). Runs (items x) t strip (midOf frameSize (length out - frameSize) out)) (sym (a .framing-is)) (runs (a .passed) clock (a .shape))
 
-      ran-from : ranOver (take (length request - f .items) (drop (f .items) request)) strip (f .option) t ≡ running placeCount clock strip t (a .request-is)
-      ran-from = subst (λ (x : Framing). ranOver (take (length request - x .items) (drop (x .items) request)) strip (x .option) t ≡ running placeCount clock strip t (a .request-is)) (sym e)
-          (ran-is request t strip clock out p (a .request-is) (a .shape) (framingOf request .option) refl)
+  ran-from : ranOver (items f) strip (f .option) t ≡ running placeCount clock strip t (a .request-is)
+  ran-from = subst (λ (x : Framing). ranOver (items x) strip (x .option) t ≡ running placeCount clock strip t (a .request-is)) (sym (a .framing-is))
+      (ran-is (a .passed) clock (a .shape) (framingOf request .option) refl)
 
-      module _ (done : BatchDone) (t′ ys : List ℕ)
-          (is : RanIs (ranOver (take (length request - f .items) (drop (f .items) request)) strip (f .option) t) (midOf frameSize (length out - frameSize) out) done t′ ys) where
-        asked-ran : RanIs (running placeCount clock strip t (a .request-is)) (midOf frameSize (length out - frameSize) out) done t′ ys
-        asked-ran = subst (λ (x : Ran). RanIs x (midOf frameSize (length out - frameSize) out) done t′ ys) ran-from is
+  module _ {done : BatchDone} {t′ ys : List ℕ} (is : RanIs (ranOver (items f) strip (f .option) t) (midOf frameSize (length out - frameSize) out) done t′ ys) where
+    asked-ran : RanIs (running placeCount clock strip t (a .request-is)) (midOf frameSize (length out - frameSize) out) done t′ ys
+    asked-ran = subst (λ (x : Ran). RanIs x (midOf frameSize (length out - frameSize) out) done t′ ys) ran-from is
 
-        -- what the front asks
-        pub front-asks : (done .used ≤ batchMost * longestItem) × (done .used % 8 ≡ 0)
-        front-asks = (is .most, subst (λ (k : ℕ). k % 8 ≡ 0) (sym (asked-ran .bytes .size)) (eights (batchItems (running placeCount clock strip t (a .request-is) .answers))))
+    -- what the front asks
+    pub front-asks : (done .used ≤ batchMost * longestItem) × (done .used % 8 ≡ 0)
+    front-asks = (is .most, subst (λ (k : ℕ). k % 8 ≡ 0) (sym (asked-ran .bytes .size)) (eights (batchItems (running placeCount clock strip t (a .request-is) .answers))))
 
-        pub served-is : (bits : ℕ) (out′ : List ℕ) → bits ≡ clock → out′ ≡ over (front bits (done .count) (done .used)) (putMid frameSize (length out - frameSize) out ys)
-            → ServedIs request t strip clock out (record { number = 0; length = frameSize + done .used }) t′ out′
-        unfolding answered
-        served-is bits out′ b w =
-            let s = a .answers in
-            let q : out′ ≡ over (front clock (done .count) (done .used)) (putMid frameSize (length out - frameSize) out ys) =
-            w ∙ ap (λ (k : ℕ). over (front k (done .count) (done .used)) (putMid frameSize (length out - frameSize) out ys)) b in
-            record {
-              number = sym (ap (λ (x : Effect). x .number) s);
-              length = length-is request t strip clock out p (a .request-is) (a .shape) _ done t′ ys out′ asked-ran q ∙ sym (ap (λ (x : Effect). x .length) s);
-              table = asked-ran .table ∙ sym (ap (λ (x : Effect). x .table) s);
-              output = output-is request t strip clock out p (a .request-is) (a .shape) _ done t′ ys out′ asked-ran q ∙ sym (ap (λ (x : Effect). x .output) s);
-            }
+    pub served-is : {bits : ℕ} {out′ : List ℕ} → bits ≡ clock → out′ ≡ over (front bits (done .count) (done .used)) (putMid frameSize (length out - frameSize) out ys)
+        → ServedIs request t strip clock out (record { number = 0; length = frameSize + done .used }) t′ out′
+    unfolding answered
+    served-is {bits} {out′} b w =
+        let s = a .answers in
+        let q : out′ ≡ over (front clock (done .count) (done .used)) (putMid frameSize (length out - frameSize) out ys) =
+        w ∙ ap (λ (k : ℕ). over (front k (done .count) (done .used)) (putMid frameSize (length out - frameSize) out ys)) b in
+        record {
+          number = sym (ap (λ (x : Effect). x .number) s);
+          length = length-is (a .passed) clock (a .shape) asked-ran q ∙ sym (ap (λ (x : Effect). x .length) s);
+          table = asked-ran .table ∙ sym (ap (λ (x : Effect). x .table) s);
+          output = output-is (a .passed) clock (a .shape) asked-ran q ∙ sym (ap (λ (x : Effect). x .output) s);
+        }

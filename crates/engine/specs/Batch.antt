@@ -6,7 +6,7 @@ use mathlib.Core.List.{List, [], _∷_}
 use lib.Dec.{eqb}
 use Rattle.octets.specs.If.{ifb}
 use Rattle.frame.specs.Frame.{Asked, Request, continue}
-use Rattle.act.specs.Act.{Did, envAt, step, isFailed}
+use Rattle.act.specs.Act.{Did, emptyHolder, envAt, step, isFailed}
 use Rattle.answer.specs.Respond.{Answer}
 
 -- the answers in order, and the table behind them
@@ -39,6 +39,10 @@ module _ (places clock : ℕ) (strip : List ℕ) (option : ℕ) where
       let rest = batch (i + 1) (did .holder) (did .table) later in
       ifb (endsBatch option did) (lastly (answerTo asked did) (did .table)) (firstly (answerTo asked did) rest)
 
--- "It is empty when a request begins": the whole batch
+-- the first of the items
+abbrev pub firstItem : ℕ
+firstItem = 0
+
+-- the whole batch. "It is empty when a request begins": the placeholder
 unfoldable pub running : ℕ → ℕ → List ℕ → List ℕ → Request → Ran
-running places clock strip t request = batch places clock strip (request .option) 0 0 t (request .items)
+running places clock strip t request = batch places clock strip (request .option) firstItem emptyHolder t (request .items)

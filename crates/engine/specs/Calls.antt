@@ -2,42 +2,27 @@
 -- Assumes nothing.
 use Prim.Native.Nat.{ℕ, _*_, _≤_}
 use mathlib.Core.Path.{_≡_}
-use mathlib.Core.Bool.{true, not, _||_}
+use mathlib.Core.Bool.{true}
 use mathlib.Core.Option.{Option, none, some}
 use mathlib.Core.List.{List, []}
 use lib.ListN.{length}
-use lib.Dec.{ltb, eqb}
-use Rattle.octets.specs.If.{ifb}
 use Rattle.octets.specs.Maybe.{isSome}
 use Rattle.ttlv.specs.Items.{nil, group, encode}
-use Rattle.ttlv.specs.Parse.{message}
 use Rattle.ttlv.specs.Tree.{isRun, treeOf}
 use Rattle.ttlv_put.specs.Write.{Holds}
 use Rattle.table.specs.Layout.{placeCount, Table}
-use Rattle.soundness.specs.Sound.{sound}
 use Rattle.tags.specs.Tags.{batchItem}
 use Rattle.frame.specs.Frame.{Asked, itemIn, itemsIn, batchMost}
 use Rattle.payload.specs.Payload.{command}
-use Rattle.act.specs.Act.{Did, isFailed}
-use Rattle.act.specs.Perform.{performing}
+use Rattle.act.specs.Act.{Did, noClock, emptyHolder, performing, isFailed}
 use Rattle.answer.specs.Respond.{Answer, answerItems, batchItems}
 use Rattle.answer.specs.Front.{longestItem}
 use Rattle.engine.specs.declared.Served.{Served}
 use Rattle.engine.specs.declared.ItemDone.{ItemDone}
 use Rattle.engine.specs.declared.BatchDone.{BatchDone}
-use Rattle.engine.specs.Batch.{Ran, answerTo, batch}
-use Rattle.engine.specs.Effects.{roomLeast, stripSize, requestMost}
+use Rattle.engine.specs.Batch.{Ran, answerTo, firstItem, batch}
+use Rattle.engine.specs.Effects.{stripSize}
 use Rattle.engine.specs.Serving.{serving}
-
--- refusals 1 to 5, before the frame is read; 0 where none applies
-unfoldable pub earlyRefusal : List ℕ → List ℕ → List ℕ → ℕ → ℕ
-earlyRefusal request t strip room =
-    ifb (ltb room roomLeast) 1
-    (ifb (not (eqb (length strip) stripSize)) 2
-    (ifb (not (sound placeCount t)) 3
-    (ifb (eqb (length request) 0 || ltb requestMost (length request)) 4
-    (ifb (not (isSome (message request))) 5
-    0))))
 
 -- an item that was read; one with nothing in it where none was
 unfoldable pub askedOr : Option Asked → Asked
@@ -61,6 +46,13 @@ answerBytes a = encode (group batchItem (answerItems a) nil)
 abbrev pub doing : Asked → List ℕ → ℕ → List ℕ → Did
 doing asked fresh holder t = performing placeCount fresh holder t (command (asked .operation) (asked .payload))
 
+-- an item that can be carried out and answered: it was read, and table and room have their sizes
+pub record RunsOne (body t out : List ℕ) : Type 0 where
+  pub run : isRun body ≡ true
+  pub read : isSome (itemIn (treeOf body)) ≡ true
+  pub table : Table placeCount t
+  pub room : longestItem ≤ length out
+
 -- one item carried out and answered
 pub record ItemIs (asked : Asked) (t fresh : List ℕ) (holder : ℕ) (out : List ℕ) (r : ItemDone) (t′ out′ : List ℕ) : Type 0 where
   pub failed : r .failed ≡ isFailed (doing asked fresh holder t .outcome)
@@ -69,16 +61,16 @@ pub record ItemIs (asked : Asked) (t fresh : List ℕ) (holder : ℕ) (out : Lis
   pub few : r .used ≤ longestItem
   pub bytes : Holds (answerBytes (answerTo asked (doing asked fresh holder t))) out out′ (r .used)
 
--- a batch carried out and answered; the clock plays no part in what items do
+-- a batch carried out and answered
 pub record RanIs (ran : Ran) (out : List ℕ) (r : BatchDone) (t′ out′ : List ℕ) : Type 0 where
   pub count : r .count ≡ length (ran .answers)
   pub most : r .used ≤ batchMost * longestItem
   pub table : t′ ≡ ran .table
   pub bytes : Holds (encode (batchItems (ran .answers))) out out′ (r .used)
 
--- the batch of the items that some bytes say, on a table; the clock plays no part
+-- the batch of the items that some bytes say, on a table
 abbrev pub ranOver : List ℕ → List ℕ → ℕ → List ℕ → Ran
-ranOver items strip option t = batch placeCount 0 strip option 0 0 t (askedAll (itemsIn (treeOf items)))
+ranOver items strip option t = batch placeCount noClock strip option firstItem emptyHolder t (askedAll (itemsIn (treeOf items)))
 
 -- a batch that can be run: its items were read, they are at most 16, and table, strip and room have their sizes
 pub record Runs (items t fresh out : List ℕ) : Type 0 where

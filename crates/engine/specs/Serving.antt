@@ -2,17 +2,17 @@
 -- Assumes nothing: any request, table, strip, clock and room has an outcome.
 use Prim.Native.Nat.{ℕ}
 use mathlib.Core.Bool.{not, _||_}
-use mathlib.Core.Option.{Option, none, some}
 use mathlib.Core.List.{List}
 use lib.ListN.{length}
 use lib.Dec.{ltb, eqb}
 use Rattle.octets.specs.If.{ifb}
+use Rattle.octets.specs.Maybe.{_>>=_, isSome}
 use Rattle.octets.specs.Octets.{over}
-use Rattle.ttlv.specs.Items.{Items, encode}
+use Rattle.ttlv.specs.Items.{encode}
 use Rattle.ttlv.specs.Parse.{message}
 use Rattle.table.specs.Layout.{placeCount}
 use Rattle.soundness.specs.Sound.{sound}
-use Rattle.frame.specs.Frame.{Framed, refused, asked, framed}
+use Rattle.frame.specs.Frame.{Framed, refused, asked, frameIn, framing}
 use Rattle.answer.specs.Respond.{Response, respond}
 use Rattle.engine.specs.Effects.{Effect, roomLeast, stripSize, requestMost}
 use Rattle.engine.specs.Batch.{Ran, running}
@@ -22,11 +22,6 @@ use Rattle.engine.specs.Batch.{Ran, running}
 -- "Length 0; table and output stay byte for byte"
 abbrev pub turnedAway : List ℕ → List ℕ → ℕ → Effect
 turnedAway t out number = record { number = number; length = 0; table = t; output = out }
-
--- "TTLV malformed", or what the one item says as a frame
-unfoldable pub requested : Option Items → Framed
-requested none = refused 5
-requested (some t) = framed t
 
 -- the response to a batch
 abbrev pub responseTo : ℕ → Ran → Response
@@ -41,17 +36,29 @@ answered clock out ran = record {
   output = over (encode (respond (responseTo clock ran))) out;
 }
 
--- refusals 5 to 9, or the batch
+-- ---- "The lowest number that applies is given, and none otherwise"
+
+-- refusals 1 to 5, a line each; 0 where none applies
+unfoldable pub earlyRefusal : List ℕ → List ℕ → List ℕ → ℕ → ℕ
+earlyRefusal request t strip room =
+    ifb (ltb room roomLeast) 1
+    (ifb (not (eqb (length strip) stripSize)) 2
+    (ifb (not (sound placeCount t)) 3
+    (ifb (eqb (length request) 0 || ltb requestMost (length request)) 4
+    (ifb (not (isSome (message request))) 5
+    0))))
+
+-- refusals 6 to 9, or the request: what the message says as a frame; that there is a message was refusal 5's
+abbrev pub requested : List ℕ → Framed
+requested request = framing (message request >>= frameIn)
+
+-- the refusal, or the batch
 unfoldable pub carryOut : ℕ → List ℕ → List ℕ → List ℕ → Framed → Effect
 carryOut clock t strip out (refused number) = turnedAway t out number
 carryOut clock t strip out (asked request) = answered clock out (running placeCount clock strip t request)
 
--- "The lowest number that applies is given, and none otherwise"; the clock comes as its 64 bits, and any is taken
+-- the whole outcome; the clock comes as its 64 bits, and any is taken
 unfoldable pub serving : List ℕ → List ℕ → List ℕ → ℕ → List ℕ → Effect
 serving request t strip clock out =
-    let accepted = carryOut clock t strip out (requested (message request)) in
-    ifb (ltb (length out) roomLeast) (turnedAway t out 1)
-    (ifb (not (eqb (length strip) stripSize)) (turnedAway t out 2)
-    (ifb (not (sound placeCount t)) (turnedAway t out 3)
-    (ifb (eqb (length request) 0 || ltb requestMost (length request)) (turnedAway t out 4)
-    accepted)))
+    let early = earlyRefusal request t strip (length out) in
+    ifb (eqb early 0) (carryOut clock t strip out (requested request)) (turnedAway t out early)

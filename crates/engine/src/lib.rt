@@ -3,19 +3,13 @@
 use fields::BodyField;
 use table::Layout;
 ghost use mathlib.Core.Path.{_≡_};
-ghost use mathlib.Core.Bool.{true};
-ghost use Prim.Native.Nat.{_+_, _≤_};
-ghost use lib.ListN.{length};
-ghost use mir.Syntax.{w64};
-ghost use mir.Val.{ofZ};
-ghost use Rattle.octets.specs.Maybe.{isSome};
-ghost use Rattle.ttlv.specs.Tree.{isRun, treeOf};
-ghost use Rattle.table.specs.Layout.{placeCount, Table};
-ghost use Rattle.frame.specs.Frame.{itemIn};
-ghost use Rattle.answer.specs.Front.{longestItem};
 ghost use mathlib.Core.Bool.{not, _&&_};
 ghost use lib.Dec.{eqb};
-ghost use Rattle.engine.specs.Calls.{earlyRefusal, askedIn, ItemIs, Runs, RanIs, ranOver, ServedIs};
+ghost use mir.Syntax.{w64};
+ghost use mir.Val.{ofZ};
+ghost use Rattle.frame.specs.Frame.{continue};
+ghost use Rattle.engine.specs.Serving.{earlyRefusal};
+ghost use Rattle.engine.specs.Calls.{askedIn, RunsOne, ItemIs, Runs, RanIs, ranOver, ServedIs};
 
 // The sizes that a caller keeps to; the table's are those of `table::Layout`.
 pub const ROOM_LEAST: usize = 4824;
@@ -34,17 +28,18 @@ pub struct Served {
     pub length: usize,
 }
 
-// What became of one item: whether it failed, the placeholder after it, and the bytes of its answer.
-pub struct ItemDone {
-    pub failed: bool,
-    pub holder: u32,
-    pub used: usize,
+// What became of one item: whether it failed, the placeholder after it, and the bytes of its
+// answer.
+struct ItemDone {
+    failed: bool,
+    holder: u32,
+    used: usize,
 }
 
 // What became of a batch: how many items were answered, and the bytes of their answers.
-pub struct BatchDone {
-    pub count: u32,
-    pub used: usize,
+struct BatchDone {
+    count: u32,
+    used: usize,
 }
 
 // The lowest of refusals 1 to 5 that applies, or 0: sizes, the table, and TTLV. Nothing is written.
@@ -72,9 +67,10 @@ fn early_refusal(request: &[u8], table: &[u8], fresh: &[u8], room: usize) -> u32
     0
 }
 
-// One item: read, carried out on the table, and answered in the room that is lent. `run_items` shows what it asks.
+// One item: read, carried out on the table, and answered in the room that is lent. `run_items`
+// shows what it asks.
 fn one_item(body: &[u8], table: &mut [u8], fresh: &[u8], holder: u32, out: &mut [u8]) -> ItemDone
-    requires { ⌜ (isRun (now body) ≡ true) × (isSome (itemIn (treeOf (now body))) ≡ true) × Table placeCount (now table) × (longestItem ≤ length (now out)) ⌝ }
+    requires { ⌜ RunsOne (now body) (now table) (now out) ⌝ }
     ensures { λ r. ⌜ ItemIs (askedIn (now (body .entry))) (now (table .entry)) (now (fresh .entry)) holder (now (out .entry)) r (now (table .exit)) (now (out .exit)) ⌝ }
 {
     let parts = frame::read_item(body);
@@ -93,8 +89,9 @@ fn one_item(body: &[u8], table: &mut [u8], fresh: &[u8], holder: u32, out: &mut 
     }
 }
 
-// The batch: the items one after the other, each answered in the room that follows the one before it; under Stop nothing after the first failed one.
-// `serve` shows what it asks: the frame was read, and the sizes are right.
+// The batch: the items one after the other, each answered in the room that follows the one before
+// it; under Stop nothing after the first failed one. `serve` shows what it asks: the frame was
+// read, and the sizes are right.
 fn run_items(items: &[u8], table: &mut [u8], fresh: &[u8], option: u32, out: &mut [u8]) -> BatchDone
     requires { ⌜ Runs (now items) (now table) (now fresh) (now out) ⌝ }
     ensures { λ r. ⌜ RanIs (ranOver (now (items .entry)) (now (fresh .entry)) option (now (table .entry))) (now (out .entry)) r (now (table .exit)) (now (out .exit)) ⌝ }
@@ -134,7 +131,7 @@ fn run_items(items: &[u8], table: &mut [u8], fresh: &[u8], option: u32, out: &mu
 
 // Whether nothing after an item is carried out: it failed, and the option is not Continue.
 fn ends(option: u32, failed: bool) -> bool
-    ensures { λ r. ⌜ r ≡ (failed && not (eqb option 1)) ⌝ }
+    ensures { λ r. ⌜ r ≡ (failed && not (eqb option continue)) ⌝ }
 {
     if !failed {
         return false;
@@ -142,7 +139,8 @@ fn ends(option: u32, failed: bool) -> bool
     option != CONTINUE
 }
 
-// One request in, a response out, the table changed. The number of a refusal, with length 0 and nothing touched; or 0 and the length of the response.
+// One request in, a response out, the table changed. The number of a refusal, with length 0 and
+// nothing touched; or 0 and the length of the response.
 pub fn serve(request: &[u8], table: &mut [u8], fresh: &[u8], clock: i64, out: &mut [u8]) -> Served
     ensures { λ r. ⌜ ServedIs (now (request .entry)) (now (table .entry)) (now (fresh .entry)) (ofZ w64 clock) (now (out .entry)) r (now (table .exit)) (now (out .exit)) ⌝ }
 {

@@ -1,12 +1,6 @@
 -- `act_at` meets its contract, deed by deed.
 -- Assumes nothing.
-use mathlib.Core.Path.{sym, ap, _∙_}
-use Rattle.table.specs.Records.{placeAt}
-use Rattle.act.specs.declared.Deed.{Deed}
-use Rattle.act.specs.declared.Performed.{Performed}
-use Rattle.act.specs.Act.{rekeyPlan, allocationPlan, showPlan}
-use Rattle.act.specs.Perform.{leaves, showing, carriedOut, inPlaces, deedPlan}
-use Rattle.act.proofs.Plans.{is-done}
+use Rattle.act.proofs.Returns.{does-replace, does-allocate, does-move, does-show}
 use borrow.Author.Needs.{needs}
 use Rattle.act.proofs.act_at.Statement.{statement}
 use Rattle.act.proofs.act_at.Tie as tie
@@ -39,42 +33,25 @@ same-length : tie.Need-same-length
 same-length c = search needs
 
 returns : tie.Need-returns
-unfolding deedPlan rekeyPlan
-returns c =
-    let a = c .before .before .before .before .before .before .before .before .args in
-    c .before .before .rekey-at .ensures
-    ∙ sym (ap (λ (d : Deed). carriedOut (a .t .now) (deedPlan (inPlaces (a .n) (a .fresh .now)) (a .holder) (a .t .now) d (a .i) (placeAt (a .n) (a .t .now) (a .i)))) (c .before .before .before .before .enum-told .given .1))
+returns c = search does-replace
 
 same-length-2 : tie.Need-same-length-2
 same-length-2 c = search needs
 
 returns-2 : tie.Need-returns-2
-unfolding deedPlan allocationPlan
-returns-2 c =
-    let a = c .before .before .before .before .before .before .before .before .before .args in
-    c .before .before .allocate-at .ensures
-    ∙ sym (ap (λ (d : Deed). carriedOut (a .t .now) (deedPlan (inPlaces (a .n) (a .fresh .now)) (a .holder) (a .t .now) d (a .i) (placeAt (a .n) (a .t .now) (a .i)))) (c .before .before .before .before .before .deed .given .1))
+returns-2 c = search does-allocate
 
 same-length-3 : tie.Need-same-length-3
 same-length-3 c = search needs
 
 returns-3 : tie.Need-returns-3
-unfolding deedPlan
-returns-3 c =
-    let a = c .before .before .before .before .before .before .before .before .before .args in
-    c .before .before .move-at .ensures
-    ∙ sym (ap (λ (d : Deed). carriedOut (a .t .now) (deedPlan (inPlaces (a .n) (a .fresh .now)) (a .holder) (a .t .now) d (a .i) (placeAt (a .n) (a .t .now) (a .i)))) (c .before .before .before .before .before .deed2 .given .1))
+returns-3 c = search does-move
 
 same-length-4 : tie.Need-same-length-4
 same-length-4 c = search needs
 
 returns-4 : tie.Need-returns-4
-unfolding deedPlan showPlan
-returns-4 c =
-    let a = c .before .before .before .before .before .before .args in
-    ap (λ (r : Performed). leaves r (a .t .now)) (c .show-at .ensures)
-    ∙ sym (is-done (a .t .now) (leaves (showing (a .holder) (placeAt (a .n) (a .t .now) (a .i))) (a .t .now)))
-    ∙ sym (ap (λ (d : Deed). carriedOut (a .t .now) (deedPlan (inPlaces (a .n) (a .fresh .now)) (a .holder) (a .t .now) d (a .i) (placeAt (a .n) (a .t .now) (a .i)))) (c .before .before .enum-told2 .given .1))
+returns-4 c = search does-show
 
 pub act-at-spec : {M : Type 1} → statement M
 act-at-spec =

@@ -1,13 +1,6 @@
 -- `allocate_at` meets its contract: what is left stored, or the reason why nothing is granted.
 -- Assumes nothing.
-use mathlib.Core.Path.{sym, ap, _∙_}
-use mathlib.Core.List.{[]}
-use Rattle.table.specs.declared.Record.{Record}
-use Rattle.changes.specs.Records.{withCount}
-use Rattle.act.specs.declared.Performed.{Performed}
-use Rattle.act.specs.Act.{allocationPlan}
-use Rattle.act.specs.Perform.{leaves, carriedOut, inPlaces, storing}
-use Rattle.act.proofs.Plans.{onGranted, granted}
+use Rattle.act.proofs.Returns.{grants, grant-denied}
 use borrow.Author.Needs.{needs}
 use Rattle.act.proofs.allocate_at.Statement.{statement}
 use Rattle.act.proofs.allocate_at.Tie as tie
@@ -37,30 +30,13 @@ same-length : tie.Need-same-length
 same-length c = search needs
 
 returns : tie.Need-returns
-unfolding onGranted
-returns c =
-    let a = c .before .before .before .before .before .before .before .before .before .before .before .before .args in
-    let old = c .before .before .before .before .before .before .before .before .before .load .result in
-    let e = sym (c .before .before .before .before .before .before .before .before .grant .ensures) ∙ c .before .before .before .before .before .before .count .given .1 in
-    c .before .before .store-at .ensures
-    ∙ ap (storing (a .n) (a .holder) (a .t .now) (a .i)) (c .before .before .before .before .with-count .ensures)
-    ∙ sym (ap (onGranted (a .t .now) (λ x. storing (a .n) (a .holder) (a .t .now) (a .i) (withCount x old))) e)
-    ∙ sym (granted (a .n) (a .holder) (a .t .now) (a .amount) (a .i) old)
-    ∙ ap (λ (r : Record). carriedOut (a .t .now) (allocationPlan (inPlaces (a .n) []) (a .holder) (a .t .now) (a .amount) (a .i) r)) (c .before .before .before .before .before .before .before .before .before .load .ensures)
+returns c = search grants
 
 same-length-2 : tie.Need-same-length-2
 same-length-2 c = search needs
 
 returns-2 : tie.Need-returns-2
-unfolding onGranted
-returns-2 c =
-    let a = c .before .before .before .before .before .before .before .before .args in
-    let old = c .before .before .before .before .before .load .result in
-    let e = sym (c .before .before .before .before .grant .ensures) ∙ c .before .before .reason .given .1 in
-    ap (λ (r : Performed). leaves r (a .t .now)) (c .fail .ensures)
-    ∙ sym (ap (onGranted (a .t .now) (λ x. storing (a .n) (a .holder) (a .t .now) (a .i) (withCount x old))) e)
-    ∙ sym (granted (a .n) (a .holder) (a .t .now) (a .amount) (a .i) old)
-    ∙ ap (λ (r : Record). carriedOut (a .t .now) (allocationPlan (inPlaces (a .n) []) (a .holder) (a .t .now) (a .amount) (a .i) r)) (c .before .before .before .before .before .load .ensures)
+returns-2 c = search grant-denied
 
 pub allocate-at-spec : {M : Type 1} → statement M
 allocate-at-spec =

@@ -1,13 +1,6 @@
 -- `perform` meets its contract, command by command.
 -- Assumes nothing.
-use mathlib.Core.Path.{sym, ap, _∙_}
-use Rattle.octets.specs.If.{ifb}
-use Rattle.rules.specs.declared.Reason.the-variants.{OperationNotSupported, InvalidField}
-use Rattle.rules.specs.States.{moveTests}
-use Rattle.act.specs.declared.Performed.{Performed}
-use Rattle.act.specs.Act.{createPlan, activatePlan, revokePlan, destroyPlan, plan}
-use Rattle.act.specs.Perform.{leaves, performing, movePlan, deedPlan}
-use Rattle.act.proofs.Plans.{refused}
+use Rattle.act.proofs.Returns.{performs-unsupported, performs-invalid, performs-create, performs-rekey, performs-allocation, performs-activate, performs-revoke, performs-destroy, performs-show}
 use borrow.Author.Needs.{needs}
 use Rattle.act.proofs.perform.Statement.{statement}
 use Rattle.act.proofs.perform.Tie as tie
@@ -67,79 +60,52 @@ act-on-requires-6 : tie.Need-act-on-requires-6
 act-on-requires-6 c κs = search needs
 
 returns : tie.Need-returns
-unfolding performing plan
-returns c =
-    let a = c .before .before .before .before .before .args in
-    ap (λ (r : Performed). leaves r (a .t .now)) (c .fail .ensures) ∙ sym (refused (a .t .now) OperationNotSupported) ∙ sym (ap (performing (a .n) (a .fresh .now) (a .holder) (a .t .now)) (c .before .enum-told .given .1))
+returns c = search performs-unsupported
 
 returns-2 : tie.Need-returns-2
-unfolding performing plan
-returns-2 c =
-    let a = c .before .before .before .before .before .args in
-    ap (λ (r : Performed). leaves r (a .t .now)) (c .fail2 .ensures) ∙ sym (refused (a .t .now) InvalidField) ∙ sym (ap (performing (a .n) (a .fresh .now) (a .holder) (a .t .now)) (c .before .enum-told2 .given .1))
+returns-2 c = search performs-invalid
 
 same-length : tie.Need-same-length
 same-length c = search needs
 
 returns-3 : tie.Need-returns-3
-unfolding performing plan createPlan
-returns-3 c =
-    let a = c .before .before .before .before .before .before .before .before .before .args in
-    c .before .before .create .ensures ∙ sym (ap (performing (a .n) (a .fresh .now) (a .holder) (a .t .now)) (c .before .before .before .before .before .command .given .1))
+returns-3 c = search performs-create
 
 same-length-2 : tie.Need-same-length-2
 same-length-2 c = search needs
 
 returns-4 : tie.Need-returns-4
-unfolding performing plan deedPlan
-returns-4 c =
-    let a = c .before .before .before .before .before .before .before .before .before .args in
-    c .before .before .act-on .ensures ∙ sym (ap (performing (a .n) (a .fresh .now) (a .holder) (a .t .now)) (c .before .before .before .before .before .command2 .given .1))
+returns-4 c = search performs-rekey
 
 same-length-3 : tie.Need-same-length-3
 same-length-3 c = search needs
 
 returns-5 : tie.Need-returns-5
-unfolding performing plan deedPlan
-returns-5 c =
-    let a = c .before .before .before .before .before .before .before .before .before .args in
-    c .before .before .act-on2 .ensures ∙ sym (ap (performing (a .n) (a .fresh .now) (a .holder) (a .t .now)) (c .before .before .before .before .before .command3 .given .1))
+returns-5 c = search performs-allocation
 
 same-length-4 : tie.Need-same-length-4
 same-length-4 c = search needs
 
 returns-6 : tie.Need-returns-6
-unfolding performing plan deedPlan movePlan activatePlan moveTests ifb
-returns-6 c =
-    let a = c .before .before .before .before .before .before .before .before .before .args in
-    c .before .before .act-on3 .ensures ∙ sym (ap (performing (a .n) (a .fresh .now) (a .holder) (a .t .now)) (c .before .before .before .before .before .command4 .given .1))
+returns-6 c = search performs-activate
 
 same-length-5 : tie.Need-same-length-5
 same-length-5 c = search needs
 
 returns-7 : tie.Need-returns-7
-unfolding performing plan deedPlan movePlan revokePlan moveTests ifb
-returns-7 c =
-    let a = c .before .before .before .before .before .before .before .before .before .args in
-    c .before .before .act-on4 .ensures ∙ sym (ap (performing (a .n) (a .fresh .now) (a .holder) (a .t .now)) (c .before .before .before .before .before .command5 .given .1))
+returns-7 c = search performs-revoke
 
 same-length-6 : tie.Need-same-length-6
 same-length-6 c = search needs
 
 returns-8 : tie.Need-returns-8
-unfolding performing plan deedPlan movePlan destroyPlan moveTests ifb
-returns-8 c =
-    let a = c .before .before .before .before .before .before .before .before .before .args in
-    c .before .before .act-on5 .ensures ∙ sym (ap (performing (a .n) (a .fresh .now) (a .holder) (a .t .now)) (c .before .before .before .before .before .command6 .given .1))
+returns-8 c = search performs-destroy
 
 same-length-7 : tie.Need-same-length-7
 same-length-7 c = search needs
 
 returns-9 : tie.Need-returns-9
-unfolding performing plan deedPlan
-returns-9 c =
-    let a = c .before .before .before .before .before .before .before .before .before .args in
-    c .before .before .act-on6 .ensures ∙ sym (ap (performing (a .n) (a .fresh .now) (a .holder) (a .t .now)) (c .before .before .before .before .before .command7 .given .1))
+returns-9 c = search performs-show
 
 pub perform-spec : {M : Type 1} → statement M
 perform-spec =

@@ -1,10 +1,6 @@
 -- `put_born` meets its contract: the record stored, then its serial the last issued.
 -- Assumes nothing.
-use mathlib.Core.Path.{ap, _∙_}
-use Prim.Native.Nat.{ℕ}
-use mathlib.Core.List.{List}
-use Rattle.table.specs.Records.{withLast}
-use Rattle.changes.specs.Changes.{bornAt}
+use Rattle.act.proofs.Returns.{born-stored}
 use borrow.Author.Needs.{needs}
 use Rattle.act.proofs.put_born.Statement.{statement}
 use Rattle.act.proofs.put_born.Tie as tie
@@ -19,8 +15,7 @@ same-length : tie.Need-same-length
 same-length c = search needs
 
 returns : tie.Need-returns
-unfolding bornAt
-returns c = let a = c .before .before .before .before .before .before .before .before .before .args in c .before .before .set-last-serial .ensures ∙ ap (λ (u : List ℕ). withLast u (a .born .serial)) (c .before .before .before .before .before .before .store .ensures)
+returns c = search born-stored
 
 pub put-born-spec : {M : Type 1} → statement M
 put-born-spec = tie.close (tie.spec store-requires set-last-serial-requires same-length returns)

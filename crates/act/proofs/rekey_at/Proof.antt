@@ -1,13 +1,6 @@
--- `rekey_at` meets its contract: destroyed first, then replaced, then room.
+-- `rekey_at` meets its contract: destroyed first, then replaced, then where the new one goes.
 -- Assumes nothing.
-use mathlib.Core.Path.{_≡_, sym, ap, _∙_}
-use mathlib.Core.Bool.{false}
-use Rattle.table.specs.declared.Record.{Record}
-use Rattle.table.specs.Records.{placeAt}
-use Rattle.search.specs.Search.{isDestroyed}
-use Rattle.act.specs.declared.Performed.{Performed}
-use Rattle.act.specs.Perform.{leaves, roomFor, replacing}
-use Rattle.act.proofs.Plans.{rekey-destroyed, rekey-twice, rekey-first}
+use Rattle.act.proofs.Returns.{rekey-destroyed, rekey-twice, rekeys}
 use borrow.Author.Needs.{needs}
 use Rattle.act.proofs.rekey_at.Statement.{statement}
 use Rattle.act.proofs.rekey_at.Tie as tie
@@ -25,11 +18,7 @@ same-length : tie.Need-same-length
 same-length c = search needs
 
 returns : tie.Need-returns
-returns c =
-    let a = c .before .before .before .before .before .before .before .args in
-    let p = c .before .before .before .load .ensures in
-    ap (λ (r : Performed). leaves r (a .t .now)) (c .fail .ensures)
-    ∙ sym (rekey-destroyed (a .n) (a .fresh .now) (a .t .now) (a .i) (ap (λ (r : Record). isDestroyed (r .state)) (sym p) ∙ sym (c .before .before .is-destroyed .ensures) ∙ c .before .if1 .taken))
+returns c = search rekey-destroyed
 
 fail-requires-2 : tie.Need-fail-requires-2
 fail-requires-2 c κs = search needs
@@ -38,12 +27,7 @@ same-length-2 : tie.Need-same-length-2
 same-length-2 c = search needs
 
 returns-2 : tie.Need-returns-2
-returns-2 c =
-    let a = c .before .before .before .before .before .before .before .before .before .args in
-    let p = c .before .before .before .before .before .load .ensures in
-    let live : isDestroyed (placeAt (a .n) (a .t .now) (a .i) .state) ≡ false = ap (λ (r : Record). isDestroyed (r .state)) (sym p) ∙ sym (c .before .before .before .before .is-destroyed .ensures) ∙ c .before .before .before .if1 .left in
-    ap (λ (r : Performed). leaves r (a .t .now)) (c .fail2 .ensures)
-    ∙ sym (rekey-twice (a .n) (a .fresh .now) (a .t .now) (a .i) live (λ z. c .before .if2 .taken (ap (λ (r : Record). r .replacement) p ∙ z)))
+returns-2 c = search rekey-twice
 
 replace-at-requires : tie.Need-replace-at-requires
 replace-at-requires c κs = search needs
@@ -52,14 +36,7 @@ same-length-3 : tie.Need-same-length-3
 same-length-3 c = search needs
 
 returns-3 : tie.Need-returns-3
-returns-3 c =
-    let a = c .before .before .before .before .before .before .before .before .before .before .before .before .args in
-    let p = c .before .before .before .before .before .before .before .before .load .ensures in
-    let live : isDestroyed (placeAt (a .n) (a .t .now) (a .i) .state) ≡ false = ap (λ (r : Record). isDestroyed (r .state)) (sym p) ∙ sym (c .before .before .before .before .before .before .before .is-destroyed .ensures) ∙ c .before .before .before .before .before .before .if1 .left in
-    let once : placeAt (a .n) (a .t .now) (a .i) .replacement ≡ 0 = ap (λ (r : Record). r .replacement) (sym p) ∙ c .before .before .before .before .if2 .left in
-    c .before .before .replace-at .ensures
-    ∙ ap (λ (r : Record). replacing (a .n) (a .fresh .now) (a .t .now) (a .i) r (roomFor (a .n) (a .t .now))) p
-    ∙ sym (rekey-first (a .n) (a .fresh .now) (a .t .now) (a .i) live once)
+returns-3 c = search rekeys
 
 pub rekey-at-spec : {M : Type 1} → statement M
 rekey-at-spec =

@@ -1,7 +1,7 @@
 -- `engine::one_item`. What the functions answer, put together by one law.
 -- Assumes nothing.
 use native.Mathlib.Omega.{arith}
-use Rattle.engine.proofs.Item.{item-is, start-within, start-run, start-tree, id-short}
+use Rattle.engine.proofs.Item.{start-within, start-run, id-short, item-is}
 use borrow.Author.Needs.{needs}
 use Rattle.engine.proofs.one_item.Statement.{statement}
 use Rattle.engine.proofs.one_item.Tie as tie
@@ -9,17 +9,22 @@ use Rattle.engine.proofs.one_item.Tie as tie
 read-item-requires : tie.Need-read-item-requires
 read-item-requires c κs = search needs
 
+-- ---- from here on the item is read
+
+abbrev start : tie.After-read-item → tie.Start
+start c = c .before .before .before .before .before
+
 sub-read-command : tie.Need-sub-read-command
-sub-read-command c = let o = c .before .before .before .before .before in start-within (o .args .body .now) (o .pre .0) (o .pre .1) (c .read-item .result) (c .read-item .ensures)
+sub-read-command c = start-within (start c .pre) (c .read-item .ensures)
 
 part-read-command-start : tie.Need-part-read-command-start
-part-read-command-start c = let o = c .before .before .before .before .before in let h = start-within (o .args .body .now) (o .pre .0) (o .pre .1) (c .read-item .result) (c .read-item .ensures) in omega arith
+part-read-command-start c = let within = sub-read-command c in omega arith
 
 part-read-command-end : tie.Need-part-read-command-end
 part-read-command-end c = search needs
 
 read-command-requires : tie.Need-read-command-requires
-read-command-requires c κs = let o = c .before .before .before .before .before .before in start-run (o .args .body .now) (o .pre .0) (o .pre .1) (c .before .read-item .result) (c .before .read-item .ensures)
+read-command-requires c κs = start-run (start (c .before) .pre) (c .before .read-item .ensures)
 
 perform-requires : tie.Need-perform-requires
 perform-requires c κs = search needs
@@ -27,8 +32,15 @@ perform-requires c κs = search needs
 is-failed-requires : tie.Need-is-failed-requires
 is-failed-requires c κs = search needs
 
+-- ---- from here on it is carried out
+
+abbrev item : tie.After-perform → tie.After-read-item
+item c = c .before .before .before .before
+
 write-answer-requires : tie.Need-write-answer-requires
-write-answer-requires c κs = let o = c .before .before .before .before .before .before .before .before .before .before .before .before .before .before in let r = c .before .before .before .before .before .before .before .before .before .read-item in (o .pre .3, id-short (o .args .body .now) (o .pre .0) (o .pre .1) (r .result) (r .ensures))
+write-answer-requires c κs =
+    let at-item = item (c .before .before .before .before .before) in
+    (start at-item .pre .room, id-short (start at-item .pre) (at-item .read-item .ensures))
 
 same-length : tie.Need-same-length
 same-length c = search needs
@@ -38,14 +50,11 @@ same-length-2 c = search needs
 
 returns : tie.Need-returns
 returns c =
-    let o = c .before .before .before .before .before .before .before .before .before .before .before .before .before .before .before .before .before in
-    let r = c .before .before .before .before .before .before .before .before .before .before .before .before .read-item in
-    let d = c .before .before .before .before .before .before .before .before .perform in
-    let f = c .before .before .before .before .before .is-failed in
-    let w = c .before .before .write-answer in
-    let k = c .before .before .before .before .before .before .before .before .before .before .read-command in
-    item-is (o .args .body .now) (o .pre .0) (o .pre .1) (o .args .table .now) (o .args .fresh .now) (o .args .holder) (o .args .out .now) (r .result) (k .result) (d .result) (f .result) (w .result)
-    (d .last .0) (w .last .0) _ (r .ensures) (start-tree (o .args .body .now) (o .pre .0) (o .pre .1) (r .result) (r .ensures)) (k .ensures) (d .ensures) (f .ensures) (w .ensures)
+    let at-answer = c .before .before in
+    let at-failed = at-answer .before .before .before in
+    let at-done = at-failed .before .before .before in
+    let at-item = item at-done in
+    item-is (start at-item .pre) (at-item .read-item .ensures) (at-done .perform .result) (at-done .before .before .read-command .ensures) (at-done .perform .ensures) (at-failed .is-failed .ensures) (at-answer .write-answer .ensures)
 
 pub one-item-spec : {M : Type 1} → statement M
 one-item-spec =
