@@ -11,14 +11,15 @@ use Rattle.octets.proofs.Bools.{and-l}
 use Rattle.table.specs.Layout.{placeCount}
 use Rattle.table.specs.Records.{placeAt, serialAt}
 use Rattle.search.specs.Search.{newPlace}
+use Rattle.soundness.specs.Checked.{isAt}
 use Rattle.soundness.proofs.SoundIs.{sound-is}
 use Rattle.payload.specs.declared.Command.{Command}
 use Rattle.payload.specs.declared.Command.the-variants.{Unsupported, Invalid, Create, Rekey, GetUsageAllocation, Activate, Revoke, Destroy, GetAttributes}
 use Rattle.act.specs.declared.Outcome.{Outcome}
 use Rattle.engine.specs.Effects.{Effect}
 use Rattle.demands.specs.Box.{Call, Box}
-use Rattle.demands.specs.Log.{Event, commandOf, heldAfter, paired, itemsOf, answersOf, eventsOf, onto, logged, issuedBy, issued, grantBy, granted, limitBy, limit}
-use Rattle.demands.specs.Demand3.{begins, calls, Stands, isAt, takes, Tame, InOrder, Path, went, Demand3}
+use Rattle.demands.specs.Log.{Event, commandOf, heldAfter, paired, orNoItems, orNoAnswers, eventsOf, onto, logged, issuedBy, issued, grantBy, granted, limitBy, limit}
+use Rattle.demands.specs.Demand3.{begins, calls, Stands, takes, Tame, InOrder, Path, went, Demand3}
 use Rattle.wrong_boxes.specs.Wrong.{withTable, refilled, InventsCount, GrantsTaken}
 use Rattle.cases.proofs.Cases.{opened}
 use Rattle.demands.proofs.Ladder.{served}
@@ -46,7 +47,7 @@ sumsOf c e = sums (logged c e []) (e .table)
 
 -- 60 and 40 are granted of 100, and the count says 100
 two-hundred : sumsOf grantCall invented ≡ record { serial = 1; spent = 200; begun = 100 }
-unfolding opened invented withTable refilled sumsOf sums logged onto eventsOf paired heldAfter itemsOf answersOf granted grantBy limit limitBy issuedBy
+unfolding opened invented withTable refilled sumsOf sums logged onto eventsOf paired heldAfter orNoItems orNoAnswers granted grantBy limit limitBy issuedBy
 two-hundred = refl
 
 pub invents-count : Demand3 InventsCount → ⊥

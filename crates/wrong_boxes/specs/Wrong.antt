@@ -22,7 +22,7 @@ use Rattle.answer.specs.Respond.{Answer, respond}
 use Rattle.engine.specs.Effects.{Effect}
 use Rattle.engine.specs.Batch.{Ran, running}
 use Rattle.engine.specs.Serving.{turnedAway, serving}
-use Rattle.demands.specs.Box.{Call, Box, Lent, placesIn, recordIn}
+use Rattle.demands.specs.Box.{Call, Box, Lent, placesOf, recordIn}
 use Rattle.demands.specs.Demand2.{frameOf, refusalConditions, lowest}
 use Rattle.demands.specs.Log.{Event, eventsOf, logged, granted}
 use Rattle.demands.specs.Demand3.{Run, Stands, takes}
@@ -49,7 +49,7 @@ responding c answers t = record {
 -- the batch of a call, run under an option
 unfoldable pub ranUnder : (ℕ → ℕ) → Call → Option Frame → Ran
 ranUnder option c none = record { answers = []; table = c .table }
-ranUnder option c (some f) = running (placesIn (c .table)) (c .clock) (c .strip) (c .table) (record { option = option (optionOf (f .header .option)); items = f .items })
+ranUnder option c (some f) = running (placesOf (c .table)) (c .clock) (c .strip) (c .table) (record { option = option (optionOf (f .header .option)); items = f .items })
 
 -- an outcome with another table
 unfoldable pub withTable : (List ℕ → List ℕ) → Effect → Effect
@@ -87,8 +87,8 @@ abbrev pub FailsAll : Box
 FailsAll c e = e ≡ orRefused c (responding c (allFailed (frameOf c)) (c .table))
 
 -- "One answer for all": the same bytes for every accepted request, whatever it does to the table
-abbrev pub OneAnswer : List ℕ → (Call → List ℕ) → Box
-OneAnswer bytes tableOf c e = e ≡ orRefused c (record { number = 0; length = length bytes; table = tableOf c; output = over bytes (c .output) })
+abbrev pub SameAnswer : List ℕ → (Call → List ℕ) → Box
+SameAnswer bytes tableOf c e = e ≡ orRefused c (record { number = 0; length = length bytes; table = tableOf c; output = over bytes (c .output) })
 
 -- "A box that executes the whole batch at its first item and answers that one alone"
 abbrev pub AnswersFirst : Box
@@ -104,13 +104,13 @@ withMaterialOf other r = inState (r .state) (other .material) r
 
 -- a box that leaves the key at place 0 with the material of the key at place 1
 abbrev pub SharesMaterial : Box
-SharesMaterial = Leaves (λ c due. withPlace (placesIn due) due 0 (withMaterialOf (recordIn due 1) (recordIn due 0)))
+SharesMaterial = Leaves (λ c due. withPlace (placesOf due) due 0 (withMaterialOf (recordIn due 1) (recordIn due 0)))
 
 -- ---- boxes that demand 3 shuts out
 
 -- "an invented usage count": it answers as it should, and fills the count of place 0 up again
 unfoldable pub refilled : List ℕ → List ℕ
-refilled t = withPlace (placesIn t) t 0 (withCount (recordIn t 0 .total) (recordIn t 0))
+refilled t = withPlace (placesOf t) t 0 (withCount (recordIn t 0 .total) (recordIn t 0))
 
 abbrev pub InventsCount : Box
 InventsCount = Leaves (λ c due. refilled due)
@@ -138,7 +138,7 @@ pub record GrantsTaken (B : Box) : Type 0 where
 
 -- the key at place 0 made Active
 unfoldable pub woken : List ℕ → List ℕ
-woken t = withPlace (placesIn t) t 0 (inState active (recordIn t 0 .material) (recordIn t 0))
+woken t = withPlace (placesOf t) t 0 (inState active (recordIn t 0 .material) (recordIn t 0))
 
 -- "wakes a destroyed key": where place 0 was in state 5 before the call, it is Active after it
 abbrev pub Wakes : Box
