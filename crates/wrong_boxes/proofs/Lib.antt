@@ -4,4 +4,5 @@ pub mod Calling
 pub mod Harmless
 pub mod Answering
 pub mod Granting
+pub mod Filling
 pub mod Waking
