@@ -5,4 +5,5 @@ pub mod Harmless
 pub mod Answering
 pub mod Granting
 pub mod Filling
+pub mod Regranting
 pub mod Waking

@@ -27,7 +27,7 @@ use Rattle.wrong_boxes.specs.Wrong.{withTable, woken, Wakes, LeavesAlive
 use Rattle.cases.specs.Cards.{lifeRequest, compromiseRequest}
 use Rattle.cases.proofs.Cases.{opened}
 use Rattle.demands.proofs.Ladder.{served}
-use Rattle.wrong_boxes.proofs.Calling.{isByte, calling, callingOn, lent-on, accepted-is, lent-life, life-accepted}
+use Rattle.wrong_boxes.proofs.Calling.{isByte, bytes-test, calling, callingOn, lent-on, accepted-is, lent-life, life-accepted}
 
 -- ---- the last item of a call
 
@@ -167,7 +167,7 @@ next-left = withTable (λ due. ifb (eqb (stateAt (next .table) 0) 5) (woken due)
 
 lent-next : Lent next
 unfolding opened isByte next first-left withTable woken
-lent-next = lent-on (first-left .table) compromiseRequest 0 refl refl (lit< tt)
+lent-next = lent-on (first-left .table) compromiseRequest 0 (bytes-test (first-left .table) refl) refl (lit< tt)
 
 next-accepted : lowest 1 (refusalConditions next) ≡ 0
 unfolding opened next first-left withTable woken frameOf ofFrame refusalConditions lowest
