@@ -16,7 +16,7 @@ use Rattle.frame.specs.Frame.{Asked, continue}
 use Rattle.act.specs.Act.{Env, Did, envAt, carried, step, isFailed}
 use Rattle.answer.specs.Respond.{Answer}
 use Rattle.engine.specs.Batch.{Ran, answerTo, lastly, firstly, endsBatch, batch}
-use Rattle.demands.specs.Demand2.{Link, Due, planOf, answerOf, linkAt, Chain, none-left, stops, goes-on}
+use Rattle.demands.specs.Demand2.{Link, Due, planOf, answerFor, linkAt, Chain, none-left, stops, goes-on}
 use Rattle.demands.specs.Box.{Call}
 use Rattle.table.specs.Layout.{placeCount}
 
@@ -45,7 +45,7 @@ due-step l d = go (due (planOf l .tests)) refl
 pub record Chained (c : Call) (option i holder : ℕ) (t : List ℕ) (items : List Asked) (ran : Ran) : Type 0 where
   pub links : List Link
   pub chain : Chain c option i holder t items links (ran .table)
-  pub answers : map answerOf links ≡ ran .answers
+  pub answers : map answerFor links ≡ ran .answers
 
 -- a batch that ends here: the item failed, and the option is not Continue
 ends-failed : (option : ℕ) (did : Did) → endsBatch option did ≡ true → isFailed (did .outcome) ≡ true
@@ -71,7 +71,7 @@ module _ (c : Call) (option : ℕ) where
   ranFrom i holder t items = batch placeCount (c .clock) (c .strip) option i holder t items
 
   pub batch-chain : (items : List Asked) (i holder : ℕ) (t : List ℕ) → Chained c option i holder t items (ranFrom i holder t items)
-  unfolding batch answerOf
+  unfolding batch answerFor
   batch-chain [] i holder t = record { links = []; chain = none-left; answers = refl }
   batch-chain (asked ∷ later) i holder t =
       turn (step (envAt placeCount (c .clock) (c .strip) i) holder t asked) (step-due (envAt placeCount (c .clock) (c .strip) i) holder t asked)

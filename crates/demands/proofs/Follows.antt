@@ -4,7 +4,7 @@ use Prim.Native.Nat.{ℕ, _≤_}
 use native.Mathlib.Omega.{arith}
 use mathlib.Core.Path.{_≡_, refl, sym, _∙_}
 use mathlib.Core.Bool.{Bool, true, false}
-use mathlib.Core.List.{List, [], _∷_}
+use mathlib.Core.List.{List, [], _∷_, _++_}
 use Rattle.table.specs.Layout.{placeCount}
 use Rattle.table.specs.Records.{blank}
 use Rattle.engine.specs.Effects.{Effect}
@@ -18,10 +18,26 @@ use Rattle.demands.proofs.Runs.{blank-inv}
 -- ---- along a path
 
 -- the books are in order behind it
-path-order : {log events : List Event} {t v : List ℕ} → Path log t events v → InOrder log t → InOrder (onto events log) v
+pub path-order : {log events : List Event} {t v : List ℕ} → Path log t events v → InOrder log t → InOrder (onto events log) v
 unfolding onto
 path-order arrived o = o
 path-order (went ev u tame after rest) o = path-order rest after
+
+-- a path along events and then others leads through a table between them
+pub record Between (log : List Event) (t : List ℕ) (before later : List Event) (v : List ℕ) : Type 0 where
+  pub table : List ℕ
+  pub there : Path log t before table
+  pub on : Path (onto before log) table later v
+
+pub path-between : {log : List Event} {t v : List ℕ} (before later : List Event) → Path log t (before ++ later) v → Between log t before later v
+unfolding onto
+path-between {t = t} [] later p = record { table = t; there = arrived; on = p }
+path-between (_ ∷ before) later (went ev u tame after rest) = let b = path-between before later rest in record { table = b .table; there = went ev u tame after (b .there); on = b .on }
+
+pub onto-append : (before later log : List Event) → onto (before ++ later) log ≡ onto later (onto before log)
+unfolding onto
+onto-append [] later log = refl
+onto-append (ev ∷ before) later log = onto-append before later (ev ∷ log)
 
 -- x was issued, does not stand, and has so many units
 pub record Gone (x units : ℕ) (log : List Event) (t : List ℕ) : Type 0 where

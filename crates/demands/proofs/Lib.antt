@@ -1,4 +1,4 @@
--- Our box meets the demands, no box but ours meets the first two, and what the third gives for any box.
+-- Our box meets the demands, no box but ours meets the first two, and what the third gives for any box; what the demands are made of, worked out.
 -- Assumes nothing.
 pub mod Chains
 pub mod Ladder
@@ -13,3 +13,4 @@ pub mod Follows
 pub mod Meets3
 pub mod Serve
 pub mod Only
+pub mod Worked

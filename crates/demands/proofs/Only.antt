@@ -23,7 +23,7 @@ use Rattle.engine.specs.Effects.{Effect}
 use Rattle.engine.specs.Serving.{turnedAway, responseTo, answered}
 use Rattle.demands.specs.Box.{Call, Box, Lent}
 use Rattle.demands.specs.Demand1.{Demand1, Within}
-use Rattle.demands.specs.Demand2.{Demand2, Answered, Link, answerOf, linkAt, Chain, none-left, stops, goes-on}
+use Rattle.demands.specs.Demand2.{Demand2, Answered, Link, answerFor, linkAt, Chain, none-left, stops, goes-on}
 use Rattle.demands.specs.Demand3.{Demand3}
 use Rattle.demands.proofs.Chains.{due-step, ranFrom}
 use Rattle.demands.proofs.Ladder.{served, same-effect, served-number, Accepted, ranBy, Told, away, accepted, told}
@@ -50,10 +50,10 @@ module _ (c : Call) (option : ℕ) where
   turnOf i asked later x = ifb (endsBatch option x) (lastly (answerTo asked x) (x .table)) (firstly (answerTo asked x) (ranFrom c option (i + 1) (x .holder) (x .table) later))
 
   abbrev ranOf : List Link → List ℕ → Ran
-  ranOf links u = record { answers = map answerOf links; table = u }
+  ranOf links u = record { answers = map answerFor links; table = u }
 
   pub chain-one : {i holder : ℕ} {t u : List ℕ} {items : List Asked} {links : List Link} → Chain c option i holder t items links u → ranOf links u ≡ ranFrom c option i holder t items
-  unfolding batch answerOf
+  unfolding batch answerFor
   chain-one none-left = refl
   chain-one (stops {i} {holder} {t} {later} asked did d f o) =
       subst (λ (x : Did). ranOf (linkAt c i holder t asked did ∷ []) (did .table) ≡ turnOf i asked later x) (due-step (linkAt c i holder t asked did) d)
@@ -68,7 +68,7 @@ module _ (c : Call) (e : Effect) (a : Accepted c) (g : Answered c e) where
   same-frame : g .frame ≡ a .frame
   same-frame = some-is (sym (g .framed) ∙ ap frameIn (some-is (sym (g .reads) ∙ a .reads)) ∙ a .framed)
 
-  ran-is : _≡_ {A = Ran} (record { answers = map answerOf (g .links); table = g .reached }) (ranBy c a)
+  ran-is : _≡_ {A = Ran} (record { answers = map answerFor (g .links); table = g .reached }) (ranBy c a)
   unfolding running
   ran-is =
       chain-one c (optionOf (a .frame .header .option))

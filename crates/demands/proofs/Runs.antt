@@ -18,17 +18,17 @@ use Rattle.table.proofs.Places.{serial-is}
 use Rattle.table.proofs.Blank.{serial-blank}
 use Rattle.keeps.proofs.Keeps.{held-blank}
 use Rattle.frame.specs.Frame.{Asked, frameIn, optionOf}
-use Rattle.answer.specs.Respond.{Response}
+use Rattle.answer.specs.Respond.{Answer, Response}
 use Rattle.answer.specs.Read.{answersIn}
 use Rattle.answer.proofs.One.{response-back}
 use Rattle.engine.specs.Batch.{running}
 use Rattle.engine.specs.Effects.{Effect}
 use Rattle.engine.specs.Serving.{turnedAway, responseTo, answered}
 use Rattle.demands.specs.Box.{Call, Box, Lent}
-use Rattle.demands.specs.Log.{Event, itemsOf, answersOf, itemsAsked, paired, eventsOf, logged, issued, granted, limit}
+use Rattle.demands.specs.Log.{Event, orNoItems, orNoAnswers, itemsAsked, answersGiven, paired, eventsOf, logged, issued, granted, limit}
 use Rattle.demands.specs.Demand3.{Run, begins, calls}
 use Rattle.demands.proofs.Ladder.{served, Accepted, ranBy, Told, away, accepted, told}
-use Rattle.demands.proofs.Meets.{count-facts, ran-allowed, spelling, front-is}
+use Rattle.demands.proofs.Meets.{count-facts, ran-leaves, ran-allowed, spelling, front-is}
 use Rattle.demands.proofs.Logged.{Inv}
 use Rattle.demands.proofs.Paired.{paired-end, Travelled, stood, batch-travels}
 
@@ -40,19 +40,37 @@ unfolding message parse walk more firstOf isOne ifb _>>=_ _>>_
 no-message = refl
 
 -- a refused call has none
+no-answers : (c : Call) (k : ℕ) → answersGiven (turnedAway (c .table) (c .output) k) ≡ []
+unfolding orNoAnswers _>>=_
+no-answers c k = ap (λ (m : Option Items). orNoAnswers (m >>= answersIn)) no-message
+
 pub events-away : (c : Call) (k : ℕ) → eventsOf c (turnedAway (c .table) (c .output) k) ≡ []
-unfolding eventsOf answersOf _>>=_
-events-away c k = ap (λ (m : Option Items). paired 0 (itemsAsked c) (answersOf (m >>= answersIn))) no-message ∙ paired-end 0 (itemsAsked c)
+unfolding eventsOf
+events-away c k = ap (λ (answers : List Answer). paired 0 (itemsAsked c) answers) (no-answers c k) ∙ paired-end 0 (itemsAsked c)
+
+pub asked-away : (c : Call) (k : ℕ) → length (answersGiven (turnedAway (c .table) (c .output) k)) ≤ length (itemsAsked c)
+asked-away c k = subst (λ (answers : List Answer). length answers ≤ length (itemsAsked c)) (sym (no-answers c k)) (omega arith)
 
 module _ (c : Call) (lent : Lent c) (a : Accepted c) where
   -- an accepted one has its items with their answers
-  events-accepted : eventsOf c (answered (c .clock) (c .output) (ranBy c a)) ≡ paired 0 (a .frame .items) (ranBy c a .answers)
-  unfolding eventsOf answered answersOf itemsOf _>>=_
-  events-accepted =
+  items-are : itemsAsked c ≡ a .frame .items
+  unfolding orNoItems _>>=_
+  items-are = ap (λ (m : Option Items). orNoItems (m >>= frameIn)) (a .reads) ∙ ap orNoItems (a .framed)
+
+  answers-are : answersGiven (answered (c .clock) (c .output) (ranBy c a)) ≡ ranBy c a .answers
+  unfolding answered orNoAnswers _>>=_
+  answers-are =
       let r : Response = responseTo (c .clock) (ranBy c a) in
-      let i : itemsAsked c ≡ a .frame .items = ap (λ (m : Option Items). itemsOf (m >>= frameIn)) (a .reads) ∙ ap itemsOf (a .framed) in
       let g : (message (take (length (spelling c lent a)) (over (spelling c lent a) (c .output))) >>= answersIn) ≡ some r = ap (λ (s : List ℕ). message s >>= answersIn) (front-is c lent a) ∙ response-back r (ran-allowed c lent a) in
-      ap (λ (m : Option Response). paired 0 (itemsAsked c) (answersOf m)) g ∙ ap (λ (is : List Asked). paired 0 is (ranBy c a .answers)) i
+      ap orNoAnswers g
+
+  events-accepted : eventsOf c (answered (c .clock) (c .output) (ranBy c a)) ≡ paired 0 (a .frame .items) (ranBy c a .answers)
+  unfolding eventsOf
+  events-accepted = ap (paired 0 (itemsAsked c)) answers-are ∙ ap (λ (is : List Asked). paired 0 is (ranBy c a .answers)) items-are
+
+  -- no more answers than items
+  asked-accepted : length (answersGiven (answered (c .clock) (c .output) (ranBy c a))) ≤ length (itemsAsked c)
+  asked-accepted = omega (arith, ap (λ (is : List Asked). length is) items-are, ap (λ (answers : List Answer). length answers) answers-are, ran-leaves c lent a .few)
 
   -- the strip has its part for every item
   strip-fits : materialSize * (0 + length (a .frame .items)) ≤ length (c .strip)
@@ -84,7 +102,15 @@ unfolding answered
 told-travels c e lent (away k) log inv = subst (λ (events : List Event). Travelled log (c .table) events (c .table)) (sym (events-away c (suc k))) (stood inv)
 told-travels c e lent (accepted a) log inv = accepted-travels c lent a log inv
 
+told-asked : (c : Call) (e : Effect) → Lent c → Told c e → length (answersGiven e) ≤ length (itemsAsked c)
+told-asked c e lent (away k) = asked-away c (suc k)
+told-asked c e lent (accepted a) = asked-accepted c lent a
+
 module _ (B : Box) (is : (c : Call) (e : Effect) → Lent c → B c e → e ≡ served c) where
+  -- every answer has its item
+  pub call-asked : (c : Call) (e : Effect) → Lent c → B c e → length (answersGiven e) ≤ length (itemsAsked c)
+  call-asked c e lent b = subst (λ (x : Effect). length (answersGiven x) ≤ length (itemsAsked c)) (sym (is c e lent b)) (told-asked c (served c) lent (told c))
+
   -- each call goes along its events
   pub call-travels : (c : Call) (e : Effect) → Lent c → B c e → (log : List Event) (t : List ℕ) → c .table ≡ t → Inv placeCount log t → Travelled log t (eventsOf c e) (e .table)
   call-travels c e lent b log t same inv =

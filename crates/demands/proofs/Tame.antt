@@ -19,6 +19,7 @@ use Rattle.table.specs.Records.{placeAt, serialAt, isFree, lastSerial}
 use Rattle.search.specs.Search.{find, newPlace, isDestroyed}
 use Rattle.table.proofs.Places.{serial-is, state-is}
 use Rattle.search.proofs.Finds.{find-below, new-at}
+use Rattle.soundness.specs.Checked.{isAt}
 use Rattle.rules.specs.Numbers.{preActive}
 use Rattle.changes.specs.Records.{newRecord, heirOf, linkedTo, inState, movedTo, withCount}
 use Rattle.rules.proofs.States.{three}
@@ -35,7 +36,7 @@ use Rattle.act.proofs.Went.{Moving, activating, revoking, destroying, Kind, fai
 use Rattle.engine.specs.Batch.{answerTo}
 use Rattle.engine.proofs.Commands.{Commanded, to-activate, to-revoke, to-destroy, commanded}
 use Rattle.demands.specs.Log.{Event, issuedBy}
-use Rattle.demands.specs.Demand3.{namedBy, movesState, codeOf, isAt, listed, Tame}
+use Rattle.demands.specs.Demand3.{namedBy, isUnderstood, movesState, codeOf, listed, Tame}
 use Rattle.demands.proofs.Counted.{create-allowed, no-issue, move-issues, Counts, kind-counts}
 
 -- ---- the listed transitions
@@ -53,15 +54,15 @@ move-listed (destroys-compromised o s n) = rw (o, s, n)
 
 is-at : (i k : ℕ) (f : Found) → f ≡ At k → i ≡ k → isAt i f ≡ true
 unfolding isAt
-is-at i k f e q = ap (isAt i) e ∙ eq-eqb i k q
+is-at i k f e q = ap (isAt i) e ∙ eq-eqb k i (sym q)
 
 not-at : (i k : ℕ) (f : Found) → f ≡ At k → (i ≡ k → ⊥) → isAt i f ≡ false
 unfolding isAt
-not-at i k f e q = ap (isAt i) e ∙ ne-eqb i k q
+not-at i k f e q = ap (isAt i) e ∙ ne-eqb k i (λ z. q (sym z))
 
 at-is : (i k : ℕ) (f : Found) → f ≡ At k → isAt i f ≡ true → i ≡ k
 unfolding isAt
-at-is i k f e h = eqb-true i k (sym (ap (isAt i) e) ∙ h)
+at-is i k f e h = sym (eqb-true k i (sym (ap (isAt i) e) ∙ h))
 
 and-false : (a b : Bool) → b ≡ false → (a && b) ≡ false
 and-false true b h = h
@@ -246,6 +247,22 @@ kind-failed env holder t c did (grants target amount k e g) h = absurd (false≢
 kind-failed env holder t c did (moves v k next e g) h = absurd (false≢true h)
 kind-failed env holder t c did (shows target k e) h = refl
 
+-- what was not understood fails
+moving-understood : {c : Command} {operation code : ℕ} {target : Target} → Moving c operation code target → isUnderstood c ≡ true
+unfolding isUnderstood
+moving-understood activating = refl
+moving-understood revoking = refl
+moving-understood destroying = refl
+
+kind-understood : (env : Env) (holder : ℕ) (t : List ℕ) (c : Command) (did : Did) → Kind env holder t c did → isUnderstood c ≡ false → isFailed (did .outcome) ≡ true
+unfolding isUnderstood isFailed
+kind-understood env holder t c did (fails reason) h = refl
+kind-understood env holder t c did (creates wanted room) h = absurd (true≢false h)
+kind-understood env holder t c did (rekeys target k e alive single room) h = absurd (true≢false h)
+kind-understood env holder t c did (grants target amount k e g) h = absurd (true≢false h)
+kind-understood env holder t c did (moves v k next e g) h = absurd (true≢false (sym (moving-understood v) ∙ h))
+kind-understood env holder t c did (shows target k e) h = absurd (true≢false h)
+
 -- ---- one item, as an event
 
 -- an item with its answer
@@ -265,6 +282,9 @@ module _ (clock : ℕ) (strip : List ℕ) (k holder : ℕ) (t : List ℕ) (asked
 
   pub step-tame : Held placeCount t → Bytes (own .fresh) → Tame (eventOf holder asked did) t (did .table)
   step-tame held fresh-bytes = record {
+    operation = refl;
+    id = refl;
+    understood = kind-understood own holder t c did went;
     failed = kind-failed own holder t c did went;
     others = λ i low a b. at i low .others a b;
     kept = λ i low b. serial-is placeCount (did .table) i ∙ at i low .kept b ∙ sym (serial-is placeCount t i);

@@ -29,9 +29,9 @@ pub record Lent (c : Call) : Type 0 where
   pub clock : c .clock < 2 ^ 64
 
 -- the number of places of a table
-abbrev pub placesIn : List ℕ → ℕ
-placesIn t = placeCount
+abbrev pub placesOf : List ℕ → ℕ
+placesOf t = placeCount
 
 -- the record at place i of a table
 abbrev pub recordIn : List ℕ → ℕ → Record
-recordIn t i = placeAt (placesIn t) t i
+recordIn t i = placeAt (placesOf t) t i

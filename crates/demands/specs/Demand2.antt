@@ -22,7 +22,7 @@ use Rattle.act.specs.Act.{Env, Did, Plan, envAt, plan, isFailed}
 use Rattle.answer.specs.Respond.{Answer, Response, respond}
 use Rattle.answer.specs.Read.{answersIn, allowed}
 use Rattle.engine.specs.Effects.{Effect}
-use Rattle.demands.specs.Box.{Call, Box, Lent, placesIn}
+use Rattle.demands.specs.Box.{Call, Box, Lent, placesOf}
 
 -- ---- (a) the refusals
 
@@ -40,7 +40,7 @@ unfoldable pub refusalConditions : Call → List Bool
 refusalConditions c =
     ltb (length (c .output)) 4824
     ∷ not (eqb (length (c .strip)) 512)
-    ∷ not (sound (placesIn (c .table)) (c .table))
+    ∷ not (sound (placesOf (c .table)) (c .table))
     ∷ (eqb (length (c .request)) 0 || ltb 4096 (length (c .request)))
     ∷ not (isSome (message (c .request)))
     ∷ not (isSome (frameOf c))
@@ -85,12 +85,12 @@ pub record Due (l : Link) : Type 0 where
   pub fails : (reason : Reason) → due (planOf l .tests) ≡ some reason → l .did ≡ record { outcome = Failed reason; table = l .table; holder = 0 }
 
 -- the answer that an item gets: operation and ID as given
-unfoldable pub answerOf : Link → Answer
-answerOf l = record { operation = l .asked .operation; id = l .asked .id; outcome = l .did .outcome }
+unfoldable pub answerFor : Link → Answer
+answerFor l = record { operation = l .asked .operation; id = l .asked .id; outcome = l .did .outcome }
 
 -- what item i of a call meets, with a placeholder and a table
 abbrev pub linkAt : Call → ℕ → ℕ → List ℕ → Asked → Did → Link
-linkAt c i holder t asked did = record { env = envAt (placesIn t) (counted c) (c .strip) i; holder = holder; table = t; asked = asked; did = did }
+linkAt c i holder t asked did = record { env = envAt (placesOf t) (counted c) (c .strip) i; holder = holder; table = t; asked = asked; did = did }
 
 -- (c), (f): the links of a batch under an option, from item i on, with a placeholder and a table: one link for each answered item and none more.
 -- The first item is answered; each later one if the option is Continue or the one before it succeeded
@@ -119,7 +119,7 @@ settled option start links reached = reached
 
 -- the answers that are given under an option: one for each link, in order
 abbrev pub answersFor : ℕ → List Link → List Answer
-answersFor option links = map answerOf links
+answersFor option links = map answerFor links
 
 -- "Time Stamp (420092) = the clock", and these answers
 abbrev pub meant : Call → ℕ → List Link → Response

@@ -5,22 +5,21 @@ use Prim.Native.Nat.{ℕ, _+_, _≤_, _<_}
 use mathlib.Core.Path.{_≡_}
 use mathlib.Core.Bool.{Bool, true, false, not, _&&_, _||_}
 use mathlib.Core.List.{List, [], _∷_}
-use lib.ListN.{replicate}
+use lib.ListN.{length, replicate}
 use lib.Dec.{eqb}
-use Rattle.search.specs.declared.Found.{Found}
-use Rattle.search.specs.declared.Found.the-variants.{At, Nothing}
 use Rattle.table.specs.Layout.{placeCount, materialSize}
 use Rattle.table.specs.Records.{serialAt, isFree, blank}
 use Rattle.search.specs.Search.{find, newPlace, isDestroyed}
 use Rattle.soundness.specs.Sound.{sound}
+use Rattle.soundness.specs.Checked.{isAt}
 use Rattle.rules.specs.Numbers.{activate, revoke, destroy, preActive}
 use Rattle.rules.specs.States.{isCompromise}
 use Rattle.payload.specs.declared.Command.{Command}
 use Rattle.payload.specs.declared.Command.the-variants.{Unsupported, Invalid, Create, Rekey, GetUsageAllocation, Activate, Revoke, Destroy, GetAttributes}
 use Rattle.act.specs.Act.{sought, isFailed}
 use Rattle.engine.specs.Effects.{Effect}
-use Rattle.demands.specs.Box.{Call, Box, Lent, placesIn, recordIn}
-use Rattle.demands.specs.Log.{Event, commandOf, eventsOf, logged, issuedBy, issued, grantBy, granted, limit}
+use Rattle.demands.specs.Box.{Call, Box, Lent, placesOf, recordIn}
+use Rattle.demands.specs.Log.{Event, commandOf, itemsAsked, answersGiven, eventsOf, logged, issuedBy, issued, grantBy, granted, limit}
 
 -- ---- runs
 
@@ -31,7 +30,7 @@ pub data Run (B : Box) : List Event → List ℕ → Type 0 where
 
 -- the record with serial x stands at place i
 pub record Stands (x : ℕ) (t : List ℕ) (i : ℕ) : Type 0 where
-  pub below : i < placesIn t
+  pub below : i < placesOf t
   pub serial : serialAt t i ≡ x
 
 -- ---- what one item names, takes and moves
@@ -47,6 +46,18 @@ namedBy holder (Activate target) = sought holder target
 namedBy holder (Revoke target code) = sought holder target
 namedBy holder (Destroy target) = sought holder target
 namedBy holder (GetAttributes target) = sought holder target
+
+-- whether the operation of an item is one that there is, and its payload reads as that of its operation
+unfoldable pub isUnderstood : Command → Bool
+isUnderstood Unsupported = false
+isUnderstood Invalid = false
+isUnderstood (Create wanted) = true
+isUnderstood (Rekey target) = true
+isUnderstood (GetUsageAllocation target amount) = true
+isUnderstood (Activate target) = true
+isUnderstood (Revoke target code) = true
+isUnderstood (Destroy target) = true
+isUnderstood (GetAttributes target) = true
 
 -- whether a command is there to move a state
 unfoldable pub movesState : Command → Bool
@@ -72,17 +83,13 @@ codeOf (Revoke target code) = code
 codeOf (Destroy target) = 0
 codeOf (GetAttributes target) = 0
 
-unfoldable pub isAt : ℕ → Found → Bool
-isAt i (At j) = eqb i j
-isAt i Nothing = false
-
 -- the record at place i is the one that the item names
 abbrev pub names : Event → List ℕ → ℕ → Bool
-names ev t i = isAt i (find (placesIn t) t (namedBy (ev .held) (commandOf ev)))
+names ev t i = isAt i (find (placesOf t) t (namedBy (ev .held) (commandOf ev)))
 
 -- the item takes place i: it issued an identifier, and that is where 01 puts a new object
 abbrev pub takes : Event → List ℕ → ℕ → Bool
-takes ev t i = not (eqb (issuedBy (commandOf ev) (ev .answer .outcome)) 0) && isAt i (newPlace (placesIn t) t)
+takes ev t i = not (eqb (issuedBy (commandOf ev) (ev .answer .outcome)) 0) && isAt i (newPlace (placesOf t) t)
 
 -- the state in which an object begins that the item issued: "Starts Pre-Active"
 abbrev pub bornState : Event → List ℕ → ℕ
@@ -115,18 +122,23 @@ pub record Taken (ev : Event) (t u : List ℕ) (i : ℕ) : Type 0 where
   pub state : recordIn u i .state ≡ bornState ev t
 
 pub record Tame (ev : Event) (t u : List ℕ) : Type 0 where
+  -- the answer is the item's own, so that units and identifiers are counted as they were asked for: "Operation as given, the ID if given"
+  pub operation : ev .answer .operation ≡ ev .asked .operation
+  pub id : ev .answer .id ≡ ev .asked .id
+  -- what was not understood is not answered with success, so that no units and no identifiers go past the log
+  pub understood : isUnderstood (commandOf ev) ≡ false → isFailed (ev .answer .outcome) ≡ true
   -- "A failed item changes nothing in the table"
   pub failed : isFailed (ev .answer .outcome) ≡ true → u ≡ t
   -- "Records neither addressed, newly linked nor taken over stay": what an item newly links is the record that it names
-  pub others : (i : ℕ) → i < placesIn t → names ev t i ≡ false → takes ev t i ≡ false → recordIn u i ≡ recordIn t i
+  pub others : (i : ℕ) → i < placesOf t → names ev t i ≡ false → takes ev t i ≡ false → recordIn u i ≡ recordIn t i
   -- a record leaves its place only when a newer object takes it
-  pub kept : (i : ℕ) → i < placesIn t → takes ev t i ≡ false → serialAt u i ≡ serialAt t i
+  pub kept : (i : ℕ) → i < placesOf t → takes ev t i ≡ false → serialAt u i ≡ serialAt t i
   -- "no state changes but by the listed transitions"
-  pub moves : (i : ℕ) → i < placesIn t → takes ev t i ≡ false → (recordIn u i .state ≡ recordIn t i .state → ⊥) → Moved ev t u i
+  pub moves : (i : ℕ) → i < placesOf t → takes ev t i ≡ false → (recordIn u i .state ≡ recordIn t i .state → ⊥) → Moved ev t u i
   -- and what is answered as activated, revoked or destroyed is so: "stay dead" begins with being dead
-  pub obeys : (i : ℕ) → i < placesIn t → names ev t i ≡ true → isFailed (ev .answer .outcome) ≡ false → movesState (commandOf ev) ≡ true → listedFor ev t u i ≡ true
+  pub obeys : (i : ℕ) → i < placesOf t → names ev t i ≡ true → isFailed (ev .answer .outcome) ≡ false → movesState (commandOf ev) ≡ true → listedFor ev t u i ≡ true
   -- "the lowest free place, or if none is free the lowest place in state 5 or 6"
-  pub taken : (i : ℕ) → i < placesIn t → takes ev t i ≡ true → Taken ev t u i
+  pub taken : (i : ℕ) → i < placesOf t → takes ev t i ≡ true → Taken ev t u i
   -- an identifier that is issued has its record
   pub stands : (issuedBy (commandOf ev) (ev .answer .outcome) ≡ 0 → ⊥) → (i : ℕ) × Stands (issuedBy (commandOf ev) (ev .answer .outcome)) u i
   -- "Once a newer object has taken the place, that identifier is granted nothing more": what does not stand is granted nothing
@@ -146,9 +158,9 @@ pub record InOrder (log : List Event) (t : List ℕ) : Type 0 where
   -- what stands was issued
   pub known : (x i : ℕ) → (x ≡ 0 → ⊥) → Stands x t i → issued x log ≡ 1
   -- "a record in a destroyed state holds no key byte"
-  pub wiped : (i : ℕ) → i < placesIn t → isDestroyed (recordIn t i .state) ≡ true → recordIn t i .material ≡ replicate materialSize 0
+  pub wiped : (i : ℕ) → i < placesOf t → isDestroyed (recordIn t i .state) ≡ true → recordIn t i .material ≡ replicate materialSize 0
   -- the table stays sound, so that no call of a run is refused with 3
-  pub stays-sound : sound (placesIn t) t ≡ true
+  pub stays-sound : sound (placesOf t) t ≡ true
 
 -- ---- the whole
 
@@ -160,5 +172,7 @@ pub data Path : List Event → List ℕ → List Event → List ℕ → Type 0 w
 pub record Demand3 (B : Box) : Type 0 where
   -- "any run of requests": each call goes a path along what was asked and answered, read from its bytes
   pub path : (log : List Event) (t : List ℕ) → Run B log t → (c : Call) (e : Effect) → c .table ≡ t → Lent c → B c e → Path log t (eventsOf c e) (e .table)
+  -- every answer has its item
+  pub asked : (log : List Event) (t : List ℕ) → Run B log t → (c : Call) (e : Effect) → c .table ≡ t → Lent c → B c e → length (answersGiven e) ≤ length (itemsAsked c)
   -- "accepted or refused": a call that is refused, whatever bytes it leaves, leaves the table
   pub refused : (log : List Event) (t : List ℕ) → Run B log t → (c : Call) (e : Effect) → c .table ≡ t → Lent c → B c e → (e .number ≡ 0 → ⊥) → e .table ≡ t

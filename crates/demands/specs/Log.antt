@@ -47,20 +47,20 @@ paired held [] answers = []
 paired held (asked ∷ items) [] = []
 paired held (asked ∷ items) (a ∷ answers) = record { held = held; asked = asked; answer = a } ∷ paired (heldAfter held a (a .outcome)) items answers
 
-unfoldable pub itemsOf : Option Frame → List Asked
-itemsOf none = []
-itemsOf (some f) = f .items
+unfoldable pub orNoItems : Option Frame → List Asked
+orNoItems none = []
+orNoItems (some f) = f .items
 
-unfoldable pub answersOf : Option Response → List Answer
-answersOf none = []
-answersOf (some r) = r .answers
+unfoldable pub orNoAnswers : Option Response → List Answer
+orNoAnswers none = []
+orNoAnswers (some r) = r .answers
 
 -- the items of a request's bytes, and the answers read back from the first bytes of the output, `length` many
 abbrev pub itemsAsked : Call → List Asked
-itemsAsked c = itemsOf (message (c .request) >>= frameIn)
+itemsAsked c = orNoItems (message (c .request) >>= frameIn)
 
 abbrev pub answersGiven : Effect → List Answer
-answersGiven e = answersOf (message (take (e .length) (e .output)) >>= answersIn)
+answersGiven e = orNoAnswers (message (take (e .length) (e .output)) >>= answersIn)
 
 -- the events of a call, in order; a refused call has length 0, and bytes that are no response have no answers, so there are none
 unfoldable pub eventsOf : Call → Effect → List Event

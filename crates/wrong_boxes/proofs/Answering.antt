@@ -17,7 +17,7 @@ use Rattle.engine.specs.Effects.{Effect}
 use Rattle.engine.specs.Serving.{turnedAway}
 use Rattle.demands.specs.Box.{Call, Lent}
 use Rattle.demands.specs.Demand2.{Demand2, Answered, frameOf, refusalConditions, lowest}
-use Rattle.wrong_boxes.specs.Wrong.{orRefused, withTable, responding, ranUnder, Leaves, RefusesAll, DoesNothing, LeavesTable, allFailed, FailsAll, OneAnswer, AnswersFirst, RunsPastStop, withMaterialOf, SharesMaterial}
+use Rattle.wrong_boxes.specs.Wrong.{orRefused, withTable, responding, ranUnder, Leaves, RefusesAll, DoesNothing, LeavesTable, allFailed, FailsAll, SameAnswer, AnswersFirst, RunsPastStop, withMaterialOf, SharesMaterial}
 use Rattle.cases.specs.Cards.{lifeRequest}
 use Rattle.cases.proofs.Cases.{opened}
 use Rattle.demands.proofs.Ladder.{served, served-number}
@@ -85,8 +85,8 @@ fails-all d =
     zero-one (sym blank-serial ∙ ap (λ (t : List ℕ). serialAt t 0) (q .table) ∙ life-serial)
 
 -- one answer for all has the wrong clock for one of two calls
-pub one-answer : (bytes : List ℕ) (tableOf : Call → List ℕ) → Demand2 (OneAnswer bytes tableOf) → ⊥
-one-answer bytes tableOf d = zero-one (sym (clock-of 0 a0) ∙ ap clockIn same ∙ clock-of 1 a1)
+pub same-answer : (bytes : List ℕ) (tableOf : Call → List ℕ) → Demand2 (SameAnswer bytes tableOf) → ⊥
+same-answer bytes tableOf d = zero-one (sym (clock-of 0 a0) ∙ ap clockIn same ∙ clock-of 1 a1)
   where
     made : Call → Effect
     made c = record { number = 0; length = length bytes; table = tableOf c; output = over bytes (c .output) }

@@ -37,11 +37,11 @@ callingOn t request clock = record { request = request; table = t; strip = count
 abbrev pub calling : List ℕ → ℕ → Call
 calling request clock = callingOn (blank placeCount) request clock
 
-pub lent-on : (t request : List ℕ) (clock : ℕ) → all isByte t ≡ true → all isByte request ≡ true → clock < 2 ^ 64 → Lent (callingOn t request clock)
+pub lent-on : (t request : List ℕ) (clock : ℕ) → Bytes t → all isByte request ≡ true → clock < 2 ^ 64 → Lent (callingOn t request clock)
 unfolding opened isByte
 lent-on t request clock b r h = record {
   request = bytes-test request r;
-  table = bytes-test t b;
+  table = b;
   strip = bytes-test (countedFrom 0 512) refl;
   output = bytes-test (replicate 4824 0) refl;
   clock = h;
@@ -49,7 +49,7 @@ lent-on t request clock b r h = record {
 
 pub lent-blank : (request : List ℕ) (clock : ℕ) → all isByte request ≡ true → clock < 2 ^ 64 → Lent (calling request clock)
 unfolding opened isByte
-lent-blank request clock r h = lent-on (blank placeCount) request clock refl r h
+lent-blank request clock r h = lent-on (blank placeCount) request clock (bytes-test (blank placeCount) refl) r h
 
 -- where no refusal is due, each box does what it does where a request is accepted
 pub accepted-is : (c : Call) (e : Effect) → lowest 1 (refusalConditions c) ≡ 0 → e ≡ orRefused c e

@@ -4,26 +4,27 @@ use Prim.Native.Nat.{ℕ, _+_}
 use native.Mathlib.Omega.{arith}
 use mathlib.Core.Path.{_≡_, refl, sym, ap, subst, _∙_}
 use mathlib.Core.Bool.{Bool, true, false, not, true≢false}
-use mathlib.Core.List.{List, [], _∷_}
+use mathlib.Core.List.{List, [], _∷_, _++_}
 use lib.Dec.{eqb, lit<}
 use borrow.Author.Tests.{eq-eqb}
 use Rattle.octets.proofs.Bools.{and-l}
 use Rattle.table.specs.Layout.{placeCount}
 use Rattle.table.specs.Records.{placeAt, serialAt}
 use Rattle.search.specs.Search.{newPlace}
+use Rattle.soundness.specs.Checked.{isAt}
 use Rattle.soundness.proofs.SoundIs.{sound-is}
 use Rattle.payload.specs.declared.Command.{Command}
 use Rattle.payload.specs.declared.Command.the-variants.{Unsupported, Invalid, Create, Rekey, GetUsageAllocation, Activate, Revoke, Destroy, GetAttributes}
 use Rattle.act.specs.declared.Outcome.{Outcome}
 use Rattle.engine.specs.Effects.{Effect}
 use Rattle.demands.specs.Box.{Call, Box}
-use Rattle.demands.specs.Log.{Event, commandOf, heldAfter, paired, itemsOf, answersOf, eventsOf, onto, logged, issuedBy, issued, grantBy, granted, limitBy, limit}
-use Rattle.demands.specs.Demand3.{begins, calls, Stands, isAt, takes, Tame, InOrder, Path, went, Demand3}
-use Rattle.wrong_boxes.specs.Wrong.{withTable, refilled, InventsCount, GrantsTaken}
+use Rattle.demands.specs.Log.{Event, commandOf, heldAfter, paired, orNoItems, orNoAnswers, eventsOf, onto, logged, issuedBy, issued, grantBy, granted, limitBy, limit}
+use Rattle.demands.specs.Demand3.{begins, calls, Stands, takes, Tame, InOrder, Path, went, Demand3}
+use Rattle.wrong_boxes.specs.Wrong.{withTable, refilled, InventsCount, TakesFrom, GrantsTaken}
 use Rattle.cases.proofs.Cases.{opened}
 use Rattle.demands.proofs.Ladder.{served}
 use Rattle.demands.proofs.Logged.{granted-more, issued-now, issued-before}
-use Rattle.demands.proofs.Follows.{Gone, path-gone, in-order}
+use Rattle.demands.proofs.Follows.{path-order, Between, path-between, onto-append, Gone, path-gone, in-order}
 use Rattle.wrong_boxes.proofs.Calling.{accepted-is, grantCall, lent-grant, grant-accepted}
 
 -- ---- an invented usage count
@@ -46,7 +47,7 @@ sumsOf c e = sums (logged c e []) (e .table)
 
 -- 60 and 40 are granted of 100, and the count says 100
 two-hundred : sumsOf grantCall invented ≡ record { serial = 1; spent = 200; begun = 100 }
-unfolding opened invented withTable refilled sumsOf sums logged onto eventsOf paired heldAfter itemsOf answersOf granted grantBy limit limitBy issuedBy
+unfolding opened invented withTable refilled sumsOf sums logged onto eventsOf paired heldAfter orNoItems orNoAnswers granted grantBy limit limitBy issuedBy
 two-hundred = refl
 
 pub invents-count : Demand3 InventsCount → ⊥
@@ -111,8 +112,18 @@ path-taken log events t v ev x i before (went _ u tame after rest) z s taken = p
 -- no box that grants units in such a batch meets demand 3
 pub grants-taken : (B : Box) → GrantsTaken B → Demand3 B → ⊥
 unfolding logged
-grants-taken B g d =
-    g .more (subst (λ (events : List Event). granted (g .x) (onto events (g .log)) ≡ granted (g .x) (g .log)) (sym (g .events-are))
-    (path-taken (g .log) (g .later) (g .t) (g .e .table) (g .taker) (g .x) (g .i) (in-order B d (g .run))
-    (subst (λ (events : List Event). Path (g .log) (g .t) events (g .e .table)) (g .events-are) (d .path (g .log) (g .t) (g .run) (g .c) (g .e) (g .same) (g .lent) (g .left)))
-    (g .known) (g .stood) (g .taken)))
+grants-taken B g d = g .more (ap (λ (events : List Event). granted (g .x) (onto events (g .log))) (g .events-are) ∙ ap (granted (g .x)) (onto-append (g .before) (g .taker ∷ g .later) (g .log)) ∙ same-units)
+  where
+    path : Path (g .log) (g .t) (g .before ++ (g .taker ∷ g .later)) (g .e .table)
+    path = subst (λ (events : List Event). Path (g .log) (g .t) events (g .e .table)) (g .events-are) (d .path (g .log) (g .t) (g .run) (g .c) (g .e) (g .same) (g .lent) (g .left))
+
+    between : Between (g .log) (g .t) (g .before) (g .taker ∷ g .later) (g .e .table)
+    between = path-between (g .before) (g .taker ∷ g .later) path
+
+    from : TakesFrom (g .x) (g .taker) (between .table)
+    from = g .taken (between .table) (between .there)
+
+    same-units : granted (g .x) (onto (g .taker ∷ g .later) (onto (g .before) (g .log))) ≡ granted (g .x) (onto (g .before) (g .log))
+    same-units =
+        path-taken (onto (g .before) (g .log)) (g .later) (between .table) (g .e .table) (g .taker) (g .x) (from .place)
+        (path-order (between .there) (in-order B d (g .run))) (between .on) (g .known) (from .stood) (from .taken)

@@ -4,6 +4,7 @@ use Prim.Native.Nat.{ℕ, _+_, _≤_, _<_}
 use native.Mathlib.Omega.{arith}
 use mathlib.Core.Path.{_≡_, refl, sym, ap, subst, _∙_}
 use mathlib.Core.List.{List, []}
+use lib.ListN.{length}
 use borrow.Author.Tests.{eqb-true, eqb-false}
 use Rattle.octets.proofs.If.{on-if}
 use Rattle.engine.specs.Effects.{Effect}
@@ -11,12 +12,12 @@ use Rattle.engine.specs.Serving.{turnedAway}
 use Rattle.demands.specs.Box.{Call, Box, Lent}
 use Rattle.demands.specs.Demand1.{Demand1, Untouched, Within, refusals}
 use Rattle.demands.specs.Demand2.{refusalConditions, lowest}
-use Rattle.demands.specs.Log.{Event, eventsOf}
+use Rattle.demands.specs.Log.{Event, itemsAsked, answersGiven, eventsOf}
 use Rattle.demands.specs.Demand3.{Path, arrived, Demand3}
 use Rattle.wrong_boxes.specs.Wrong.{orRefused, withTable, Leaves, RefusesAll, DoesNothing}
 use Rattle.demands.proofs.Ladder.{served, served-number, lowest-most}
 use Rattle.demands.proofs.Meets.{meets-1}
-use Rattle.demands.proofs.Runs.{events-away}
+use Rattle.demands.proofs.Runs.{events-away, asked-away}
 
 -- ---- demand 3
 
@@ -27,6 +28,9 @@ still-meets-3 B still = record {
       let p = still c e b in
       subst (λ (x : Effect). Path log t (eventsOf c x) (x .table)) (sym (p .1))
       (subst (λ (events : List Event). Path log t events (c .table)) (sym (events-away c (p .0))) (subst (λ (u : List ℕ). Path log t [] u) (sym same) arrived));
+  asked = λ log t r c e same lent b.
+      let p = still c e b in
+      subst (λ (x : Effect). length (answersGiven x) ≤ length (itemsAsked c)) (sym (p .1)) (asked-away c (p .0));
   refused = λ log t r c e same lent b h. ap (λ (x : Effect). x .table) (still c e b .1) ∙ same;
 }
 

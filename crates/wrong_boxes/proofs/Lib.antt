@@ -4,4 +4,6 @@ pub mod Calling
 pub mod Harmless
 pub mod Answering
 pub mod Granting
+pub mod Filling
+pub mod Regranting
 pub mod Waking

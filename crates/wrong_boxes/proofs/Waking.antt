@@ -13,6 +13,7 @@ use Rattle.table.specs.Layout.{placeCount}
 use Rattle.table.specs.Records.{serialAt, stateAt, blank}
 use Rattle.search.specs.Search.{find}
 use Rattle.search.proofs.Finds.{find-is}
+use Rattle.soundness.specs.Checked.{isAt}
 use Rattle.rules.specs.Numbers.{revoke, destroy}
 use Rattle.ttlv.specs.Items.{nil}
 use Rattle.act.specs.declared.Outcome.the-variants.{Done}
@@ -20,13 +21,13 @@ use Rattle.act.specs.Act.{isFailed}
 use Rattle.engine.specs.Effects.{Effect}
 use Rattle.demands.specs.Box.{Call, Lent, recordIn}
 use Rattle.demands.specs.Demand2.{frameOf, ofFrame, refusalConditions, lowest}
-use Rattle.demands.specs.Log.{Event, commandOf, heldAfter, paired, itemsOf, answersOf, eventsOf, logged, issuedBy}
-use Rattle.demands.specs.Demand3.{begins, calls, namedBy, movesState, codeOf, isAt, takes, listed, Tame, Path, arrived, went, Demand3}
+use Rattle.demands.specs.Log.{Event, commandOf, heldAfter, paired, orNoItems, orNoAnswers, eventsOf, logged, issuedBy}
+use Rattle.demands.specs.Demand3.{begins, calls, namedBy, movesState, codeOf, takes, listed, Tame, Path, arrived, went, Demand3}
 use Rattle.wrong_boxes.specs.Wrong.{withTable, woken, Wakes, LeavesAlive}
 use Rattle.cases.specs.Cards.{lifeRequest, compromiseRequest}
 use Rattle.cases.proofs.Cases.{opened}
 use Rattle.demands.proofs.Ladder.{served}
-use Rattle.wrong_boxes.proofs.Calling.{isByte, calling, callingOn, lent-on, accepted-is, lent-life, life-accepted}
+use Rattle.wrong_boxes.proofs.Calling.{isByte, bytes-test, calling, callingOn, lent-on, accepted-is, lent-life, life-accepted}
 
 -- ---- the last item of a call
 
@@ -144,7 +145,7 @@ alive : Effect
 alive = withTable (λ due. ifb (eqb (stateAt due 0) 5) (woken due) due) (served life)
 
 alive-seen : seenOn life alive ≡ wakingBy destroy 0
-unfolding opened alive withTable woken noEvent eventsOf paired heldAfter itemsOf answersOf lastOr isEmpty seenOn seen seenOf codeOf namedBy issuedBy movesState
+unfolding opened alive withTable woken noEvent eventsOf paired heldAfter orNoItems orNoAnswers lastOr isEmpty seenOn seen seenOf codeOf namedBy issuedBy movesState
 alive-seen = refl
 
 pub leaves-alive : Demand3 LeavesAlive → ⊥
@@ -166,14 +167,14 @@ next-left = withTable (λ due. ifb (eqb (stateAt (next .table) 0) 5) (woken due)
 
 lent-next : Lent next
 unfolding opened isByte next first-left withTable woken
-lent-next = lent-on (first-left .table) compromiseRequest 0 refl refl (lit< tt)
+lent-next = lent-on (first-left .table) compromiseRequest 0 (bytes-test (first-left .table) refl) refl (lit< tt)
 
 next-accepted : lowest 1 (refusalConditions next) ≡ 0
 unfolding opened next first-left withTable woken frameOf ofFrame refusalConditions lowest
 next-accepted = refl
 
 next-seen : seenOn next next-left ≡ wakingBy revoke 2
-unfolding opened next-left next first-left withTable woken noEvent eventsOf paired heldAfter itemsOf answersOf lastOr isEmpty seenOn seen seenOf codeOf namedBy issuedBy movesState
+unfolding opened next-left next first-left withTable woken noEvent eventsOf paired heldAfter orNoItems orNoAnswers lastOr isEmpty seenOn seen seenOf codeOf namedBy issuedBy movesState
 next-seen = refl
 
 revoke-not : (from : ℕ) → listed revoke 2 from 2 ≡ false

@@ -3,29 +3,31 @@
 -- Assumes nothing.
 use Prim.Native.Nat.{ℕ}
 use mathlib.Core.Path.{_≡_}
-use mathlib.Core.Bool.{true}
+use mathlib.Core.Bool.{Bool, true, not, _&&_}
 use mathlib.Core.Option.{Option, none, some}
-use mathlib.Core.List.{List, [], _∷_, map}
+use mathlib.Core.List.{List, [], _∷_, _++_, map}
 use lib.ListN.{length, take}
-use lib.Dec.{eqb}
+use lib.Dec.{leb, eqb}
 use Rattle.octets.specs.If.{ifb}
 use Rattle.octets.specs.Octets.{over}
 use Rattle.table.specs.declared.Record.{Record}
-use Rattle.table.specs.Records.{stateAt, withPlace}
+use Rattle.table.specs.Records.{stateAt, lastSerial, withPlace}
+use Rattle.search.specs.Search.{isNothing, find}
 use Rattle.rules.specs.declared.Reason.the-variants.{InvalidField}
-use Rattle.rules.specs.Numbers.{active, destroyed}
+use Rattle.rules.specs.Numbers.{active, destroyed, getUsageAllocation}
 use Rattle.changes.specs.Records.{inState, withCount}
 use Rattle.ttlv.specs.Items.{encode}
 use Rattle.frame.specs.Frame.{Asked, Frame, optionOf, continue}
-use Rattle.act.specs.declared.Outcome.the-variants.{Failed}
+use Rattle.payload.specs.Payload.{command}
+use Rattle.act.specs.declared.Outcome.the-variants.{Failed, Done}
 use Rattle.answer.specs.Respond.{Answer, respond}
 use Rattle.engine.specs.Effects.{Effect}
 use Rattle.engine.specs.Batch.{Ran, running}
 use Rattle.engine.specs.Serving.{turnedAway, serving}
-use Rattle.demands.specs.Box.{Call, Box, Lent, placesIn, recordIn}
+use Rattle.demands.specs.Box.{Call, Box, Lent, placesOf, recordIn}
 use Rattle.demands.specs.Demand2.{frameOf, refusalConditions, lowest}
-use Rattle.demands.specs.Log.{Event, eventsOf, logged, granted}
-use Rattle.demands.specs.Demand3.{Run, Stands, takes}
+use Rattle.demands.specs.Log.{Event, itemsAsked, eventsOf, onto, logged, granted}
+use Rattle.demands.specs.Demand3.{Run, Stands, namedBy, takes, Path}
 
 -- ---- what they do
 
@@ -49,7 +51,7 @@ responding c answers t = record {
 -- the batch of a call, run under an option
 unfoldable pub ranUnder : (ℕ → ℕ) → Call → Option Frame → Ran
 ranUnder option c none = record { answers = []; table = c .table }
-ranUnder option c (some f) = running (placesIn (c .table)) (c .clock) (c .strip) (c .table) (record { option = option (optionOf (f .header .option)); items = f .items })
+ranUnder option c (some f) = running (placesOf (c .table)) (c .clock) (c .strip) (c .table) (record { option = option (optionOf (f .header .option)); items = f .items })
 
 -- an outcome with another table
 unfoldable pub withTable : (List ℕ → List ℕ) → Effect → Effect
@@ -87,8 +89,8 @@ abbrev pub FailsAll : Box
 FailsAll c e = e ≡ orRefused c (responding c (allFailed (frameOf c)) (c .table))
 
 -- "One answer for all": the same bytes for every accepted request, whatever it does to the table
-abbrev pub OneAnswer : List ℕ → (Call → List ℕ) → Box
-OneAnswer bytes tableOf c e = e ≡ orRefused c (record { number = 0; length = length bytes; table = tableOf c; output = over bytes (c .output) })
+abbrev pub SameAnswer : List ℕ → (Call → List ℕ) → Box
+SameAnswer bytes tableOf c e = e ≡ orRefused c (record { number = 0; length = length bytes; table = tableOf c; output = over bytes (c .output) })
 
 -- "A box that executes the whole batch at its first item and answers that one alone"
 abbrev pub AnswersFirst : Box
@@ -104,19 +106,25 @@ withMaterialOf other r = inState (r .state) (other .material) r
 
 -- a box that leaves the key at place 0 with the material of the key at place 1
 abbrev pub SharesMaterial : Box
-SharesMaterial = Leaves (λ c due. withPlace (placesIn due) due 0 (withMaterialOf (recordIn due 1) (recordIn due 0)))
+SharesMaterial = Leaves (λ c due. withPlace (placesOf due) due 0 (withMaterialOf (recordIn due 1) (recordIn due 0)))
 
 -- ---- boxes that demand 3 shuts out
 
 -- "an invented usage count": it answers as it should, and fills the count of place 0 up again
 unfoldable pub refilled : List ℕ → List ℕ
-refilled t = withPlace (placesIn t) t 0 (withCount (recordIn t 0 .total) (recordIn t 0))
+refilled t = withPlace (placesOf t) t 0 (withCount (recordIn t 0 .total) (recordIn t 0))
 
 abbrev pub InventsCount : Box
 InventsCount = Leaves (λ c due. refilled due)
 
--- a box that grants units in the batch in which the place was taken: at a point of a run, x stands at place i, the first item of a call takes that place,
--- and behind the call x has other units than before
+-- an item takes the place where x stands, in the table u that it meets
+pub record TakesFrom (x : ℕ) (taker : Event) (u : List ℕ) : Type 0 where
+  pub place : ℕ
+  pub stood : Stands x u place
+  pub taken : takes taker u place ≡ true
+
+-- a box that grants units in the batch in which the place was taken: in a call of a run, some item takes the place where x stands, wherever the items before it
+-- may have led, and behind the call x has other units than it had then
 pub record GrantsTaken (B : Box) : Type 0 where
   pub log : List Event
   pub t : List ℕ
@@ -126,19 +134,41 @@ pub record GrantsTaken (B : Box) : Type 0 where
   pub same : c .table ≡ t
   pub lent : Lent c
   pub left : B c e
+  pub before : List Event
   pub taker : Event
   pub later : List Event
-  pub events-are : eventsOf c e ≡ taker ∷ later
+  pub events-are : eventsOf c e ≡ before ++ (taker ∷ later)
   pub x : ℕ
-  pub i : ℕ
   pub known : x ≡ 0 → ⊥
-  pub stood : Stands x t i
-  pub taken : takes taker t i ≡ true
-  pub more : granted x (logged c e log) ≡ granted x log → ⊥
+  pub taken : (u : List ℕ) → Path log t before u → TakesFrom x taker u
+  pub more : granted x (logged c e log) ≡ granted x (onto before log) → ⊥
+
+-- whether an item asks units for an identifier that was issued and does not stand in the table t
+unfoldable pub asksForGone : List ℕ → Asked → Bool
+asksForGone t asked =
+    let x = namedBy 0 (command (asked .operation) (asked .payload)) in
+    eqb (asked .operation) getUsageAllocation && not (eqb x 0) && leb x (lastSerial t) && isNothing (find (placesOf t) t x)
+
+-- the answers, but that such an item is answered with the identifier that it names
+unfoldable pub regranted : List ℕ → List Asked → List Answer → List Answer
+regranted t [] answers = []
+regranted t (asked ∷ items) [] = []
+regranted t (asked ∷ items) (a ∷ answers) =
+    let x = namedBy 0 (command (asked .operation) (asked .payload)) in
+    record { operation = a .operation; id = a .id; outcome = ifb (asksForGone t asked) (Done x) (a .outcome) } ∷ regranted t items answers
+
+-- what a call leaves if the batch ran so
+abbrev pub regranting : Call → Ran → Effect
+regranting c ran = responding c (regranted (ran .table) (itemsAsked c) (ran .answers)) (ran .table)
+
+-- "Once a newer object has taken the place, that identifier is granted nothing more": a box that does all as it should, but forgets this one thing.
+-- Units that are asked for an identifier that was issued, and whose record does not stand behind the batch, are granted
+abbrev pub Regrants : Box
+Regrants c e = e ≡ orRefused c (regranting c (ranUnder (λ option. option) c (frameOf c)))
 
 -- the key at place 0 made Active
 unfoldable pub woken : List ℕ → List ℕ
-woken t = withPlace (placesIn t) t 0 (inState active (recordIn t 0 .material) (recordIn t 0))
+woken t = withPlace (placesOf t) t 0 (inState active (recordIn t 0 .material) (recordIn t 0))
 
 -- "wakes a destroyed key": where place 0 was in state 5 before the call, it is Active after it
 abbrev pub Wakes : Box

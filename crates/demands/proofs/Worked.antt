@@ -1,0 +1,264 @@
+-- What the demands are made of, worked out clause by clause: one list of cases under one claim, so that a slip in a definition is a case that fails.
+-- Assumes nothing. What has to come out stands as numbers, read from the papers and not from the definitions.
+use Prim.Native.Nat.{ℕ, _+_, _*_}
+use mathlib.Core.Path.{_≡_, refl}
+use mathlib.Core.Bool.{Bool, true, false}
+use mathlib.Core.Option.{Option, none, some}
+use mathlib.Core.List.{List, [], _∷_, _++_, map}
+use lib.ListN.{replicate}
+use Rattle.octets.specs.Hex.{hex}
+use Rattle.octets.specs.If.{ifb}
+use Rattle.octets.specs.Maybe.{_>>=_, _>>_, isSome}
+use Rattle.octets.specs.Octets.{be, fromBeAfter, fromBe, all, same}
+use Rattle.ttlv_types.specs.Types.{lengthOk, text, valueOk}
+use Rattle.ttlv.specs.Items.{Items, nil, encode, itemOk, wellFormed, ended}
+use Rattle.ttlv.specs.Parse.{headed, firstOf, putValue, putGroup, more, walk, parse}
+use Rattle.fields.specs.Fields.{startsWith, bytesOf, bodyOf, numberOf, optional}
+use Rattle.identifier.specs.Identifier.{digits, identifier, fromDigitsAfter, serialOf}
+use Rattle.table.specs.declared.Record.{Record}
+use Rattle.table.specs.Layout.{placeCount}
+use Rattle.table.specs.Records.{line, body, recordOf, placeAt, withPlace, serialAt, stateAt, blank}
+use Rattle.search.specs.declared.Found.the-variants.{At, Nothing}
+use Rattle.search.specs.Search.{firstFrom, orElse, find, freePlace, destroyedPlace, newPlace}
+use Rattle.soundness.specs.Checked.{isAt}
+use Rattle.rules.specs.declared.Reason.the-variants.{UsageLimitExceeded}
+use Rattle.frame.specs.Frame.{Asked}
+use Rattle.payload.specs.declared.Target.the-variants.{Placeholder, Serial}
+use Rattle.payload.specs.declared.Command.{Command}
+use Rattle.payload.specs.declared.Command.the-variants.{Unsupported, Invalid, Create, Rekey, GetUsageAllocation, Activate, Revoke, Destroy, GetAttributes}
+use Rattle.payload.specs.Payload.{limitIn, limitFirst, wantedOf, attributesIn, createIn, targetOf, targetIn, aloneIn, allocationIn, revokeIn, orInvalid, command}
+use Rattle.act.specs.declared.Outcome.{Outcome}
+use Rattle.act.specs.declared.Outcome.the-variants.{Failed, Created, Done, Showed}
+use Rattle.act.specs.Act.{sought}
+use Rattle.answer.specs.Respond.{Answer}
+use Rattle.demands.specs.Demand2.{ofFrame, lowest}
+use Rattle.demands.specs.Log.{Event, heldAfter, paired, orNoItems, orNoAnswers, onto, issuedBy, issued, grantBy, granted, limitBy, limit}
+use Rattle.demands.specs.Demand3.{namedBy, isUnderstood, movesState, codeOf, names, takes, bornState, listed, listedFor}
+
+-- ---- commands and outcomes
+
+-- one of each command; those that name a record name identifier 7
+commands : List Command
+commands =
+    Unsupported
+    ∷ Invalid
+    ∷ Create (record { bits = 128; mask = 4; unit = 2; total = 100 })
+    ∷ Rekey (Serial 7)
+    ∷ GetUsageAllocation (Serial 7) 60
+    ∷ Activate (Serial 7)
+    ∷ Revoke (Serial 7) 5
+    ∷ Destroy (Serial 7)
+    ∷ GetAttributes (Serial 7)
+    ∷ []
+
+-- by the placeholder
+heldCommands : List Command
+heldCommands = Rekey Placeholder ∷ GetUsageAllocation Placeholder 60 ∷ Activate Placeholder ∷ Revoke Placeholder 5 ∷ Destroy Placeholder ∷ GetAttributes Placeholder ∷ []
+
+-- one of each outcome; those that carry an identifier carry 8
+outcomes : List Outcome
+outcomes =
+    Failed UsageLimitExceeded
+    ∷ Created 8
+    ∷ Done 8
+    ∷ Showed (record { serial = 8; bits = 128; mask = 4; state = 1; unit = 2; total = 100; count = 100; replaced = 0; replacement = 0 })
+    ∷ []
+
+flag : Bool → ℕ
+flag b = ifb b 1 0
+
+-- what comes of each command with each outcome
+matrix : (Command → Outcome → ℕ) → List Command → List ℕ
+matrix f [] = []
+matrix f (c ∷ cs) = map (f c) outcomes ++ matrix f cs
+
+none-of : List ℕ
+none-of = 0 ∷ 0 ∷ 0 ∷ 0 ∷ []
+
+commandCases : List Bool
+commandCases =
+    same (map (namedBy 3) commands) (0 ∷ 0 ∷ 0 ∷ 7 ∷ 7 ∷ 7 ∷ 7 ∷ 7 ∷ 7 ∷ [])
+    ∷ same (map (namedBy 3) heldCommands) (3 ∷ 3 ∷ 3 ∷ 3 ∷ 3 ∷ 3 ∷ [])
+    ∷ same (map (λ c. flag (isUnderstood c)) commands) (0 ∷ 0 ∷ 1 ∷ 1 ∷ 1 ∷ 1 ∷ 1 ∷ 1 ∷ 1 ∷ [])
+    ∷ same (map (λ c. flag (movesState c)) commands) (0 ∷ 0 ∷ 0 ∷ 0 ∷ 0 ∷ 1 ∷ 1 ∷ 1 ∷ 0 ∷ [])
+    ∷ same (map codeOf commands) (0 ∷ 0 ∷ 0 ∷ 0 ∷ 0 ∷ 0 ∷ 5 ∷ 0 ∷ 0 ∷ [])
+    -- Create issues by Created, Re-key by Done, and nothing else issues
+    ∷ same (matrix issuedBy commands) (none-of ++ (none-of ++ ((0 ∷ 8 ∷ 0 ∷ 0 ∷ []) ++ ((0 ∷ 0 ∷ 8 ∷ 0 ∷ []) ++ replicate 20 0))))
+    -- Get Usage Allocation grants by Done, to the identifier that is carried, and nothing else grants
+    ∷ same (matrix (grantBy 8) commands) (replicate 16 0 ++ ((0 ∷ 0 ∷ 60 ∷ 0 ∷ []) ++ replicate 16 0))
+    ∷ same (matrix (grantBy 7) commands) (replicate 36 0)
+    ∷ []
+
+-- ---- states
+
+-- the numbers below 8
+eight : List ℕ
+eight = 0 ∷ 1 ∷ 2 ∷ 3 ∷ 4 ∷ 5 ∷ 6 ∷ 7 ∷ []
+
+-- the listed transitions of an operation with a code from a state, as two digits
+waysTo : ℕ → ℕ → ℕ → List ℕ → List ℕ
+waysTo operation code from [] = []
+waysTo operation code from (to ∷ later) = let rest = waysTo operation code from later in ifb (listed operation code from to) ((from * 10 + to) ∷ rest) rest
+
+waysFrom : ℕ → ℕ → List ℕ → List ℕ
+waysFrom operation code [] = []
+waysFrom operation code (from ∷ later) = waysTo operation code from eight ++ waysFrom operation code later
+
+-- all of them
+ways : ℕ → ℕ → List ℕ
+ways operation code = waysFrom operation code eight
+
+-- "Activate", "Revoke" code by code, "Destroy"; Create, Re-key, Get Usage Allocation and Get Attributes move nothing
+stateCases : List Bool
+stateCases =
+    same (ways 0x12 0) (12 ∷ [])
+    ∷ same (ways 0x13 1) (23 ∷ [])
+    ∷ same (ways 0x13 2) (14 ∷ 24 ∷ 34 ∷ 56 ∷ [])
+    ∷ same (ways 0x13 3) (14 ∷ 24 ∷ 34 ∷ 56 ∷ [])
+    ∷ same (ways 0x13 4) (23 ∷ [])
+    ∷ same (ways 0x13 5) (23 ∷ [])
+    ∷ same (ways 0x13 6) (23 ∷ [])
+    ∷ same (ways 0x13 7) (23 ∷ [])
+    ∷ same (ways 0x14 0) (15 ∷ 35 ∷ 46 ∷ [])
+    ∷ same (ways 0x01 0) []
+    ∷ same (ways 0x04 0) []
+    ∷ same (ways 0x11 0) []
+    ∷ same (ways 0x0B 0) []
+    ∷ []
+
+-- ---- a log
+
+-- the items that bytes are
+itemsRead : Option Items → Items
+itemsRead none = nil
+itemsRead (some t) = t
+
+asking : ℕ → List ℕ → Asked
+asking operation payload = record { operation = operation; id = []; payload = itemsRead (parse 6 payload) }
+
+-- Create with total 100, Activate and a grant of 60 by the placeholder, 50 by identifier, Re-key by identifier, a grant of 10 by the placeholder, Get Attributes, Re-key and Destroy by the placeholder
+items : List Asked
+items =
+    asking 0x01 (hex "42005705 00000004 00000002 00000000 42012501 00000058 42002805 00000004 00000003 00000000 42002A02 00000004 00000080 00000000 42002C02 00000004 00000004 00000000 42009501 00000020 42009703 00000008 00000000 00000064 42009805 00000004 00000002 00000000")
+    ∷ asking 0x12 []
+    ∷ asking 0x11 (hex "42009603 00000008 00000000 0000003C")
+    ∷ asking 0x11 (hex "42009407 00000008 30303030 30303031 42009603 00000008 00000000 00000032")
+    ∷ asking 0x04 (hex "42009407 00000008 30303030 30303031")
+    ∷ asking 0x11 (hex "42009603 00000008 00000000 0000000A")
+    ∷ asking 0x0B []
+    ∷ asking 0x04 []
+    ∷ asking 0x14 []
+    ∷ []
+
+answering : ℕ → Outcome → Answer
+answering operation outcome = record { operation = operation; id = []; outcome = outcome }
+
+answers : List Answer
+answers =
+    answering 0x01 (Created 1)
+    ∷ answering 0x12 (Done 1)
+    ∷ answering 0x11 (Done 1)
+    ∷ answering 0x11 (Failed UsageLimitExceeded)
+    ∷ answering 0x04 (Done 2)
+    ∷ answering 0x11 (Done 2)
+    ∷ answering 0x0B (Showed (record { serial = 2; bits = 128; mask = 4; state = 1; unit = 2; total = 100; count = 90; replaced = 1; replacement = 0 }))
+    ∷ answering 0x04 (Done 3)
+    ∷ answering 0x14 (Done 3)
+    ∷ []
+
+events : List Event
+events = paired 0 items answers
+
+log : List Event
+log = onto events []
+
+-- what a log says of the identifiers 1 to 4
+ofEach : (ℕ → List Event → ℕ) → List Event → List ℕ
+ofEach f l = map (λ x. f x l) (1 ∷ 2 ∷ 3 ∷ 4 ∷ [])
+
+heldIn : List Event → List ℕ
+heldIn l = map (λ (ev : Event). ev .held) l
+
+limitOf : Event → Command → ℕ
+limitOf ev c = limitBy ev c (λ x. 500 + x)
+
+-- an event with a placeholder
+holding : ℕ → Event
+holding held = record { held = held; asked = asking 0 []; answer = answering 0 (Done 0) }
+
+logCases : List Bool
+logCases =
+    -- Create and Re-key set the placeholder, a failed item empties it, others keep it
+    same (map (heldAfter 3 (answering 0x04 (Done 8))) outcomes) (0 ∷ 8 ∷ 8 ∷ 3 ∷ [])
+    ∷ same (map (heldAfter 3 (answering 0x12 (Done 8))) outcomes) (0 ∷ 8 ∷ 3 ∷ 3 ∷ [])
+    ∷ same (heldIn events) (0 ∷ 1 ∷ 1 ∷ 1 ∷ 0 ∷ 2 ∷ 2 ∷ 2 ∷ 3 ∷ [])
+    -- the latest first
+    ∷ same (heldIn log) (3 ∷ 2 ∷ 2 ∷ 2 ∷ 0 ∷ 1 ∷ 1 ∷ 1 ∷ 0 ∷ [])
+    -- item and answer go together, and what is left over of either is no event
+    ∷ same (heldIn (paired 5 items (answering 0x01 (Created 1) ∷ []))) (5 ∷ [])
+    ∷ same (heldIn (paired 5 items [])) []
+    ∷ same (heldIn (paired 5 [] answers)) []
+    ∷ same (map (λ (ev : Event). ev .asked .operation) events) (map (λ (ev : Event). ev .answer .operation) events)
+    -- bytes that are no request have no items, and bytes that are no response no answers
+    ∷ same (heldIn (paired 5 (orNoItems none) answers)) []
+    ∷ same (heldIn (paired 5 items (orNoAnswers none))) []
+    ∷ same (ofEach issued log) (1 ∷ 1 ∷ 1 ∷ 0 ∷ [])
+    ∷ same (ofEach issued (onto events log)) (2 ∷ 2 ∷ 2 ∷ 0 ∷ [])
+    ∷ same (ofEach granted log) (60 ∷ 10 ∷ 0 ∷ 0 ∷ [])
+    ∷ same (ofEach limit log) (100 ∷ 100 ∷ 100 ∷ 0 ∷ [])
+    ∷ same (ofEach issued []) none-of
+    ∷ same (ofEach granted []) none-of
+    ∷ same (ofEach limit []) none-of
+    ∷ same (map (limitOf (holding 3)) commands) (0 ∷ 0 ∷ 100 ∷ 507 ∷ 0 ∷ 0 ∷ 0 ∷ 0 ∷ 0 ∷ [])
+    ∷ same (map (limitOf (holding 3)) heldCommands) (503 ∷ 0 ∷ 0 ∷ 0 ∷ 0 ∷ 0 ∷ [])
+    ∷ []
+
+-- ---- places
+
+-- a table with one key, identifier 7 at place 1 in a state
+keyed : ℕ → List ℕ
+keyed state = withPlace placeCount (blank placeCount) 1 (record { serial = 7; state = state; unit = 0; bits = 128; replaced = 0; replacement = 0; total = 0; count = 0; mask = 4; material = replicate 32 0 })
+
+activating : Event
+activating = record { held = 7; asked = asking 0x12 []; answer = answering 0x12 (Done 7) }
+
+rekeying : Outcome → Event
+rekeying outcome = record { held = 7; asked = asking 0x04 []; answer = answering 0x04 outcome }
+
+-- of places 0 to 2
+ofPlaces : (ℕ → Bool) → List ℕ
+ofPlaces test = map (λ i. flag (test i)) (0 ∷ 1 ∷ 2 ∷ [])
+
+placeCases : List Bool
+placeCases =
+    same (ofPlaces (λ i. isAt i (At 1))) (0 ∷ 1 ∷ 0 ∷ [])
+    ∷ same (ofPlaces (λ i. isAt i Nothing)) (0 ∷ 0 ∷ 0 ∷ [])
+    -- the key that the placeholder names
+    ∷ same (ofPlaces (names activating (keyed 1))) (0 ∷ 1 ∷ 0 ∷ [])
+    -- what issues an identifier takes the lowest free place, and a failed item none
+    ∷ same (ofPlaces (takes (rekeying (Done 8)) (keyed 1))) (1 ∷ 0 ∷ 0 ∷ [])
+    ∷ same (ofPlaces (takes (rekeying (Failed UsageLimitExceeded)) (keyed 1))) (0 ∷ 0 ∷ 0 ∷ [])
+    ∷ same (ofPlaces (takes activating (keyed 1))) (0 ∷ 0 ∷ 0 ∷ [])
+    -- Activate moves 1 to 2 and not 2 to 1
+    ∷ same (ofPlaces (listedFor activating (keyed 1) (keyed 2))) (0 ∷ 1 ∷ 0 ∷ [])
+    ∷ same (ofPlaces (listedFor activating (keyed 2) (keyed 1))) (0 ∷ 0 ∷ 0 ∷ [])
+    ∷ same (bornState activating (keyed 2) ∷ []) (1 ∷ [])
+    ∷ []
+
+-- ---- refusals
+
+refusalCases : List Bool
+refusalCases =
+    same (lowest 1 [] ∷ lowest 1 (false ∷ false ∷ []) ∷ lowest 1 (false ∷ true ∷ true ∷ []) ∷ lowest 5 (true ∷ []) ∷ []) (0 ∷ 0 ∷ 2 ∷ 5 ∷ [])
+    ∷ same (flag (ofFrame (λ f. true) none) ∷ []) (0 ∷ [])
+    ∷ []
+
+-- ---- the list
+
+pub cases : List Bool
+cases = commandCases ++ (stateCases ++ (logCases ++ (placeCases ++ refusalCases)))
+
+-- every case holds
+pub worked : all (λ b. b) cases ≡ true
+unfolding cases commandCases stateCases logCases placeCases refusalCases commands heldCommands outcomes flag matrix none-of eight waysTo waysFrom ways itemsRead asking items answering answers events log ofEach heldIn limitOf holding keyed activating rekeying ofPlaces namedBy isUnderstood movesState codeOf listed isAt heldAfter paired orNoItems orNoAnswers onto issuedBy issued grantBy granted limitBy limit ofFrame lowest sought ifb _>>=_ _>>_ isSome be fromBeAfter fromBe all same lengthOk text valueOk encode itemOk wellFormed ended headed firstOf putValue putGroup more walk parse startsWith bytesOf bodyOf numberOf optional digits identifier fromDigitsAfter serialOf limitIn limitFirst wantedOf attributesIn createIn targetOf targetIn aloneIn allocationIn revokeIn orInvalid command line body recordOf placeAt withPlace serialAt stateAt blank firstFrom orElse find freePlace destroyedPlace newPlace
+worked = refl

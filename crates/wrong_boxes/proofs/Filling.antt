@@ -1,0 +1,144 @@
+-- A table of 64 keys, reached by laws and not by computation: what one Create leaves, again and again.
+-- Assumes nothing.
+use Prim.Native.Nat.{ℕ, suc, _+_, _*_, _≤_, _<_}
+use native.Mathlib.Omega.{arith}
+use native.Mathlib.Decide.{ℕ-discrete}
+use mathlib.Core.Path.{_≡_, refl, sym, ap, ap₂, _∙_}
+use mathlib.Core.Logic.{inr}
+use mathlib.Core.Bool.{Bool, true, false, _||_}
+use mathlib.Core.List.{List}
+use lib.ListN.{length}
+use lib.Dec.{lit<}
+use borrow.Author.Tests.{eq-eqb, ne-eqb}
+use Rattle.octets.specs.Octets.{Bytes}
+use Rattle.table.specs.declared.Record.{Record}
+use Rattle.table.specs.Layout.{placeCount, materialSize}
+use Rattle.table.specs.Records.{placeAt, serialAt, stateAt, isFree, lastSerial, blank}
+use Rattle.table.proofs.Blank.{serial-blank, last-blank}
+use Rattle.search.specs.declared.Found.the-variants.{At, Nothing}
+use Rattle.search.specs.Search.{freePlace, destroyedPlace, newPlace, isDestroyed}
+use Rattle.search.proofs.First.{At-same, isNothing-at, found-is, fails-none}
+use Rattle.search.proofs.Finds.{new-free, new-destroyed}
+use Rattle.rules.specs.declared.Attributes.{Attributes}
+use Rattle.changes.specs.Records.{newRecord}
+use Rattle.changes.specs.Changes.{serialMost, isFull, nextSerial, withBorn}
+use Rattle.keeps.proofs.Begun.{Allowed}
+use Rattle.keeps.proofs.Stores.{other, other-serial, here-serial}
+use Rattle.keeps.proofs.Keeps.{Held, held-blank, keeps-born}
+use Rattle.keeps.proofs.Leaves.{Born, born-leaves}
+use Rattle.act.specs.Act.{Env, envAt}
+use Rattle.engine.proofs.Batches.{own-bytes, own-long}
+use Rattle.cases.specs.Cards.{countedFrom}
+use Rattle.cases.proofs.Cases.{opened}
+use Rattle.wrong_boxes.proofs.Calling.{isByte, bytes-test}
+
+-- ---- what is created
+
+-- AES, 128 bits, mask Encrypt, 100 units of Object
+abbrev pub wanted : Attributes
+wanted = record { bits = 128; mask = 4; unit = 2; total = 100 }
+
+wanted-allowed : Allowed wanted
+wanted-allowed = record { bits = refl; mask = refl; limit = inr (refl, refl) }
+
+-- what item i of a call meets
+abbrev pub own : ℕ → Env
+own i = envAt placeCount 0 (countedFrom 0 512) i
+
+strip-bytes : Bytes (countedFrom 0 512)
+unfolding opened isByte
+strip-bytes = bytes-test (countedFrom 0 512) refl
+
+strip-length : length (countedFrom 0 512) ≡ 512
+unfolding opened
+strip-length = refl
+
+-- the table with one more
+abbrev pub grown : ℕ → List ℕ → List ℕ
+grown i t = withBorn placeCount t (newRecord (nextSerial t) wanted (own i .fresh))
+
+-- there is room where a place is due and serials are left
+pub has-room : (t : List ℕ) (k : ℕ) → newPlace placeCount t ≡ At k → (lastSerial t ≡ serialMost → ⊥) → isFull placeCount t ≡ false
+unfolding isFull
+has-room t k due few = ap₂ (λ (a b : Bool). a || b) (isNothing-at (newPlace placeCount t) k due) (ne-eqb (lastSerial t) serialMost few)
+
+-- what one Create leaves
+module _ (i : ℕ) (t : List ℕ) (held : Held placeCount t) (l : materialSize * i + materialSize ≤ 512) (room : isFull placeCount t ≡ false) where
+  fits : materialSize * i + materialSize ≤ length (countedFrom 0 512)
+  fits = omega (arith, strip-length)
+
+  pub grown-born : Born placeCount t (newRecord (nextSerial t) wanted (own i .fresh)) (grown i t)
+  grown-born = born-leaves placeCount t held room (own i .fresh) (own-bytes placeCount 0 (countedFrom 0 512) 0 strip-bytes i fits) wanted wanted-allowed
+
+  pub grown-held : Held placeCount (grown i t)
+  grown-held =
+      keeps-born placeCount t held room (own i .fresh) (own-bytes placeCount 0 (countedFrom 0 512) 0 strip-bytes i fits) (own-long placeCount 0 (countedFrom 0 512) 0 strip-bytes i fits) wanted wanted-allowed
+
+-- ---- k keys
+
+-- the first of them
+abbrev pub firstKey : Record
+firstKey = newRecord 1 wanted (own 0 .fresh)
+
+-- k keys stand at the places 0 to k - 1, with the serials 1 to k, and the other places are free
+pub record Filled (k : ℕ) (t : List ℕ) : Type 0 where
+  pub held : Held placeCount t
+  pub last : lastSerial t ≡ k
+  pub serials : (i : ℕ) → i < k → serialAt t i ≡ i + 1
+  pub free : (i : ℕ) → k ≤ i → i < placeCount → serialAt t i ≡ 0
+  pub first : 1 ≤ k → placeAt placeCount t 0 ≡ firstKey
+
+pub filled-blank : Filled 0 (blank placeCount)
+filled-blank = record {
+  held = held-blank placeCount (lit< tt);
+  last = last-blank placeCount;
+  serials = λ i h. absurd (omega arith);
+  free = λ i h l. serial-blank placeCount i l;
+  first = λ h. absurd (omega arith);
+}
+
+-- one more
+module _ (k : ℕ) (t : List ℕ) (f : Filled k t) (more : k < placeCount) where
+  due : newPlace placeCount t ≡ At k
+  unfolding freePlace
+  due =
+      new-free placeCount t k (found-is placeCount (isFree t) k more (eq-eqb (serialAt t k) 0 (f .free k (omega arith) more))
+      (λ j h. ne-eqb (serialAt t j) 0 (λ z. omega (arith, f .serials j h))))
+
+  pub filled-room : isFull placeCount t ≡ false
+  filled-room = has-room t k due (λ e. omega (arith, f .last))
+
+  born : Born placeCount t (newRecord (nextSerial t) wanted (own 0 .fresh)) (grown 0 t)
+  born = grown-born 0 t (f .held) (omega arith) filled-room
+
+  here : born .place ≡ k
+  here = At-same (sym (born .due) ∙ due)
+
+  serial-here : serialAt (grown 0 t) k ≡ k + 1
+  unfolding newRecord
+  serial-here = ap (serialAt (grown 0 t)) (sym here) ∙ here-serial placeCount t (born .place) _ _ _ (born .stored) ∙ ap (λ (s : ℕ). s + 1) (f .last)
+
+  serial-past : (j : ℕ) → j < placeCount → (j ≡ k → ⊥) → serialAt (grown 0 t) j ≡ serialAt t j
+  serial-past j l ne = other-serial placeCount t (born .place) _ _ _ (born .stored) j l (λ e. ne (e ∙ here))
+
+  pub filled-more : Filled (suc k) (grown 0 t)
+  unfolding newRecord
+  filled-more = record {
+    held = grown-held 0 t (f .held) (omega arith) filled-room;
+    last = born .stored .issued ∙ (let e : lastSerial t ≡ k = f .last in omega arith);
+    serials = λ j h. elim (ℕ-discrete j k) [ yes e ↦ ap (serialAt (grown 0 t)) e ∙ serial-here ∙ ap (λ (s : ℕ). s + 1) (sym e) | no e ↦ serial-past j (omega arith) e ∙ f .serials j (omega arith) ];
+    free = λ j h l. serial-past j l (λ e. omega arith) ∙ f .free j (omega arith) l;
+    first = λ h. elim (ℕ-discrete 0 k) [
+      | yes e ↦ ap (placeAt placeCount (grown 0 t)) (e ∙ sym here) ∙ born .stored .here ∙ ap (λ (s : ℕ). newRecord (s + 1) wanted (own 0 .fresh)) (f .last ∙ sym e)
+      | no e ↦ other placeCount t (born .place) _ _ _ (born .stored) 0 (lit< tt) (λ q. e (q ∙ here)) ∙ f .first (omega arith)
+    ];
+  }
+
+-- ---- all places
+
+-- where no place is free and the key at place 0 is destroyed, a new object takes its place
+pub takes-first : (t : List ℕ) → ((i : ℕ) → i < placeCount → serialAt t i ≡ i + 1) → isDestroyed (stateAt t 0) ≡ true → newPlace placeCount t ≡ At 0
+unfolding freePlace destroyedPlace
+takes-first t serials dead =
+    new-destroyed placeCount t (fails-none placeCount (isFree t) (λ j h. ne-eqb (serialAt t j) 0 (λ z. omega (arith, serials j h))))
+    ∙ found-is placeCount (λ i. isDestroyed (stateAt t i)) 0 (lit< tt) dead (λ j h. absurd (omega arith))
