@@ -3,7 +3,7 @@
 use mathlib.Core.Path.{_≡_, refl}
 use mathlib.Core.Option.{none, some}
 use mathlib.Core.List.{[], _∷_}
-use Rattle.octets.specs.Hex.{hex}
+use Rattle.hex.specs.Texts.{hex}
 use Rattle.rules.specs.declared.Reason.the-variants.{OperationNotSupported}
 use Rattle.act.specs.declared.Outcome.the-variants.{Failed, Done, Showed}
 use Rattle.answer.specs.Respond.{Answer, Response}

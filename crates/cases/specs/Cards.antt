@@ -12,7 +12,7 @@ use Rattle.ttlv.specs.Items.{Items, nil, value, group, encode}
 use Rattle.ttlv.specs.Parse.{message}
 use Rattle.engine.specs.Effects.{Effect}
 use Rattle.engine.specs.Serving.{serving}
-use Rattle.octets.specs.Hex.{hex}
+use Rattle.hex.specs.Texts.{hex}
 
 -- ---- TTLV
 

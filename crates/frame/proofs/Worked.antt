@@ -3,7 +3,7 @@
 use mathlib.Core.Path.{_≡_, refl}
 use mathlib.Core.Option.{Option, none, some}
 use mathlib.Core.List.{[], _∷_}
-use Rattle.octets.specs.Hex.{hex}
+use Rattle.hex.specs.Texts.{hex}
 use Rattle.ttlv.specs.Items.{Items, nil, ended}
 use Rattle.frame.specs.Frame.{Framed, refused, asked}
 use Rattle.octets.specs.If.{ifb}

@@ -2,3 +2,4 @@
 -- Assumes nothing.
 pub mod Digits
 pub mod Unique
+pub mod Worked

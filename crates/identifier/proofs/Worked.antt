@@ -3,7 +3,7 @@
 use mathlib.Core.Path.{_≡_, refl}
 use Rattle.octets.specs.If.{ifb}
 use Rattle.octets.specs.Octets.{all}
-use Rattle.octets.specs.Hex.{hex}
+use Rattle.hex.specs.Texts.{hex}
 use Rattle.identifier.specs.Identifier.{identifier, serialOf, digits, fromDigitsAfter}
 
 -- "0000000A"

@@ -3,4 +3,3 @@
 pub mod If
 pub mod Maybe
 pub mod Octets
-pub mod Hex

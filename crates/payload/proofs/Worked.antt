@@ -4,7 +4,7 @@ use mathlib.Core.Path.{_≡_, refl}
 use Prim.Native.Nat.{ℕ}
 use mathlib.Core.Option.{Option, none, some}
 use mathlib.Core.List.{[]}
-use Rattle.octets.specs.Hex.{hex}
+use Rattle.hex.specs.Texts.{hex}
 use Rattle.ttlv.specs.Items.{Items, ended}
 use Rattle.payload.specs.declared.Target.the-variants.{Placeholder, Serial}
 use Rattle.payload.specs.declared.Command.{Command}

@@ -13,7 +13,7 @@ use Rattle.octets.proofs.Numbers.{be-zero}
 use Rattle.octets.proofs.Stores.{part-part, length-part}
 use Rattle.octets.proofs.Zeros.{pass-zeros, part-zeros}
 use Rattle.table.specs.declared.Record.{Record}
-use Rattle.table.specs.Layout.{leadSize, bodySize, bodyOf, zerosIn}
+use Rattle.table.specs.Layout.{leadSize, bodySize, bodyStart, zerosIn}
 use Rattle.table.specs.Records.{lineBytes, bodyBytes, placeAt, serialAt}
 use Rattle.table.proofs.Places.{length-body-at, line-is, body-is}
 use Rattle.table.proofs.Blank.{test-zeros}
@@ -23,17 +23,17 @@ use Rattle.soundness.proofs.SoundIs.{Sound, sound-is}
 
 -- the zeros of a body are zero, whether a record stands there or not
 module _ (n : ℕ) (t : List ℕ) (facts : Sound n t) (i : ℕ) (low : i < n) where
-  free-zeros : serialAt t i ≡ 0 → part t (bodyOf n i + zerosIn) 4 ≡ be 4 0
+  free-zeros : serialAt t i ≡ 0 → part t (bodyStart n i + zerosIn) 4 ≡ be 4 0
   free-zeros free =
-      sym (part-part t (bodyOf n i) bodySize zerosIn 4 (lit≤ tt))
+      sym (part-part t (bodyStart n i) bodySize zerosIn 4 (lit≤ tt))
       ∙ ap (λ (b : List ℕ). part b zerosIn 4) (pass-zeros _ (facts .free i low free .body) ∙ ap (λ (k : ℕ). replicate k 0) (length-body-at n t i (facts .size) low))
       ∙ part-zeros bodySize zerosIn 4 (lit≤ tt)
       ∙ sym (be-zero 4)
 
-  zeros-are : part t (bodyOf n i + zerosIn) 4 ≡ be 4 0
+  zeros-are : part t (bodyStart n i + zerosIn) 4 ≡ be 4 0
   zeros-are = elim (ℕ-discrete (serialAt t i) 0) [
     | yes free ↦ free-zeros free
-    | no stands ↦ test-zeros _ (length-part t (bodyOf n i + zerosIn) 4 (omega (arith, facts .size))) (facts .zeros i low stands)
+    | no stands ↦ test-zeros _ (length-part t (bodyStart n i + zerosIn) 4 (omega (arith, facts .size))) (facts .zeros i low stands)
   ]
 
 pub sound-same : (n : ℕ) (t u : List ℕ) → sound n t ≡ true → sound n u ≡ true → Bytes t → Bytes u → part t 0 leadSize ≡ part u 0 leadSize

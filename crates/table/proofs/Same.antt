@@ -8,7 +8,7 @@ use mathlib.Core.List.{List, _++_}
 use lib.ListN.{take, drop}
 use lib.Seq.{take-all, take-add, drop-drop}
 use Rattle.octets.specs.Octets.{part}
-use Rattle.table.specs.Layout.{leadSize, lineSize, bodySize, lineOf, bodyOf, sizeOf, Table}
+use Rattle.table.specs.Layout.{leadSize, lineSize, bodySize, lineStart, bodyStart, sizeOf, Table}
 
 -- a part is its first bytes and then the others
 part-add : (t : List ℕ) (at k w : ℕ) → part t at (k + w) ≡ part t at k ++ part t (at + k) w
@@ -32,8 +32,8 @@ module _ (n : ℕ) (t u : List ℕ) (big : Table n t) (also : Table n u) where
       ∙ ap (λ (r : List ℕ). part s 0 leadSize ++ r) (part-add s leadSize (lineSize * n) (bodySize * n))
 
   pub tables-same : part t 0 leadSize ≡ part u 0 leadSize
-      → ((i : ℕ) → i < n → part t (lineOf i) lineSize ≡ part u (lineOf i) lineSize)
-      → ((i : ℕ) → i < n → part t (bodyOf n i) bodySize ≡ part u (bodyOf n i) bodySize)
+      → ((i : ℕ) → i < n → part t (lineStart i) lineSize ≡ part u (lineStart i) lineSize)
+      → ((i : ℕ) → i < n → part t (bodyStart n i) bodySize ≡ part u (bodyStart n i) bodySize)
       → t ≡ u
   tables-same lead lines bodies =
       parts t big

@@ -1,11 +1,10 @@
-// A TTLV message as text: a line for each item, indented by its depth, or the byte at which it is malformed.
-// Assumes nothing. Every function is proved safe and ends; no contract can say what is printed.
+// A TTLV message as text: a line for each item, indented by its depth, or the byte at which it is
+// malformed. Assumes nothing. Every function is proved safe and ends; where a message is malformed
+// is proved, what is printed is tested.
+ghost use mathlib.Core.Path.{_≡_};
+ghost use Prim.Native.Nat.{_≤_, _+_};
+ghost use Rattle.treelib.specs.Malformed.{malformedAt};
 use ttlv::First;
-ghost use Prim.Native.Nat.{_≤_, _<_, _+_};
-ghost use lib.ListN.{length};
-
-// "An item at depth 9 is malformed".
-const DEPTH_MOST: usize = 8;
 
 fn print_tag(tag: u32) {
     printlib::byte((tag / 65536 % 256) as u8);
@@ -13,27 +12,27 @@ fn print_tag(tag: u32) {
     printlib::byte((tag % 256) as u8);
 }
 
-fn print_type(kind: u8) {
+// A type's name. Answers, as the write does, whether it was written.
+fn print_type(kind: u8) -> bool {
     match kind {
-        1 => io::write_all(1, b"Structure"),
-        2 => io::write_all(1, b"Integer"),
-        3 => io::write_all(1, b"Long Integer"),
-        4 => io::write_all(1, b"Big Integer"),
-        5 => io::write_all(1, b"Enumeration"),
-        6 => io::write_all(1, b"Boolean"),
-        7 => io::write_all(1, b"Text String"),
-        8 => io::write_all(1, b"Byte String"),
-        9 => io::write_all(1, b"Date-Time"),
-        10 => io::write_all(1, b"Interval"),
+        ttlv_types::STRUCTURE => io::write_all(1, b"Structure"),
+        ttlv_types::INTEGER => io::write_all(1, b"Integer"),
+        ttlv_types::LONG_INTEGER => io::write_all(1, b"Long Integer"),
+        ttlv_types::BIG_INTEGER => io::write_all(1, b"Big Integer"),
+        ttlv_types::ENUMERATION => io::write_all(1, b"Enumeration"),
+        ttlv_types::BOOLEAN => io::write_all(1, b"Boolean"),
+        ttlv_types::TEXT_STRING => io::write_all(1, b"Text String"),
+        ttlv_types::BYTE_STRING => io::write_all(1, b"Byte String"),
+        ttlv_types::DATE_TIME => io::write_all(1, b"Date-Time"),
+        ttlv_types::INTERVAL => io::write_all(1, b"Interval"),
         _ => io::write_all(1, b"Date-Time Extended"),
     }
-    ;
 }
 
 // Two blanks for each level above.
 fn print_indent(depth: usize) {
     let mut k = depth;
-    while k < DEPTH_MOST {
+    while k < ttlv::DEPTH_MOST {
         io::write_all(1, b"  ");
         k += 1;
     }
@@ -49,7 +48,8 @@ fn print_head(depth: usize, tag: u32, kind: u8, len: usize) {
     io::print_decimal(1, len as u64);
 }
 
-// A number in two's complement; half is the first that stands for one below zero. `print_number` shows the bound.
+// A number in two's complement; half is the first that stands for one below zero. `print_number`
+// shows the bound.
 fn print_signed(bits: u64, half: u64)
     requires { ⌜ bits ≤ half + half ⌝ }
 {
@@ -95,38 +95,28 @@ fn print_plain(kind: u8, v: &[u8]) {
     print_number(kind, octets::number(v));
 }
 
-fn print_value(loud: bool, depth: usize, tag: u32, kind: u8, v: &[u8]) {
-    if !loud {
-        return;
-    }
+fn print_value(depth: usize, tag: u32, kind: u8, v: &[u8]) {
     print_head(depth, tag, kind, v.len());
     io::write_all(1, b": ");
     print_plain(kind, v);
     io::write_all(1, b"\n");
 }
 
-fn print_group(loud: bool, depth: usize, tag: u32, len: usize) {
-    if !loud {
-        return;
-    }
+fn print_group(depth: usize, tag: u32, len: usize) {
     print_head(depth, tag, ttlv_types::STRUCTURE, len);
     io::write_all(1, b"\n");
 }
 
-// Walks over the items of s, at most `depth` deep, printing each if loud. It answers how many bytes are items: all of them, or those before the
-// first item that is malformed.
-fn walk(s: &[u8], depth: usize, loud: bool) -> usize
-    ensures { λ r. ⌜ r ≤ length (now (s .entry)) ⌝ }
-{
+// The items of s, at most `depth` deep, each on a line.
+fn print_items(s: &[u8], depth: usize) {
     if depth == 0 {
-        return 0;
+        return;
     }
     let mut t = s;
-    let mut at: usize = 0;
     loop {
         match ttlv::read_first(t) {
-            First::End => return at,
-            First::Bad => return at,
+            First::End => return,
+            First::Bad => return,
             First::Value {
                 tag,
                 kind,
@@ -134,28 +124,26 @@ fn walk(s: &[u8], depth: usize, loud: bool) -> usize
                 next,
             } => {
                 let stop = 8 + len;
-                print_value(loud, depth, tag, kind, &t[8..stop]);
-                at += next;
+                print_value(depth, tag, kind, &t[8..stop]);
                 t = &t[next..];
             }
             First::Group { tag, next } => {
-                print_group(loud, depth, tag, next - 8);
-                let good = walk(&t[8..next], depth - 1, loud);
-                if good < next - 8 {
-                    return at + 8 + good;
-                }
-                at += next;
+                print_group(depth, tag, next - 8);
+                print_items(&t[8..next], depth - 1);
                 t = &t[next..];
             }
         }
     }
 }
 
-// The byte at which s is no message: the first malformed item, or the end of the only item that there may be.
-fn malformed_at(s: &[u8]) -> usize {
-    let good = walk(s, DEPTH_MOST, false);
-    if good < s.len() {
-        return good;
+// Where s, which is no message, is malformed: where the first malformed item starts, or where the
+// only item that there may be ends.
+fn malformed_at(s: &[u8]) -> usize
+    ensures { λ r. ⌜ r ≡ malformedAt (now (s .entry)) ⌝ }
+{
+    let fault = ttlv_fault::first_fault(s, ttlv::DEPTH_MOST);
+    if fault < s.len() {
+        return fault;
     }
     match ttlv::read_first(s) {
         First::End => 0,
@@ -172,11 +160,11 @@ fn malformed_at(s: &[u8]) -> usize {
 
 // Prints s as a tree of items, or where it is malformed.
 pub fn show(s: &[u8]) {
-    if !ttlv::is_message(s) {
-        io::write_all(1, b"malformed at byte ");
-        io::print_decimal(1, malformed_at(s) as u64);
-        io::write_all(1, b"\n");
+    if ttlv::is_message(s) {
+        print_items(s, ttlv::DEPTH_MOST);
         return;
     }
-    walk(s, DEPTH_MOST, true);
+    io::write_all(1, b"malformed at byte ");
+    io::print_decimal(1, malformed_at(s) as u64);
+    io::write_all(1, b"\n");
 }

@@ -1,5 +1,5 @@
-// The TTLV reader: what stands at the front of some bytes, and whether bytes are items by the rules. It knows nothing of keys.
-// Assumes nothing: no public function asks anything of its bytes.
+// The TTLV reader: what stands at the front of some bytes, and whether bytes are items by the
+// rules. It knows nothing of keys. Assumes nothing: no public function asks anything of its bytes.
 ghost use mathlib.Core.Path.{_≡_};
 ghost use Prim.Native.Nat.{_+_, _-_, _^_, _≤_, _<_};
 ghost use lib.ListN.{length};
@@ -8,7 +8,7 @@ ghost use Rattle.octets.specs.Octets.{part, allZero};
 ghost use Rattle.ttlv.specs.Parse.{headed, firstOf, parse, message};
 
 // How deep an item may stand: the outermost has depth 1, and an item at depth 9 is malformed.
-const DEPTH_MOST: usize = 8;
+pub const DEPTH_MOST: usize = 8;
 
 // What stands at the front of some bytes.
 pub enum First {
@@ -30,7 +30,8 @@ pub enum First {
     },
 }
 
-// Whether the padding from stop to next is zeros, by the eight bytes that end with it: the bytes in front of it are shifted out. `head_first` shows the bounds.
+// Whether the padding from stop to next is zeros, by the eight bytes that end with it: the bytes in
+// front of it are shifted out. `head_first` shows the bounds.
 fn padding_clear(s: &[u8], stop: usize, next: usize) -> bool
     requires { ⌜ (stop ≤ next) × (next < stop + 8) × (8 ≤ next) × (next ≤ length (now s)) ⌝ }
     ensures { λ r. ⌜ r ≡ allZero (part (now (s .entry)) stop (next - stop)) ⌝ }
@@ -43,7 +44,8 @@ fn padding_clear(s: &[u8], stop: usize, next: usize) -> bool
     octets::number(&s[from..next]) << (before * 8) == 0
 }
 
-// The item whose head says tag, kind and n. `read_first` shows the eight bytes of the head and the bound of n.
+// The item whose head says tag, kind and n. `read_first` shows the eight bytes of the head and the
+// bound of n.
 fn head_first(s: &[u8], tag: u32, kind: u8, n: usize) -> First
     requires { ⌜ (8 ≤ length (now s)) × (n < 256 ^ 4) ⌝ }
     ensures { λ r. ⌜ r ≡ headed (now (s .entry)) tag kind n ⌝ }

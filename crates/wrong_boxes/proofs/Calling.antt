@@ -7,7 +7,7 @@ use mathlib.Core.List.{List, [], _∷_}
 use lib.ListN.{replicate}
 use lib.Dec.{ltb, eqb, lit<}
 use borrow.Author.Tests.{ltb-true}
-use Rattle.octets.specs.Hex.{hex}
+use Rattle.hex.specs.Texts.{hex}
 use Rattle.octets.specs.Octets.{Bytes, all}
 use Rattle.octets.proofs.If.{ifb-true}
 use Rattle.octets.proofs.Bools.{and-l, and-r}

@@ -1,8 +1,9 @@
 -- `lines::find`. What is left decides.
 -- Assumes nothing.
 use mathlib.Core.Path.{_≡_}
-use Prim.Native.Nat.{_+_, _-_, _≤_}
+use Prim.Native.Nat.{ℕ, _+_, _-_, _≤_}
 use native.Mathlib.Omega.{arith}
+use mathlib.Core.List.{List}
 use lib.ListN.{length, drop}
 use borrow.Author.Needs.{needs}
 use Rattle.lines.specs.Lines.{placeOf}
@@ -16,6 +17,16 @@ Inv-loop s b i₀ i = (i ≤ length s) × (placeOf b s ≡ i + placeOf b (drop i
 abbrev μ-loop : tie.MeasureT-loop
 μ-loop s b i₀ i = length s - i
 
+-- the turn that the test stands in, the text and the byte
+abbrev turn : tie.After-shared-slice-known Inv-loop μ-loop → tie.At-loop Inv-loop μ-loop
+turn c = c .before .before
+
+abbrev S : tie.At-loop Inv-loop μ-loop → List ℕ
+S k = k .before .args .s .now
+
+abbrev B : tie.At-loop Inv-loop μ-loop → ℕ
+B k = k .before .args .b
+
 loop-holds : tie.Need-loop-holds Inv-loop μ-loop
 loop-holds c = (omega arith, omega arith)
 
@@ -24,9 +35,7 @@ shared-slice-read-if1 c = search needs
 
 returns : tie.Need-returns Inv-loop μ-loop
 returns c =
-    let l = c .before .before .before .loop in
-    let x = c .before .before .before .before .args in
-    let e = place-here (x .b) (x .s .now) (l .i) (omega arith) (c .if1 .taken) in
+    let e = place-here (B (turn (c .before))) (S (turn (c .before))) (turn (c .before) .loop .i) (omega arith) (c .if1 .taken) in
     (omega arith, omega arith)
 
 add-i : tie.Need-add-i Inv-loop μ-loop
@@ -37,16 +46,12 @@ loop-less c = search needs
 
 loop-again : tie.Need-loop-again Inv-loop μ-loop
 loop-again c =
-    let l = c .before .before .before .loop in
-    let x = c .before .before .before .before .args in
-    let e = place-on (x .b) (x .s .now) (l .i) (omega arith) (c .if1 .left) in
+    let e = place-on (B (turn (c .before))) (S (turn (c .before))) (turn (c .before) .loop .i) (omega arith) (c .if1 .left) in
     (omega arith, omega arith)
 
 returns-2 : tie.Need-returns-2 Inv-loop μ-loop
 returns-2 c =
-    let l = c .before .loop in
-    let x = c .before .before .args in
-    let e = place-end (x .b) (x .s .now) (l .i) (omega arith) in
+    let e = place-end (B (c .before)) (S (c .before)) (c .before .loop .i) (omega arith) in
     (omega arith, omega arith)
 
 pub find-spec : {M : Type 1} → statement M

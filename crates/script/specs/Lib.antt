@@ -1,0 +1,4 @@
+-- What stands in the lines of a script.
+-- Assumes nothing.
+pub mod Numbers
+pub mod Bytes

@@ -1,0 +1,3 @@
+-- Where a message is malformed.
+-- Assumes nothing.
+pub mod Malformed
