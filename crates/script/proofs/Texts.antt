@@ -3,23 +3,28 @@
 use Prim.Native.Nat.{ℕ, suc, _+_, _*_, _-_, _≤_, _<_}
 use mathlib.Core.Path.{_≡_, refl, sym, ap, _∙_}
 use mathlib.Core.Bool.{true, false, _&&_, and-false}
-use mathlib.Core.List.{List, [], _∷_, _++_}
+use mathlib.Core.List.{List, [], _∷_, _++_, append-assoc}
 use native.Mathlib.Omega.{arith}
 use native.Mathlib.Numerals.{add-one}
-use lib.ListN.{length, take, drop, getD, set, drop-of-length-le, length-drop}
-use lib.Seq.{drop-cons, drop-drop, take-suc, take-all, length-take-le}
+use lib.ListN.{length, take, drop, getD, set, drop-of-length-le, length-append, length-drop}
+use lib.Seq.{drop-cons, drop-drop, set-at, take-suc, take-all, length-take-le}
 use lib.Dec.{eqb, ltb}
 use borrow.Author.Tests.{eq-eqb, ne-eqb, le-leb, lt-leb, ltb-true, ltb-false}
 use Rattle.octets.specs.If.{ifb}
 use Rattle.octets.specs.Octets.{over}
 use Rattle.octets.proofs.Bools.{and-l, and-r}
-use Rattle.octets.proofs.Over.{length-over, over-byte}
+use Rattle.octets.proofs.Over.{length-over}
 use Rattle.octets.proofs.If.{ifb-true, ifb-false, on-bool}
 use Rattle.hex.specs.Hex.{isDigit, digitOf}
 use Rattle.hex.specs.Texts.{Pairs, Mark, gap, half, other, markOf, marksOf, pairsBy, pairsIn, ended, broken, behind}
 use Rattle.hex.proofs.Digits.{character-spells}
 use Rattle.script.specs.Bytes.{byteOf, firstByte, countIn, BytesRead}
 use Rattle.script.specs.declared.Bytes.the-variants.{Count, NoBytes}
+
+-- a byte is written right after b
+over-byte : (b xs : List ℕ) (n x : ℕ) → length b ≡ n → n < length xs → set (over b xs) n x ≡ over (b ++ (x ∷ [])) xs
+over-byte b xs n x e h =
+    rw (e, drop-cons xs n 0 h, set-at b (getD xs n 0) (drop (suc n) xs) x n e, length-append, e, add-one, append-assoc)
 
 -- ---- what a character is
 
