@@ -6,7 +6,7 @@ use mathlib.Core.Bool.{Bool, true, false}
 use mathlib.Core.Option.{Option, none, some}
 use mathlib.Core.List.{List, [], _∷_, _++_, map}
 use lib.ListN.{replicate}
-use Rattle.octets.specs.Hex.{hex}
+use Rattle.hex.specs.Texts.{hex}
 use Rattle.octets.specs.If.{ifb}
 use Rattle.octets.specs.Maybe.{_>>=_, _>>_, isSome}
 use Rattle.octets.specs.Octets.{be, fromBeAfter, fromBe, all, same}
@@ -26,7 +26,7 @@ use Rattle.frame.specs.Frame.{Asked}
 use Rattle.payload.specs.declared.Target.the-variants.{Placeholder, Serial}
 use Rattle.payload.specs.declared.Command.{Command}
 use Rattle.payload.specs.declared.Command.the-variants.{Unsupported, Invalid, Create, Rekey, GetUsageAllocation, Activate, Revoke, Destroy, GetAttributes}
-use Rattle.payload.specs.Payload.{limitIn, limitFirst, wantedOf, attributesIn, createIn, targetOf, targetIn, aloneIn, allocationIn, revokeIn, orInvalid, command}
+use Rattle.payload.specs.Payload.{limitIn, limitFirst, wantedOf, limitsIn, maskedIn, attributesIn, createIn, targetOf, targetIn, aloneIn, allocationIn, revokeIn, orInvalid, command}
 use Rattle.act.specs.declared.Outcome.{Outcome}
 use Rattle.act.specs.declared.Outcome.the-variants.{Failed, Created, Done, Showed}
 use Rattle.act.specs.Act.{sought}
@@ -260,5 +260,5 @@ cases = commandCases ++ (stateCases ++ (logCases ++ (placeCases ++ refusalCases)
 
 -- every case holds
 pub worked : all (λ b. b) cases ≡ true
-unfolding cases commandCases stateCases logCases placeCases refusalCases commands heldCommands outcomes flag matrix none-of eight waysTo waysFrom ways itemsRead asking items answering answers events log ofEach heldIn limitOf holding keyed activating rekeying ofPlaces namedBy isUnderstood movesState codeOf listed isAt heldAfter paired orNoItems orNoAnswers onto issuedBy issued grantBy granted limitBy limit ofFrame lowest sought ifb _>>=_ _>>_ isSome be fromBeAfter fromBe all same lengthOk text valueOk encode itemOk wellFormed ended headed firstOf putValue putGroup more walk parse startsWith bytesOf bodyOf numberOf optional digits identifier fromDigitsAfter serialOf limitIn limitFirst wantedOf attributesIn createIn targetOf targetIn aloneIn allocationIn revokeIn orInvalid command line body recordOf placeAt withPlace serialAt stateAt blank firstFrom orElse find freePlace destroyedPlace newPlace
+unfolding cases commandCases stateCases logCases placeCases refusalCases commands heldCommands outcomes flag matrix none-of eight waysTo waysFrom ways itemsRead asking items answering answers events log ofEach heldIn limitOf holding keyed activating rekeying ofPlaces namedBy isUnderstood movesState codeOf listed isAt heldAfter paired orNoItems orNoAnswers onto issuedBy issued grantBy granted limitBy limit ofFrame lowest sought ifb _>>=_ _>>_ isSome be fromBeAfter fromBe all same lengthOk text valueOk encode itemOk wellFormed ended headed firstOf putValue putGroup more walk parse startsWith bytesOf bodyOf numberOf optional digits identifier fromDigitsAfter serialOf limitIn limitFirst wantedOf limitsIn maskedIn attributesIn createIn targetOf targetIn aloneIn allocationIn revokeIn orInvalid command line body recordOf placeAt withPlace serialAt stateAt blank firstFrom orElse find freePlace destroyedPlace newPlace
 worked = refl

@@ -9,7 +9,7 @@ use mathlib.Core.Option.{Option, none, some}
 use mathlib.Core.List.{List, [], _∷_, _++_}
 use lib.Dec.{leb, eqb, lit<}
 use borrow.Author.Tests.{eq-eqb, ne-eqb, eqb-true, le-leb}
-use Rattle.octets.specs.Hex.{hex}
+use Rattle.hex.specs.Texts.{hex}
 use Rattle.octets.specs.If.{ifb}
 use Rattle.octets.specs.Octets.{all}
 use Rattle.octets.specs.Maybe.{_>>=_}
