@@ -5,7 +5,7 @@ use Prim.Native.Nat.{ℕ, _+_, _-_, _^_, _≤_, _<_}
 use native.Mathlib.Omega.{arith}
 use mathlib.Core.Bool.{true}
 use mathlib.Core.List.{List}
-use lib.ListN.{take, drop, replicate, length-append, length-replicate}
+use lib.ListN.{length, take, drop, replicate, length-append, length-replicate}
 use lib.Seq.{drop-drop}
 use Rattle.octets.specs.Octets.{be, part, allZero, Bytes}
 use Rattle.octets.proofs.Numbers.{length-be, be-zero, fromBe-be, be-bytes, bytes-append}
@@ -68,6 +68,9 @@ module _ (n : ℕ) (t : List ℕ) (i : ℕ) (big : Table n t) (lo : i < n) where
 -- the zeros of a body, as the test sees them
 pub zeros-test : (s : List ℕ) → s ≡ be 4 0 → allZero s ≡ true
 zeros-test s e = ap allZero (e ∙ be-zero 4) ∙ zeros-pass 4
+
+pub test-zeros : (s : List ℕ) → length s ≡ 4 → allZero s ≡ true → s ≡ be 4 0
+test-zeros s l e = pass-zeros s e ∙ ap (λ (k : ℕ). replicate k 0) l ∙ sym (be-zero 4)
 
 -- ---- the blank table
 
