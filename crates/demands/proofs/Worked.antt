@@ -15,7 +15,6 @@ use Rattle.ttlv.specs.Items.{Items, nil, encode, itemOk, wellFormed, ended}
 use Rattle.ttlv.specs.Parse.{headed, firstOf, putValue, putGroup, more, walk, parse}
 use Rattle.fields.specs.Fields.{startsWith, bytesOf, bodyOf, numberOf, optional}
 use Rattle.identifier.specs.Identifier.{digits, identifier, fromDigitsAfter, serialOf}
-use Rattle.table.specs.declared.Record.{Record}
 use Rattle.table.specs.Layout.{placeCount}
 use Rattle.table.specs.Records.{line, body, recordOf, placeAt, withPlace, serialAt, stateAt, blank}
 use Rattle.search.specs.declared.Found.the-variants.{At, Nothing}

@@ -4,11 +4,10 @@
 use Prim.Native.Nat.{ℕ, zero, suc, _+_, _≤_, _<_}
 use native.Mathlib.Omega.{arith}
 use mathlib.Core.Path.{_≡_, refl, sym, ap, ap₂, subst, _∙_}
-use mathlib.Core.Bool.{Bool, true, false, not, _&&_, _||_, true≢false}
+use mathlib.Core.Bool.{Bool, true, false, not, _&&_, _||_}
 use mathlib.Core.Option.{Option, none, some}
 use mathlib.Core.List.{List, [], _∷_, _++_}
 use lib.Dec.{leb, eqb, lit<}
-use borrow.Author.Tests.{eq-eqb, ne-eqb, eqb-true, le-leb}
 use Rattle.octets.specs.Hex.{hex}
 use Rattle.octets.specs.If.{ifb}
 use Rattle.octets.specs.Octets.{all}
@@ -29,14 +28,13 @@ use Rattle.search.proofs.Finds.{find-is, none-find}
 use Rattle.soundness.specs.Sound.{sound}
 use Rattle.soundness.specs.Checked.{isAt}
 use Rattle.soundness.proofs.Blank.{blank-sound}
-use Rattle.rules.specs.declared.Reason.{Reason}
 use Rattle.rules.specs.declared.Reason.the-variants.{ObjectNotFound, ServerLimitExceeded}
 use Rattle.rules.specs.declared.Next.the-variants.{To}
 use Rattle.rules.specs.Numbers.{getUsageAllocation, destroy}
 use Rattle.rules.specs.Tests.{due}
 use Rattle.rules.specs.States.{nextState}
 use Rattle.changes.specs.Records.{newRecord, movedTo, inState}
-use Rattle.changes.specs.Changes.{serialMost, isFull, nextSerial}
+use Rattle.changes.specs.Changes.{isFull, nextSerial}
 use Rattle.keeps.proofs.Stores.{Stored, other-serial, here-serial}
 use Rattle.keeps.proofs.Keeps.{Held, keeps-moved}
 use Rattle.keeps.proofs.Leaves.{Born, moved-leaves}
@@ -51,17 +49,17 @@ use Rattle.act.specs.Act.{Did, Plan, sought, failing, carried, createPlan, dest
 use Rattle.answer.specs.Respond.{Answer}
 use Rattle.engine.specs.Effects.{Effect}
 use Rattle.engine.specs.Batch.{Ran, answerTo, lastly, firstly, endsBatch, batch, running}
-use Rattle.demands.specs.Box.{Call, Lent}
+use Rattle.demands.specs.Box.{Call}
 use Rattle.demands.specs.Demand2.{frameOf, ofFrame, refusalConditions, lowest}
 use Rattle.demands.specs.Log.{Event, commandOf, orNoItems, orNoAnswers, heldAfter, paired, itemsAsked, eventsOf, onto, logged, issuedBy, grantBy, granted}
-use Rattle.demands.specs.Demand3.{Run, begins, calls, Stands, namedBy, names, takes, movesState, codeOf, listed, Tame, Path, arrived, went, Demand3}
+use Rattle.demands.specs.Demand3.{Run, begins, calls, namedBy, names, takes, movesState, codeOf, listed, Tame, Path, arrived, went, Demand3}
 use Rattle.demands.proofs.Logged.{granted-more}
-use Rattle.wrong_boxes.specs.Wrong.{orRefused, responding, ranUnder, TakesFrom, GrantsTaken, asksForGone, regranted, regranting, Regrants}
+use Rattle.wrong_boxes.specs.Wrong.{responding, ranUnder, TakesFrom, GrantsTaken, asksForGone, regranted, regranting, Regrants}
 use Rattle.cases.specs.Cards.{countedFrom}
 use Rattle.cases.proofs.Cases.{opened}
-use Rattle.wrong_boxes.proofs.Calling.{isByte, bytes-test, callingOn, calling, lent-on, accepted-is}
+use Rattle.wrong_boxes.proofs.Calling.{isByte, callingOn, calling, lent-on, accepted-is}
 use Rattle.wrong_boxes.proofs.Granting.{grants-taken}
-use Rattle.wrong_boxes.proofs.Filling.{wanted, own, grown, has-room, grown-born, grown-held, firstKey, Filled, filled-blank, filled-room, filled-more, takes-first}
+use Rattle.wrong_boxes.proofs.Filling.{wanted, own, grown, has-room, grown-born, firstKey, Filled, filled-blank, filled-room, filled-more, takes-first}
 
 -- ---- the requests
 
