@@ -127,13 +127,15 @@ writing-1 bytes tableOf short =
     fits-meets-1 (λ c. orRefused c (writing bytes tableOf c)) (λ c lent. fits-or-refused c (writing bytes tableOf c) (λ h.
     let a : Accepted c = told-accepted c (served c) (told c) (served-number c ∙ h) in
     let room : 4824 ≤ length (c .output) = a .room in
-    let l : length (bytes c) ≤ 4824 = short c lent a in
-    (refl, record {
-      short = l;
-      room = omega arith;
-      same-room = length-over (bytes c) (c .output) (omega arith);
-      past = drop-at (bytes c) (drop (length (bytes c)) (c .output)) (length (bytes c)) refl;
-    })))
+    let l : length (bytes c) ≤ 4824 = short c lent a in (
+      refl,
+      record {
+        short = l;
+        room = omega arith;
+        same-room = length-over (bytes c) (c .output) (omega arith);
+        past = drop-at (bytes c) (drop (length (bytes c)) (c .output)) (length (bytes c)) refl;
+      },
+    )))
 
 -- one answer for all, if it is short enough
 pub same-answer-1 : (bytes : List ℕ) (tableOf : Call → List ℕ) → length bytes ≤ 4824 → Demand1 (SameAnswer bytes tableOf)
