@@ -2,12 +2,11 @@
 -- Assumes nothing.
 use Prim.Native.Nat.{ℕ, _+_}
 use mathlib.Core.Path.{_≡_, refl, sym, ap, _∙_}
-use mathlib.Core.Bool.{Bool, true, false, not, _&&_, true≢false, false≢true}
+use mathlib.Core.Bool.{Bool, true, false, not, _&&_, _||_}
 use mathlib.Core.Option.{Option, none, some}
 use mathlib.Core.List.{List, [], _∷_, map}
 use lib.Dec.{eqb}
-use borrow.Author.Tests.{eqb-true, eq-eqb}
-use Rattle.octets.proofs.Bools.{and-l, and-r}
+use borrow.Author.Tests.{not-true, not-false}
 use Rattle.octets.specs.If.{ifb}
 use Rattle.octets.proofs.If.{on-if}
 use Rattle.rules.specs.declared.Reason.{Reason}
@@ -16,7 +15,7 @@ use Rattle.frame.specs.Frame.{Asked, continue}
 use Rattle.act.specs.Act.{Env, Did, envAt, carried, step, isFailed}
 use Rattle.answer.specs.Respond.{Answer}
 use Rattle.engine.specs.Batch.{Ran, answerTo, lastly, firstly, endsBatch, batch}
-use Rattle.demands.specs.Demand2.{Link, Due, planOf, answerFor, linkAt, Chain, none-left, stops, goes-on}
+use Rattle.demands.specs.Demand2.{Link, Due, planOf, answerFor, goesOn, linkAt, Chain, none-left, stops, goes-on}
 use Rattle.demands.specs.Box.{Call}
 use Rattle.table.specs.Layout.{placeCount}
 
@@ -47,23 +46,16 @@ pub record Chained (c : Call) (option i holder : ℕ) (t : List ℕ) (items : Li
   pub chain : Chain c option i holder t items links (ran .table)
   pub answers : map answerFor links ≡ ran .answers
 
--- a batch that ends here: the item failed, and the option is not Continue
-ends-failed : (option : ℕ) (did : Did) → endsBatch option did ≡ true → isFailed (did .outcome) ≡ true
-unfolding endsBatch
-ends-failed option did e = and-l (isFailed (did .outcome)) (not (eqb option continue)) e
-
-ends-stop : (option : ℕ) (did : Did) → endsBatch option did ≡ true → option ≡ continue → ⊥
-unfolding endsBatch
-ends-stop option did e c = false≢true (sym (ap not (eq-eqb option continue c)) ∙ and-r (isFailed (did .outcome)) (not (eqb option continue)) e)
-
--- one that goes on: a failed item only under Continue
-goes-continue : (option : ℕ) (did : Did) → endsBatch option did ≡ false → isFailed (did .outcome) ≡ true → option ≡ continue
-unfolding endsBatch
-goes-continue option did e f = eqb-true option continue (go (eqb option continue) (sym (ap (λ (b : Bool). b && not (eqb option continue)) f) ∙ e))
+-- a batch ends where the demand does not let it go on
+pub ends-not : (option : ℕ) (did : Did) → endsBatch option did ≡ not (goesOn option (did .outcome))
+unfolding endsBatch goesOn
+ends-not option did = go (isFailed (did .outcome)) (eqb option continue)
   where
-    go : (b : Bool) → not b ≡ false → b ≡ true
-    go true h = refl
-    go false h = absurd (true≢false h)
+    go : (a b : Bool) → (a && not b) ≡ not (not a || b)
+    go true true = refl
+    go true false = refl
+    go false true = refl
+    go false false = refl
 
 module _ (c : Call) (option : ℕ) where
   -- the items of a call from number i on
@@ -84,11 +76,11 @@ module _ (c : Call) (option : ℕ) where
           on-if (Chained c option i holder t (asked ∷ later))
           (λ e. record {
             links = linkAt c i holder t asked did ∷ [];
-            chain = stops asked did d (ends-failed option did e) (ends-stop option did e);
+            chain = stops asked did d (not-true _ (sym (ends-not option did) ∙ e));
             answers = refl;
           })
           (λ e. record {
             links = linkAt c i holder t asked did ∷ rest .links;
-            chain = goes-on asked did d (goes-continue option did e) (rest .chain);
+            chain = goes-on asked did d (not-false _ (sym (ends-not option did) ∙ e)) (rest .chain);
             answers = ap {B = List Answer} (λ rs. answerTo asked did ∷ rs) (rest .answers);
           })

@@ -1,5 +1,6 @@
 -- Our box meets the demands, no box but ours meets the first two, and what the third gives for any box; what the demands are made of, worked out.
 -- Assumes nothing.
+pub mod Worked
 pub mod Chains
 pub mod Ladder
 pub mod Meets
@@ -13,4 +14,3 @@ pub mod Follows
 pub mod Meets3
 pub mod Serve
 pub mod Only
-pub mod Worked

@@ -36,7 +36,7 @@ use Rattle.demands.proofs.Ladder.{served, served-number, lowest-most, A
 
 module _ (c : Call) (lent : Lent c) (a : Accepted c) where
   -- its items are bounded as the frame bounds them
-  bounded : AllBounded (a .frame .items)
+  pub bounded : AllBounded (a .frame .items)
   unfolding framed
   bounded = request-bounded (c .request) (a .items) (requestOf (a .frame)) (lent .request) (a .reads) (ap framing (a .framed) ∙ a .asks)
 

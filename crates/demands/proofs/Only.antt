@@ -3,20 +3,17 @@
 use Prim.Native.Nat.{ℕ, suc, _+_, _≤_}
 use native.Mathlib.Omega.{arith}
 use mathlib.Core.Path.{_≡_, refl, sym, ap, subst, _∙_}
-use mathlib.Core.Bool.{Bool, true, false, not, _&&_}
+use mathlib.Core.Bool.{not}
 use mathlib.Core.List.{List, [], _∷_, _++_, map}
 use lib.ListN.{length, take, drop, take-append-drop}
 use lib.Seq.{length-take-le}
-use lib.Dec.{eqb}
-use borrow.Author.Tests.{eq-eqb, ne-eqb}
 use Rattle.octets.specs.If.{ifb}
 use Rattle.octets.specs.Octets.{over}
 use Rattle.octets.proofs.If.{ifb-true, ifb-false}
-use Rattle.octets.proofs.Bools.{and-i}
 use Rattle.octets.proofs.Maybe.{some-is}
 use Rattle.ttlv.specs.Items.{encode}
-use Rattle.frame.specs.Frame.{Asked, Frame, frameIn, optionOf, continue}
-use Rattle.act.specs.Act.{Did, isFailed}
+use Rattle.frame.specs.Frame.{Asked, Frame, frameIn, optionOf}
+use Rattle.act.specs.Act.{Did}
 use Rattle.answer.specs.Respond.{Response, respond}
 use Rattle.engine.specs.Batch.{Ran, answerTo, lastly, firstly, endsBatch, batch, running}
 use Rattle.engine.specs.Effects.{Effect}
@@ -25,7 +22,7 @@ use Rattle.demands.specs.Box.{Call, Box, Lent}
 use Rattle.demands.specs.Demand1.{Demand1, Within}
 use Rattle.demands.specs.Demand2.{Demand2, Answered, Link, answerFor, linkAt, Chain, none-left, stops, goes-on}
 use Rattle.demands.specs.Demand3.{Demand3}
-use Rattle.demands.proofs.Chains.{due-step, ranFrom}
+use Rattle.demands.proofs.Chains.{ends-not, due-step, ranFrom}
 use Rattle.demands.proofs.Ladder.{served, same-effect, served-number, Accepted, ranBy, Told, away, accepted, told}
 use Rattle.demands.proofs.Meets.{front-is}
 use Rattle.demands.proofs.Meets3.{meets-3}
@@ -34,18 +31,6 @@ use Rattle.demands.proofs.Serve.{Serve, serve-right}
 -- ---- a chain is the batch
 
 module _ (c : Call) (option : ℕ) where
-  ends-yes : (did : Did) → isFailed (did .outcome) ≡ true → (option ≡ continue → ⊥) → endsBatch option did ≡ true
-  unfolding endsBatch
-  ends-yes did f o = and-i (isFailed (did .outcome)) (not (eqb option continue)) f (ap not (ne-eqb option continue o))
-
-  ends-no : (did : Did) → (isFailed (did .outcome) ≡ true → option ≡ continue) → endsBatch option did ≡ false
-  unfolding endsBatch
-  ends-no did o = go (isFailed (did .outcome)) refl
-    where
-      go : (b : Bool) → isFailed (did .outcome) ≡ b → (isFailed (did .outcome) && not (eqb option continue)) ≡ false
-      go true f = ap (λ (b : Bool). b && not (eqb option continue)) f ∙ ap not (eq-eqb option continue (o f))
-      go false f = ap (λ (b : Bool). b && not (eqb option continue)) f
-
   abbrev turnOf : ℕ → Asked → List Asked → Did → Ran
   turnOf i asked later x = ifb (endsBatch option x) (lastly (answerTo asked x) (x .table)) (firstly (answerTo asked x) (ranFrom c option (i + 1) (x .holder) (x .table) later))
 
@@ -55,12 +40,12 @@ module _ (c : Call) (option : ℕ) where
   pub chain-one : {i holder : ℕ} {t u : List ℕ} {items : List Asked} {links : List Link} → Chain c option i holder t items links u → ranOf links u ≡ ranFrom c option i holder t items
   unfolding batch answerFor
   chain-one none-left = refl
-  chain-one (stops {i} {holder} {t} {later} asked did d f o) =
+  chain-one (stops {i} {holder} {t} {later} asked did d g) =
       subst (λ (x : Did). ranOf (linkAt c i holder t asked did ∷ []) (did .table) ≡ turnOf i asked later x) (due-step (linkAt c i holder t asked did) d)
-      (sym (ifb-true (endsBatch option did) _ _ (ends-yes did f o)))
-  chain-one (goes-on {i} {holder} {t} {u} {later} {links} asked did d f rest) =
+      (sym (ifb-true (endsBatch option did) _ _ (ends-not option did ∙ ap not g)))
+  chain-one (goes-on {i} {holder} {t} {u} {later} {links} asked did d g rest) =
       subst (λ (x : Did). ranOf (linkAt c i holder t asked did ∷ links) u ≡ turnOf i asked later x) (due-step (linkAt c i holder t asked did) d)
-      (ap (λ (r : Ran). firstly (answerTo asked did) r) (chain-one rest) ∙ sym (ifb-false (endsBatch option did) _ _ (ends-no did f)))
+      (ap (λ (r : Ran). firstly (answerTo asked did) r) (chain-one rest) ∙ sym (ifb-false (endsBatch option did) _ _ (ends-not option did ∙ ap not g)))
 
 -- ---- one effect
 

@@ -15,7 +15,6 @@ use Rattle.ttlv.specs.Items.{Items, nil, encode, itemOk, wellFormed, ended}
 use Rattle.ttlv.specs.Parse.{headed, firstOf, putValue, putGroup, more, walk, parse}
 use Rattle.fields.specs.Fields.{startsWith, bytesOf, bodyOf, numberOf, optional}
 use Rattle.identifier.specs.Identifier.{digits, identifier, fromDigitsAfter, serialOf}
-use Rattle.table.specs.declared.Record.{Record}
 use Rattle.table.specs.Layout.{placeCount}
 use Rattle.table.specs.Records.{line, body, recordOf, placeAt, withPlace, serialAt, stateAt, blank}
 use Rattle.search.specs.declared.Found.the-variants.{At, Nothing}
@@ -29,11 +28,12 @@ use Rattle.payload.specs.declared.Command.the-variants.{Unsupported, Invalid, C
 use Rattle.payload.specs.Payload.{limitIn, limitFirst, wantedOf, limitsIn, maskedIn, attributesIn, createIn, targetOf, targetIn, aloneIn, allocationIn, revokeIn, orInvalid, command}
 use Rattle.act.specs.declared.Outcome.{Outcome}
 use Rattle.act.specs.declared.Outcome.the-variants.{Failed, Created, Done, Showed}
-use Rattle.act.specs.Act.{sought}
+use Rattle.act.specs.Act.{sought, isFailed}
 use Rattle.answer.specs.Respond.{Answer}
-use Rattle.demands.specs.Demand2.{ofFrame, lowest}
+use Rattle.demands.specs.Box.{Call}
+use Rattle.demands.specs.Demand2.{Link, ofFrame, lowest, goesOn, linkAt, answerFor, answersFor}
 use Rattle.demands.specs.Log.{Event, heldAfter, paired, orNoItems, orNoAnswers, onto, issuedBy, issued, grantBy, granted, limitBy, limit}
-use Rattle.demands.specs.Demand3.{namedBy, isUnderstood, movesState, codeOf, names, takes, bornState, listed, listedFor}
+use Rattle.demands.specs.Demand3.{namedBy, isUnderstood, movesState, codeOf, names, takes, mayTake, bornState, listed, listedFor}
 
 -- ---- commands and outcomes
 
@@ -243,22 +243,42 @@ placeCases =
     ∷ same (ofPlaces (listedFor activating (keyed 1) (keyed 2))) (0 ∷ 1 ∷ 0 ∷ [])
     ∷ same (ofPlaces (listedFor activating (keyed 2) (keyed 1))) (0 ∷ 0 ∷ 0 ∷ [])
     ∷ same (bornState activating (keyed 2) ∷ []) (1 ∷ [])
+    -- a free place may be taken, and one in state 5 or 6
+    ∷ same (ofPlaces (mayTake (keyed 4))) (1 ∷ 0 ∷ 1 ∷ [])
+    ∷ same (ofPlaces (mayTake (keyed 5))) (1 ∷ 1 ∷ 1 ∷ [])
+    ∷ same (ofPlaces (mayTake (keyed 6))) (1 ∷ 1 ∷ 1 ∷ [])
     ∷ []
 
--- ---- refusals
+-- ---- refusals, and the items of a call
 
-refusalCases : List Bool
-refusalCases =
+-- a call with clock 9 and a strip of 7s for item 0 and 8s for item 1
+call : Call
+call = record { request = []; table = []; strip = replicate 32 7 ++ replicate 32 8; clock = 9; output = [] }
+
+-- item 1, with an ID of its own
+second : Link
+second = linkAt call 1 5 [] (record { operation = 0x12; id = 1 ∷ 2 ∷ 3 ∷ []; payload = nil }) (record { outcome = Done 6; table = []; holder = 5 })
+
+callCases : List Bool
+callCases =
     same (lowest 1 [] ∷ lowest 1 (false ∷ false ∷ []) ∷ lowest 1 (false ∷ true ∷ true ∷ []) ∷ lowest 5 (true ∷ []) ∷ []) (0 ∷ 0 ∷ 2 ∷ 5 ∷ [])
     ∷ same (flag (ofFrame (λ f. true) none) ∷ []) (0 ∷ [])
+    -- under Continue (1) a batch goes on behind each outcome, under Stop (2) not behind a failure
+    ∷ same (map (λ o. flag (goesOn 1 o)) outcomes) (1 ∷ 1 ∷ 1 ∷ 1 ∷ [])
+    ∷ same (map (λ o. flag (goesOn 2 o)) outcomes) (0 ∷ 1 ∷ 1 ∷ 1 ∷ [])
+    -- item 1 takes bytes 32 to 63 of the strip, the clock that counts and the placeholder, and its answer has its operation and ID
+    ∷ same (second .env .fresh) (replicate 32 8)
+    ∷ same (second .env .clock ∷ second .holder ∷ []) (9 ∷ 5 ∷ [])
+    ∷ same (answerFor second .operation ∷ answerFor second .id) (0x12 ∷ 1 ∷ 2 ∷ 3 ∷ [])
+    ∷ same (map (λ (a : Answer). a .operation) (answersFor 1 (second ∷ second ∷ []))) (0x12 ∷ 0x12 ∷ [])
     ∷ []
 
 -- ---- the list
 
 pub cases : List Bool
-cases = commandCases ++ (stateCases ++ (logCases ++ (placeCases ++ refusalCases)))
+cases = commandCases ++ (stateCases ++ (logCases ++ (placeCases ++ callCases)))
 
 -- every case holds
 pub worked : all (λ b. b) cases ≡ true
-unfolding cases commandCases stateCases logCases placeCases refusalCases commands heldCommands outcomes flag matrix none-of eight waysTo waysFrom ways itemsRead asking items answering answers events log ofEach heldIn limitOf holding keyed activating rekeying ofPlaces namedBy isUnderstood movesState codeOf listed isAt heldAfter paired orNoItems orNoAnswers onto issuedBy issued grantBy granted limitBy limit ofFrame lowest sought ifb _>>=_ _>>_ isSome be fromBeAfter fromBe all same lengthOk text valueOk encode itemOk wellFormed ended headed firstOf putValue putGroup more walk parse startsWith bytesOf bodyOf numberOf optional digits identifier fromDigitsAfter serialOf limitIn limitFirst wantedOf limitsIn maskedIn attributesIn createIn targetOf targetIn aloneIn allocationIn revokeIn orInvalid command line body recordOf placeAt withPlace serialAt stateAt blank firstFrom orElse find freePlace destroyedPlace newPlace
+unfolding cases commandCases stateCases logCases placeCases callCases commands heldCommands outcomes flag matrix none-of eight waysTo waysFrom ways itemsRead asking items answering answers events log ofEach heldIn limitOf holding keyed activating rekeying ofPlaces call second goesOn isFailed answerFor namedBy isUnderstood movesState codeOf listed isAt heldAfter paired orNoItems orNoAnswers onto issuedBy issued grantBy granted limitBy limit ofFrame lowest sought ifb _>>=_ _>>_ isSome be fromBeAfter fromBe all same lengthOk text valueOk encode itemOk wellFormed ended headed firstOf putValue putGroup more walk parse startsWith bytesOf bodyOf numberOf optional digits identifier fromDigitsAfter serialOf limitIn limitFirst wantedOf limitsIn maskedIn attributesIn createIn targetOf targetIn aloneIn allocationIn revokeIn orInvalid command line body recordOf placeAt withPlace serialAt stateAt blank firstFrom orElse find freePlace destroyedPlace newPlace
 worked = refl

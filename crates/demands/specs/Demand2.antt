@@ -17,6 +17,7 @@ use Rattle.rules.specs.declared.Reason.{Reason}
 use Rattle.rules.specs.Tests.{due}
 use Rattle.frame.specs.Frame.{Asked, Frame, frameIn, versionOk, countOk, optionOf, optionOk, continue}
 use Rattle.payload.specs.Payload.{command}
+use Rattle.act.specs.declared.Outcome.{Outcome}
 use Rattle.act.specs.declared.Outcome.the-variants.{Failed}
 use Rattle.act.specs.Act.{Env, Did, Plan, envAt, plan, isFailed}
 use Rattle.answer.specs.Respond.{Answer, Response, respond}
@@ -88,6 +89,10 @@ pub record Due (l : Link) : Type 0 where
 unfoldable pub answerFor : Link → Answer
 answerFor l = record { operation = l .asked .operation; id = l .asked .id; outcome = l .did .outcome }
 
+-- "Under Stop nothing after the first failed item is carried out or answered": whether the item behind this one is, by the option and by what became of this one
+unfoldable pub goesOn : ℕ → Outcome → Bool
+goesOn option outcome = not (isFailed outcome) || eqb option continue
+
 -- what item i of a call meets, with a placeholder and a table
 abbrev pub linkAt : Call → ℕ → ℕ → List ℕ → Asked → Did → Link
 linkAt c i holder t asked did = record { env = envAt (placesOf t) (counted c) (c .strip) i; holder = holder; table = t; asked = asked; did = did }
@@ -98,12 +103,11 @@ pub data Chain (c : Call) (option : ℕ) : ℕ → ℕ → List ℕ → List Ask
   none-left : {i holder : ℕ} {t : List ℕ} → Chain c option i holder t [] [] t
   stops : {i holder : ℕ} {t : List ℕ} {later : List Asked} (asked : Asked) (did : Did)
       → Due (linkAt c i holder t asked did)
-      → isFailed (did .outcome) ≡ true
-      → (option ≡ continue → ⊥)
+      → goesOn option (did .outcome) ≡ false
       → Chain c option i holder t (asked ∷ later) (linkAt c i holder t asked did ∷ []) (did .table)
   goes-on : {i holder : ℕ} {t u : List ℕ} {later : List Asked} {links : List Link} (asked : Asked) (did : Did)
       → Due (linkAt c i holder t asked did)
-      → (isFailed (did .outcome) ≡ true → option ≡ continue)
+      → goesOn option (did .outcome) ≡ true
       → Chain c option (i + 1) (did .holder) (did .table) later links u
       → Chain c option i holder t (asked ∷ later) (linkAt c i holder t asked did ∷ links) u
 

@@ -91,6 +91,10 @@ names ev t i = isAt i (find (placesOf t) t (namedBy (ev .held) (commandOf ev)))
 abbrev pub takes : Event → List ℕ → ℕ → Bool
 takes ev t i = not (eqb (issuedBy (commandOf ev) (ev .answer .outcome)) 0) && isAt i (newPlace (placesOf t) t)
 
+-- a place that a new object may take: "the lowest free place, or if none is free the lowest place in state 5 or 6"
+abbrev pub mayTake : List ℕ → ℕ → Bool
+mayTake t i = isFree t i || isDestroyed (recordIn t i .state)
+
 -- the state in which an object begins that the item issued: "Starts Pre-Active"
 abbrev pub bornState : Event → List ℕ → ℕ
 bornState ev t = preActive
@@ -117,7 +121,7 @@ pub record Moved (ev : Event) (t u : List ℕ) (i : ℕ) : Type 0 where
 
 -- a place that was taken was free or destroyed, and holds the object that was issued, in the state in which it begins
 pub record Taken (ev : Event) (t u : List ℕ) (i : ℕ) : Type 0 where
-  pub was : (isFree t i || isDestroyed (recordIn t i .state)) ≡ true
+  pub was : mayTake t i ≡ true
   pub serial : serialAt u i ≡ issuedBy (commandOf ev) (ev .answer .outcome)
   pub state : recordIn u i .state ≡ bornState ev t
 
@@ -137,7 +141,7 @@ pub record Tame (ev : Event) (t u : List ℕ) : Type 0 where
   pub moves : (i : ℕ) → i < placesOf t → takes ev t i ≡ false → (recordIn u i .state ≡ recordIn t i .state → ⊥) → Moved ev t u i
   -- and what is answered as activated, revoked or destroyed is so: "stay dead" begins with being dead
   pub obeys : (i : ℕ) → i < placesOf t → names ev t i ≡ true → isFailed (ev .answer .outcome) ≡ false → movesState (commandOf ev) ≡ true → listedFor ev t u i ≡ true
-  -- "the lowest free place, or if none is free the lowest place in state 5 or 6"
+  -- a place that is taken was there to be taken, and holds what was issued
   pub taken : (i : ℕ) → i < placesOf t → takes ev t i ≡ true → Taken ev t u i
   -- an identifier that is issued has its record
   pub stands : (issuedBy (commandOf ev) (ev .answer .outcome) ≡ 0 → ⊥) → (i : ℕ) × Stands (issuedBy (commandOf ev) (ev .answer .outcome)) u i

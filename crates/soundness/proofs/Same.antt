@@ -6,13 +6,12 @@ use native.Mathlib.Decide.{ℕ-discrete}
 use mathlib.Core.Path.{_≡_, sym, ap, _∙_}
 use mathlib.Core.Bool.{true}
 use mathlib.Core.List.{List}
-use lib.ListN.{length, replicate}
+use lib.ListN.{replicate}
 use lib.Dec.{lit≤}
 use Rattle.octets.specs.Octets.{be, part, Bytes}
 use Rattle.octets.proofs.Numbers.{be-zero}
 use Rattle.octets.proofs.Stores.{part-part, length-part}
 use Rattle.octets.proofs.Zeros.{pass-zeros, part-zeros}
-use Rattle.table.specs.declared.Record.{Record}
 use Rattle.table.specs.Layout.{leadSize, bodySize, bodyStart, zerosIn}
 use Rattle.table.specs.Records.{lineBytes, bodyBytes, placeAt, serialAt}
 use Rattle.table.proofs.Places.{length-body-at, line-is, body-is}

@@ -11,7 +11,7 @@ use Rattle.octets.specs.Octets.{be, part, allZero, Bytes}
 use Rattle.octets.proofs.Numbers.{length-be, be-zero, fromBe-be, be-bytes, bytes-append}
 use Rattle.table.specs.declared.Record.{Record}
 use Rattle.table.specs.Layout.{lineSize, bodySize, materialSize, lineStart, bodyStart, sizeOf, Table, leadZerosIn}
-use Rattle.table.specs.Records.{line, body, lineBytes, bodyBytes, recordOf, placeAt, serialAt, placesSaid, leadZeros, blank}
+use Rattle.table.specs.Records.{line, body, lineBytes, bodyBytes, recordOf, placeAt, serialAt, placesSaid, leadZeros, blank, lastSerial}
 use Rattle.octets.proofs.Zeros.{zeros-pass, pass-zeros, part-zeros, bytes-zeros}
 use Rattle.table.proofs.Lines.{InRange, recordOf-bytes}
 use Rattle.table.proofs.Places.{length-line-at, length-body-at, serial-is}
@@ -81,6 +81,10 @@ length-blank n = rw (length-append, length-append, length-be 4 0, length-be 4 n,
 pub bytes-blank : (n : ℕ) → Bytes (blank n)
 unfolding blank
 bytes-blank n = bytes-append (be 4 0) _ (be-bytes 4 0) (bytes-append (be 4 n) _ (be-bytes 4 n) (bytes-zeros (sizeOf n - 8)))
+
+pub last-blank : (n : ℕ) → lastSerial (blank n) ≡ 0
+unfolding lastSerial blank be
+last-blank n = fromBe-be 4 0 (omega arith)
 
 pub said-blank : (n : ℕ) → n < 256 ^ 4 → placesSaid (blank n) ≡ n
 unfolding placesSaid blank be

@@ -8,7 +8,7 @@ use mathlib.Core.List.{List, _++_}
 use lib.ListN.{take, drop}
 use lib.Seq.{take-all, take-add, drop-drop}
 use Rattle.octets.specs.Octets.{part}
-use Rattle.table.specs.Layout.{leadSize, lineSize, bodySize, lineStart, bodyStart, sizeOf, Table}
+use Rattle.table.specs.Layout.{leadSize, lineSize, bodySize, lineStart, bodyStart, Table}
 
 -- a part is its first bytes and then the others
 part-add : (t : List ℕ) (at k w : ℕ) → part t at (k + w) ≡ part t at k ++ part t (at + k) w

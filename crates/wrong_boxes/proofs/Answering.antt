@@ -11,6 +11,7 @@ use Rattle.octets.specs.Octets.{fromBe, over}
 use Rattle.octets.proofs.Maybe.{some-is}
 use Rattle.table.specs.Layout.{placeCount}
 use Rattle.table.specs.Records.{placeAt, withPlace, serialAt, blank}
+use Rattle.table.proofs.Blank.{serial-blank}
 use Rattle.answer.specs.Respond.{Response}
 use Rattle.answer.specs.Read.{answersIn}
 use Rattle.engine.specs.Effects.{Effect}
@@ -46,20 +47,30 @@ leaves-due made d c lent taken = as-due (λ x. withTable (made x) (served x)) d 
 abbrev life : Call
 life = calling lifeRequest 0
 
--- a key stands at place 0
+-- what is seen of a call: the serial at place 0, and how long the response is
+record Seen : Type 0 where
+  pub serial : ℕ
+  pub size : ℕ
+
+seen : Effect → Seen
+seen e = record { serial = serialAt (e .table) 0; size = length (take (e .length) (e .output)) }
+
+-- a key stands at place 0, and there are five answers
+life-seen : seen (served life) ≡ record { serial = 1; size = 416 }
+unfolding opened seen
+life-seen = refl
+
 life-serial : serialAt (served life .table) 0 ≡ 1
-unfolding opened
-life-serial = refl
+unfolding seen
+life-serial = ap (λ (s : Seen). s .serial) life-seen
+
+life-length : length (take (served life .length) (served life .output)) ≡ 416
+unfolding seen
+life-length = ap (λ (s : Seen). s .size) life-seen
 
 -- none stands there before
 blank-serial : serialAt (blank placeCount) 0 ≡ 0
-unfolding opened
-blank-serial = refl
-
--- five answers
-life-length : length (take (served life .length) (served life .output)) ≡ 416
-unfolding opened
-life-length = refl
+blank-serial = serial-blank placeCount 0 (lit< tt)
 
 -- ---- the boxes
 
@@ -145,16 +156,21 @@ firstByte t = fromBe (take 1 (placeAt placeCount t 0 .material))
 shared : Call → List ℕ → List ℕ
 shared c due = withPlace placeCount due 0 (withMaterialOf (placeAt placeCount due 1) (placeAt placeCount due 0))
 
-due-byte : firstByte (served pairCall .table) ≡ 0
-unfolding opened firstByte
-due-byte = refl
+-- the first byte of the key at place 0, as it should be and as it is left
+record Materials : Type 0 where
+  pub due : ℕ
+  pub left : ℕ
 
-shared-byte : firstByte (shared pairCall (served pairCall .table)) ≡ 32
-unfolding opened firstByte shared withMaterialOf
-shared-byte = refl
+materials : List ℕ → Materials
+materials t = record { due = firstByte t; left = firstByte (shared pairCall t) }
+
+pair-materials : materials (served pairCall .table) ≡ record { due = 0; left = 32 }
+unfolding opened firstByte shared withMaterialOf materials
+pair-materials = refl
 
 pub shares-material : Demand2 SharesMaterial → ⊥
-unfolding shared
+unfolding shared materials
 shares-material d =
-    let z : _≡_ {A = ℕ} 32 0 = sym shared-byte ∙ ap firstByte (leaves-due shared d pairCall lent-pair pair-accepted) ∙ due-byte in
+    let z : _≡_ {A = ℕ} 32 0 =
+    sym (ap (λ (m : Materials). m .left) pair-materials) ∙ ap firstByte (leaves-due shared d pairCall lent-pair pair-accepted) ∙ ap (λ (m : Materials). m .due) pair-materials in
     omega arith

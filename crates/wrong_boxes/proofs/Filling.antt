@@ -15,7 +15,7 @@ use Rattle.table.specs.declared.Record.{Record}
 use Rattle.table.specs.Layout.{placeCount, materialSize}
 use Rattle.table.specs.Records.{placeAt, serialAt, stateAt, isFree, lastSerial, blank}
 use Rattle.table.proofs.Blank.{serial-blank, last-blank}
-use Rattle.search.specs.declared.Found.the-variants.{At, Nothing}
+use Rattle.search.specs.declared.Found.the-variants.{At}
 use Rattle.search.specs.Search.{freePlace, destroyedPlace, newPlace, isDestroyed}
 use Rattle.search.proofs.First.{At-same, isNothing-at, found-is, fails-none}
 use Rattle.search.proofs.Finds.{new-free, new-destroyed}

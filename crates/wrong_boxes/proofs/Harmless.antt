@@ -1,22 +1,37 @@
--- Which demands the wrong boxes meet: one that refuses everything or does nothing meets 1 and 3, and one that only leaves a wrong table meets 1.
+-- Which demands the wrong boxes meet: one that refuses everything or does nothing meets 1 and 3; one that leaves a wrong table, or answers of its own that are short enough, meets 1.
 -- Assumes nothing.
-use Prim.Native.Nat.{ℕ, _+_, _≤_, _<_}
+use Prim.Native.Nat.{ℕ, _+_, _^_, _≤_, _<_}
 use native.Mathlib.Omega.{arith}
 use mathlib.Core.Path.{_≡_, refl, sym, ap, subst, _∙_}
-use mathlib.Core.List.{List, []}
-use lib.ListN.{length}
-use borrow.Author.Tests.{eqb-true, eqb-false}
+use mathlib.Core.Bool.{true}
+use mathlib.Core.Option.{Option, some}
+use mathlib.Core.List.{List, [], _∷_, map}
+use lib.ListN.{length, take, drop, length-map}
+use lib.Seq.{drop-at}
+use lib.Dec.{leb, ltb}
+use borrow.Author.Tests.{eqb-true, eqb-false, le-leb, lt-ltb}
+use Rattle.octets.specs.Maybe.{_>>=_}
+use Rattle.octets.specs.Octets.{over, all}
+use Rattle.octets.proofs.Over.{length-over}
+use Rattle.octets.proofs.Bools.{and-l, and-i}
 use Rattle.octets.proofs.If.{on-if}
+use Rattle.ttlv.specs.Items.{Items, encode}
+use Rattle.frame.specs.Frame.{Asked, Frame, frameIn, idMost, batchMost}
+use Rattle.frame.proofs.Bounds.{AllBounded}
+use Rattle.answer.specs.Respond.{Answer, respond}
+use Rattle.answer.specs.Read.{outcomeOk, answerOk, allowed}
+use Rattle.answer.proofs.Front.{response-size}
+use Rattle.engine.specs.Batch.{Ran}
 use Rattle.engine.specs.Effects.{Effect}
 use Rattle.engine.specs.Serving.{turnedAway}
 use Rattle.demands.specs.Box.{Call, Box, Lent}
 use Rattle.demands.specs.Demand1.{Demand1, Untouched, Within, refusals}
-use Rattle.demands.specs.Demand2.{refusalConditions, lowest}
+use Rattle.demands.specs.Demand2.{frameOf, refusalConditions, lowest}
 use Rattle.demands.specs.Log.{Event, itemsAsked, answersGiven, eventsOf}
 use Rattle.demands.specs.Demand3.{Path, arrived, Demand3}
-use Rattle.wrong_boxes.specs.Wrong.{orRefused, withTable, Leaves, RefusesAll, DoesNothing}
-use Rattle.demands.proofs.Ladder.{served, served-number, lowest-most}
-use Rattle.demands.proofs.Meets.{meets-1}
+use Rattle.wrong_boxes.specs.Wrong.{orRefused, responding, ranUnder, withTable, Leaves, RefusesAll, DoesNothing, failedAnswer, allFailed, FailsAll, SameAnswer, AnswersFirst}
+use Rattle.demands.proofs.Ladder.{served, served-number, lowest-most, Accepted, Told, away, accepted, told}
+use Rattle.demands.proofs.Meets.{bounded, count-facts, ran-leaves, meets-1}
 use Rattle.demands.proofs.Runs.{events-away, asked-away}
 
 -- ---- demand 3
@@ -94,3 +109,98 @@ leaves-1 made =
     let n : served c .number ≡ 0 = served-number c ∙ h in
     let w : Within c (served c) = within-served c lent n in
     (n, record { short = w .short; room = w .room; same-room = w .same-room; past = w .past })))
+
+-- ---- answers of their own
+
+-- a call that no refusal is due to is accepted
+told-accepted : (c : Call) (e : Effect) → Told c e → e .number ≡ 0 → Accepted c
+told-accepted c e (away k) z = absurd (omega arith)
+told-accepted c e (accepted a) z = a
+
+-- bytes over the front of the output
+abbrev writing : (Call → List ℕ) → (Call → List ℕ) → Call → Effect
+writing bytes tableOf c = record { number = 0; length = length (bytes c); table = tableOf c; output = over (bytes c) (c .output) }
+
+-- a box that refuses as it should, writes bytes that are short enough where a request is accepted, and leaves whatever table
+writing-1 : (bytes tableOf : Call → List ℕ) → ((c : Call) → Lent c → Accepted c → length (bytes c) ≤ 4824) → Demand1 (λ c e. e ≡ orRefused c (writing bytes tableOf c))
+writing-1 bytes tableOf short =
+    fits-meets-1 (λ c. orRefused c (writing bytes tableOf c)) (λ c lent. fits-or-refused c (writing bytes tableOf c) (λ h.
+    let a : Accepted c = told-accepted c (served c) (told c) (served-number c ∙ h) in
+    let room : 4824 ≤ length (c .output) = a .room in
+    let l : length (bytes c) ≤ 4824 = short c lent a in (
+      refl,
+      record {
+        short = l;
+        room = omega arith;
+        same-room = length-over (bytes c) (c .output) (omega arith);
+        past = drop-at (bytes c) (drop (length (bytes c)) (c .output)) (length (bytes c)) refl;
+      },
+    )))
+
+-- one answer for all, if it is short enough
+pub same-answer-1 : (bytes : List ℕ) (tableOf : Call → List ℕ) → length bytes ≤ 4824 → Demand1 (SameAnswer bytes tableOf)
+same-answer-1 bytes tableOf short = writing-1 (λ c. bytes) tableOf (λ c lent a. short)
+
+-- answers that a response may have
+record Fine (answers : List Answer) : Type 0 where
+  pub ok : all answerOk answers ≡ true
+  pub some : 1 ≤ length answers
+  pub few : length answers ≤ batchMost
+
+fine-first : (answers : List Answer) → Fine answers → Fine (take 1 answers)
+unfolding all
+fine-first [] f = f
+fine-first (a ∷ answers) f = record { ok = and-i (answerOk a) true (and-l (answerOk a) (all answerOk answers) (f .ok)) refl; some = omega arith; few = omega arith }
+
+fine-short : (clock : ℕ) (answers : List Answer) → clock < 2 ^ 64 → Fine answers → length (encode (respond (record { clock = clock; answers = answers }))) ≤ 4824
+unfolding allowed
+fine-short clock answers h f =
+    let n = length answers in
+    let ok : allowed (record { clock = clock; answers = answers }) ≡ true =
+    and-i _ (all answerOk answers) (and-i _ (leb n batchMost) (and-i (ltb clock (2 ^ 64)) (leb 1 n) (lt-ltb clock (2 ^ 64) h) (le-leb 1 n (f .some))) (le-leb n batchMost (f .few))) (f .ok) in
+    response-size (record { clock = clock; answers = answers }) ok
+
+responding-1 : (answersOf : Call → List Answer) (tableOf : Call → List ℕ) → ((c : Call) → Lent c → Accepted c → Fine (answersOf c)) → Demand1 (λ c e. e ≡ orRefused c (responding c (answersOf c) (tableOf c)))
+responding-1 answersOf tableOf fine =
+    writing-1 (λ c. encode (respond (record { clock = c .clock; answers = answersOf c }))) tableOf (λ c lent a. fine-short (c .clock) (answersOf c) (lent .clock) (fine c lent a))
+
+-- the frame of an accepted call
+frame-is : (c : Call) (a : Accepted c) → frameOf c ≡ some (a .frame)
+unfolding frameOf _>>=_
+frame-is c a = ap (λ (m : Option Items). m >>= frameIn) (a .reads) ∙ a .framed
+
+-- every item failed: operations and IDs are as the frame bounds them
+failed-ok : (items : List Asked) → AllBounded items → all answerOk (map failedAnswer items) ≡ true
+unfolding all answerOk outcomeOk
+failed-ok [] b = refl
+failed-ok (asked ∷ items) b =
+    and-i _ (all answerOk (map failedAnswer items))
+    (and-i _ true (and-i (ltb (asked .operation) (2 ^ 32)) (leb (length (asked .id)) idMost) (lt-ltb (asked .operation) (2 ^ 32) (b .0 .below)) (le-leb (length (asked .id)) idMost (b .0 .short))) refl)
+    (failed-ok items (b .1))
+
+failed-fine : (c : Call) → Lent c → Accepted c → Fine (allFailed (frameOf c))
+unfolding allFailed
+failed-fine c lent a = subst (λ (o : Option Frame). Fine (allFailed o)) (sym (frame-is c a)) (on-if Fine (λ h. all-fine) (λ h. fine-first _ all-fine))
+  where
+    all-fine : Fine (map failedAnswer (a .frame .items))
+    all-fine =
+        let n : length (map failedAnswer (a .frame .items)) ≡ length (a .frame .items) = length-map (a .frame .items) failedAnswer in
+        record { ok = failed-ok (a .frame .items) (bounded c lent a); some = omega (arith, count-facts c lent a .0); few = omega (arith, count-facts c lent a .1) }
+
+pub fails-all-1 : Demand1 FailsAll
+fails-all-1 = responding-1 (λ c. allFailed (frameOf c)) (λ c. c .table) failed-fine
+
+-- the first answer alone
+abbrev ranRightly : Call → Ran
+ranRightly c = ranUnder (λ option. option) c (frameOf c)
+
+first-fine : (c : Call) → Lent c → Accepted c → Fine (take 1 (ranRightly c .answers))
+unfolding ranUnder
+first-fine c lent a = subst (λ (o : Option Frame). Fine (take 1 (ranUnder (λ option. option) c o .answers))) (sym (frame-is c a)) (fine-first _ (record {
+  ok = ran-leaves c lent a .ok;
+  some = ran-leaves c lent a .some (count-facts c lent a .0);
+  few = omega (arith, ran-leaves c lent a .few, count-facts c lent a .1);
+}))
+
+pub answers-first-1 : Demand1 AnswersFirst
+answers-first-1 = responding-1 (λ c. take 1 (ranRightly c .answers)) (λ c. ranRightly c .table) first-fine

@@ -5,5 +5,6 @@ pub mod Harmless
 pub mod Answering
 pub mod Granting
 pub mod Filling
+pub mod Reaching
 pub mod Regranting
 pub mod Waking

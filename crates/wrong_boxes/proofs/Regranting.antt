@@ -1,231 +1,57 @@
--- A box that grants units to an identifier whose place was taken in the same batch, and is right but for this: a run of it fills the table with 64 keys,
--- then one batch destroys the first, creates another, which takes its place, and asks units for the first.
--- Assumes nothing. The run is reached by laws; what is computed is the reading of three requests and of one response.
-use Prim.Native.Nat.{ℕ, zero, suc, _+_, _≤_, _<_}
+-- A box that grants units to an identifier whose place was taken in the same batch, and is right but for this: where 64 keys stand, one batch destroys the first,
+-- creates another, which takes its place, and asks units for the first.
+-- Assumes nothing. What is computed is the reading of one response.
+use Prim.Native.Nat.{ℕ, zero, suc, _+_, _<_}
 use native.Mathlib.Omega.{arith}
 use mathlib.Core.Path.{_≡_, refl, sym, ap, ap₂, subst, _∙_}
-use mathlib.Core.Bool.{Bool, true, false, not, _&&_, _||_, true≢false}
-use mathlib.Core.Option.{Option, none, some}
+use mathlib.Core.Bool.{Bool, true, false, not, _&&_, _||_}
 use mathlib.Core.List.{List, [], _∷_, _++_}
 use lib.Dec.{leb, eqb, lit<}
-use borrow.Author.Tests.{eq-eqb, ne-eqb, eqb-true, le-leb}
-use Rattle.hex.specs.Texts.{hex}
 use Rattle.octets.specs.If.{ifb}
-use Rattle.octets.specs.Octets.{all}
-use Rattle.octets.specs.Maybe.{_>>=_}
-use Rattle.octets.proofs.If.{ifb-true, ifb-false, on-if}
+use Rattle.octets.proofs.If.{ifb-true, ifb-false}
 use Rattle.octets.proofs.Bools.{and-no, or-l}
-use Rattle.ttlv.specs.Items.{nil}
-use Rattle.ttlv.specs.Parse.{message}
 use Rattle.table.specs.declared.Record.{Record}
 use Rattle.table.specs.Layout.{placeCount}
-use Rattle.table.specs.Records.{placeAt, withPlace, serialAt, stateAt, lastSerial, blank}
+use Rattle.table.specs.Records.{placeAt, withPlace, serialAt, stateAt, lastSerial}
 use Rattle.table.proofs.Places.{state-is}
 use Rattle.search.specs.declared.Found.{Found}
 use Rattle.search.specs.declared.Found.the-variants.{At, Nothing}
 use Rattle.search.specs.Search.{isNothing, find, newPlace, isDestroyed}
 use Rattle.search.proofs.First.{At-same}
 use Rattle.search.proofs.Finds.{find-is, none-find}
-use Rattle.soundness.specs.Sound.{sound}
 use Rattle.soundness.specs.Checked.{isAt}
-use Rattle.soundness.proofs.Blank.{blank-sound}
-use Rattle.rules.specs.declared.Reason.{Reason}
-use Rattle.rules.specs.declared.Reason.the-variants.{ObjectNotFound, ServerLimitExceeded}
+use Rattle.rules.specs.declared.Reason.the-variants.{ObjectNotFound}
 use Rattle.rules.specs.declared.Next.the-variants.{To}
 use Rattle.rules.specs.Numbers.{getUsageAllocation, destroy}
 use Rattle.rules.specs.Tests.{due}
 use Rattle.rules.specs.States.{nextState}
 use Rattle.changes.specs.Records.{newRecord, movedTo, inState}
-use Rattle.changes.specs.Changes.{serialMost, isFull, nextSerial}
+use Rattle.changes.specs.Changes.{isFull, nextSerial}
 use Rattle.keeps.proofs.Stores.{Stored, other-serial, here-serial}
 use Rattle.keeps.proofs.Keeps.{Held, keeps-moved}
 use Rattle.keeps.proofs.Leaves.{Born, moved-leaves}
-use Rattle.frame.specs.Frame.{Asked, Frame, frameIn, optionOf}
+use Rattle.frame.specs.Frame.{Asked, optionOf}
 use Rattle.payload.specs.declared.Target.the-variants.{Serial}
 use Rattle.payload.specs.declared.Command.{Command}
 use Rattle.payload.specs.declared.Command.the-variants.{Create, GetUsageAllocation, Destroy}
 use Rattle.payload.specs.Payload.{command}
 use Rattle.act.specs.declared.Outcome.{Outcome}
 use Rattle.act.specs.declared.Outcome.the-variants.{Failed, Created, Done}
-use Rattle.act.specs.Act.{Did, Plan, sought, failing, carried, createPlan, destroyPlan, allocationPlan, onFound, plan, step, isFailed}
+use Rattle.act.specs.Act.{Did, sought, failing, destroyPlan, allocationPlan, onFound, step, isFailed}
 use Rattle.answer.specs.Respond.{Answer}
 use Rattle.engine.specs.Effects.{Effect}
-use Rattle.engine.specs.Batch.{Ran, answerTo, lastly, firstly, endsBatch, batch, running}
-use Rattle.demands.specs.Box.{Call, Lent}
-use Rattle.demands.specs.Demand2.{frameOf, ofFrame, refusalConditions, lowest}
+use Rattle.engine.specs.Batch.{Ran, answerTo, firstly, batch, running}
+use Rattle.demands.specs.Box.{Call}
+use Rattle.demands.specs.Demand2.{frameOf}
 use Rattle.demands.specs.Log.{Event, commandOf, orNoItems, orNoAnswers, heldAfter, paired, itemsAsked, eventsOf, onto, logged, issuedBy, grantBy, granted}
-use Rattle.demands.specs.Demand3.{Run, begins, calls, Stands, namedBy, names, takes, movesState, codeOf, listed, Tame, Path, arrived, went, Demand3}
+use Rattle.demands.specs.Demand3.{Run, namedBy, names, takes, movesState, codeOf, listed, Tame, Path, arrived, went, Demand3}
 use Rattle.demands.proofs.Logged.{granted-more}
-use Rattle.wrong_boxes.specs.Wrong.{orRefused, responding, ranUnder, TakesFrom, GrantsTaken, asksForGone, regranted, regranting, Regrants}
-use Rattle.cases.specs.Cards.{countedFrom}
+use Rattle.wrong_boxes.specs.Wrong.{responding, ranUnder, TakesFrom, GrantsTaken, asksForGone, regranted, regranting, Regrants}
 use Rattle.cases.proofs.Cases.{opened}
-use Rattle.wrong_boxes.proofs.Calling.{isByte, bytes-test, callingOn, calling, lent-on, accepted-is}
+use Rattle.wrong_boxes.proofs.Calling.{callingOn, lent-on, accepted-is}
 use Rattle.wrong_boxes.proofs.Granting.{grants-taken}
-use Rattle.wrong_boxes.proofs.Filling.{wanted, own, grown, has-room, grown-born, grown-held, firstKey, Filled, filled-blank, filled-room, filled-more, takes-first}
-
--- ---- the requests
-
-createItem : List ℕ
-createItem = hex "42000F01 00000088 42005C05 00000004 00000001 00000000 42007901 00000070 42005705 00000004 00000002 00000000 42012501 00000058 42002805 00000004 00000003 00000000 42002A02 00000004 00000080 00000000 42002C02 00000004 00000004 00000000 42009501 00000020 42009703 00000008 00000000 00000064 42009805 00000004 00000002 00000000"
-
--- one Create
-createRequest : List ℕ
-createRequest = hex "42007801 000000D0 42007701 00000038 42006901 00000020 42006A02 00000004 00000002 00000000 42006B02 00000004 00000001 00000000 42000D02 00000004 00000001 00000000" ++ createItem
-
--- Destroy of identifier 00000001, Create, and 5 units asked for 00000001
-takeRequest : List ℕ
-takeRequest =
-    hex "42007801 00000140 42007701 00000038 42006901 00000020 42006A02 00000004 00000002 00000000 42006B02 00000004 00000001 00000000 42000D02 00000004 00000003 00000000 42000F01 00000028 42005C05 00000004 00000014 00000000 42007901 00000010 42009407 00000008 30303030 30303031"
-    ++ (createItem
-    ++ hex "42000F01 00000038 42005C05 00000004 00000011 00000000 42007901 00000020 42009407 00000008 30303030 30303031 42009603 00000008 00000000 00000005")
-
--- the frame that a request is
-frameOr : Option Frame → Frame
-frameOr none = record { header = record { major = 0; minor = 0; option = none; count = 0 }; items = [] }
-frameOr (some f) = f
-
-frameFrom : List ℕ → Frame
-frameFrom request = frameOr (message request >>= frameIn)
-
-itemAt : ℕ → List Asked → Asked
-itemAt i [] = record { operation = 0; id = []; payload = nil }
-itemAt zero (asked ∷ later) = asked
-itemAt (suc i) (asked ∷ later) = itemAt i later
-
-createAsked : Asked
-createAsked = itemAt 0 (frameFrom createRequest .items)
-
-destroyAsked : Asked
-destroyAsked = itemAt 0 (frameFrom takeRequest .items)
-
-grantAsked : Asked
-grantAsked = itemAt 2 (frameFrom takeRequest .items)
-
--- they are read so
-create-read : (message createRequest >>= frameIn) ≡ some (record { header = frameFrom createRequest .header; items = createAsked ∷ [] })
-unfolding opened createItem createRequest frameOr frameFrom itemAt createAsked
-create-read = refl
-
-take-read : (message takeRequest >>= frameIn) ≡ some (record { header = frameFrom takeRequest .header; items = destroyAsked ∷ createAsked ∷ grantAsked ∷ [] })
-unfolding opened createItem createRequest takeRequest frameOr frameFrom itemAt createAsked destroyAsked grantAsked
-take-read = refl
-
-create-command : command (createAsked .operation) (createAsked .payload) ≡ Create wanted
-unfolding opened createItem createRequest frameOr frameFrom itemAt createAsked
-create-command = refl
-
-destroy-command : command (destroyAsked .operation) (destroyAsked .payload) ≡ Destroy (Serial 1)
-unfolding opened createItem takeRequest frameOr frameFrom itemAt destroyAsked
-destroy-command = refl
-
-grant-command : command (grantAsked .operation) (grantAsked .payload) ≡ GetUsageAllocation (Serial 1) 5
-unfolding opened createItem takeRequest frameOr frameFrom itemAt grantAsked
-grant-command = refl
-
--- ---- a call on any sound table
-
-accepted-on : (request t : List ℕ) → sound placeCount t ≡ true → lowest 1 (refusalConditions (calling request 0)) ≡ 0 → lowest 1 (refusalConditions (callingOn t request 0)) ≡ 0
-unfolding refusalConditions frameOf
-accepted-on request t right e = rw (right ∙ sym (blank-sound placeCount (lit< tt))) e
-
-create-accepted : lowest 1 (refusalConditions (calling createRequest 0)) ≡ 0
-unfolding opened createItem createRequest frameOf ofFrame refusalConditions lowest
-create-accepted = refl
-
-take-accepted : lowest 1 (refusalConditions (calling takeRequest 0)) ≡ 0
-unfolding opened createItem takeRequest frameOf ofFrame refusalConditions lowest
-take-accepted = refl
-
-create-bytes : all isByte createRequest ≡ true
-unfolding opened isByte createItem createRequest
-create-bytes = refl
-
-take-bytes : all isByte takeRequest ≡ true
-unfolding opened isByte createItem takeRequest
-take-bytes = refl
-
--- ---- batches
-
-module _ (option i holder : ℕ) (t : List ℕ) (asked : Asked) (did : Did) (is : step (own i) holder t asked ≡ did) where
-  abbrev behind : List Asked → Ran
-  behind later = batch placeCount 0 (countedFrom 0 512) option (i + 1) (did .holder) (did .table) later
-
-  -- the batch goes on with what is given for what the item did
-  turned : (later : List Asked)
-      → batch placeCount 0 (countedFrom 0 512) option i holder t (asked ∷ later)
-      ≡ ifb (endsBatch option did) (lastly (answerTo asked did) (did .table)) (firstly (answerTo asked did) (behind later))
-  unfolding batch
-  turned later =
-      ap (λ (d : Did). ifb (endsBatch option d) (lastly (answerTo asked d) (d .table))
-      (firstly (answerTo asked d) (batch placeCount 0 (countedFrom 0 512) option (i + 1) (d .holder) (d .table) later))) is
-
-  batch-last : batch placeCount 0 (countedFrom 0 512) option i holder t (asked ∷ []) ≡ lastly (answerTo asked did) (did .table)
-  unfolding batch
-  batch-last = turned [] ∙ on-if (λ (r : Ran). r ≡ lastly (answerTo asked did) (did .table)) (λ h. refl) (λ h. refl)
-
-  batch-on : (later : List Asked) → isFailed (did .outcome) ≡ false → batch placeCount 0 (countedFrom 0 512) option i holder t (asked ∷ later) ≡ firstly (answerTo asked did) (behind later)
-  unfolding endsBatch
-  batch-on later h = turned later ∙ ifb-false _ _ _ (and-no (isFailed (did .outcome)) _ h)
-
--- ---- the items
-
--- a plan as its tests decide
-decided : List ℕ → Plan → Did
-decided t p = carried t (p .did) (due (p .tests))
-
-planned : (i holder : ℕ) (t : List ℕ) (asked : Asked) (c : Command) → command (asked .operation) (asked .payload) ≡ c → step (own i) holder t asked ≡ decided t (plan (own i) holder t c)
-unfolding step decided
-planned i holder t asked c e = ap (λ (x : Command). decided t (plan (own i) holder t x)) e
-
--- what a Create leaves
-abbrev created : ℕ → List ℕ → Did
-created i t = record { outcome = Created (nextSerial t); table = grown i t; holder = nextSerial t }
-
-create-step : (i holder : ℕ) (t : List ℕ) → isFull placeCount t ≡ false → step (own i) holder t createAsked ≡ created i t
-unfolding decided plan createPlan due carried ifb
-create-step i holder t room =
-    planned i holder t createAsked (Create wanted) create-command
-    ∙ ap (λ (full : Bool). carried t (created i t) (ifb full (some ServerLimitExceeded) none)) room
-
--- ---- the run
-
-abbrev createCall : List ℕ → Call
-createCall t = callingOn t createRequest 0
-
-create-ran : (t : List ℕ) → isFull placeCount t ≡ false → ranUnder (λ option. option) (createCall t) (frameOf (createCall t)) ≡ lastly (answerTo createAsked (created 0 t)) (grown 0 t)
-unfolding frameOf ranUnder running
-create-ran t room =
-    ap (ranUnder (λ option. option) (createCall t)) create-read
-    ∙ batch-last (optionOf (frameFrom createRequest .header .option)) 0 0 t createAsked (created 0 t) (create-step 0 0 t room)
-
--- what the box leaves of it
-abbrev createLeft : List ℕ → Effect
-createLeft t = regranting (createCall t) (lastly (answerTo createAsked (created 0 t)) (grown 0 t))
-
-create-left : (t : List ℕ) → Held placeCount t → isFull placeCount t ≡ false → Regrants (createCall t) (createLeft t)
-create-left t held room =
-    ap (regranting (createCall t)) (sym (create-ran t room))
-    ∙ accepted-is (createCall t) _ (accepted-on createRequest t (held .right) create-accepted)
-
--- a run that leaves k keys
-record Reached (k : ℕ) : Type 0 where
-  pub log : List Event
-  pub table : List ℕ
-  pub run : Run Regrants log table
-  pub filled : Filled k table
-
-reached : (k : ℕ) → k ≤ placeCount → Reached k
-reached zero h = record { log = []; table = blank placeCount; run = begins; filled = filled-blank }
-reached (suc k) h =
-    let r = reached k (omega arith) in
-    let room = filled-room k (r .table) (r .filled) (omega arith) in
-    let held = r .filled .held in
-    record {
-      log = logged (createCall (r .table)) (createLeft (r .table)) (r .log);
-      table = grown 0 (r .table);
-      run = calls (createCall (r .table)) (createLeft (r .table)) (r .run) refl (lent-on (r .table) createRequest 0 (held .bytes) create-bytes (lit< tt)) (create-left (r .table) held room);
-      filled = filled-more k (r .table) (r .filled) (omega arith);
-    }
+use Rattle.wrong_boxes.proofs.Filling.{wanted, own, grown, has-room, grown-born, firstKey, Filled, takes-first}
+use Rattle.wrong_boxes.proofs.Reaching.{createItem, createRequest, takeRequest, frameOr, frameFrom, itemAt, createAsked, destroyAsked, grantAsked, take-read, create-command, destroy-command, grant-command, accepted-on, take-accepted, take-bytes, batch-last, batch-on, decided, planned, created, create-step, reached}
 
 -- ---- the last call, on a full table
 
