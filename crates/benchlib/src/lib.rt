@@ -1,6 +1,11 @@
-// The bench program's work: a request from a file descriptor on a blank table, its response in hex on a line, or the refusal's number.
-// What it prints is tested and not proved; the call is the engine's.
-
+// The bench program's work: a request from a file descriptor on a blank table, its response in hex
+// on a line, or the refusal's number. What is lent to the call is proved, and the call is the
+// engine's; what is printed is tested and not proved.
+ghost use mathlib.Core.Path.{_≡_};
+ghost use lib.ListN.{length};
+ghost use Rattle.octets.specs.Octets.{countedFrom};
+ghost use Rattle.table.specs.Layout.{placeCount};
+ghost use Rattle.table.specs.Records.{blank};
 use table::Layout;
 
 // One byte above the longest request, so that a longer one is seen.
@@ -9,8 +14,19 @@ const REQUEST_ROOM: usize = engine::REQUEST_MOST + 1;
 // The last byte of the place count: all of a blank table that is not zero.
 const COUNT_BYTE: usize = Layout::PLACES_IN + 3;
 
-// The bytes 0 to 255 twice.
-fn fill_strip(s: &mut [u8]) {
+// "A blank table is 4,624 bytes, all zero but the place count".
+pub fn blank_table() -> [u8; Layout::SIZE]
+    ensures { λ r. ⌜ r ≡ blank placeCount ⌝ }
+{
+    let mut table = [0u8; Layout::SIZE];
+    table[COUNT_BYTE] = Layout::PLACES as u8;
+    table
+}
+
+// The bytes 0 to 255 again and again: of a strip, twice.
+pub fn fill_strip(s: &mut [u8])
+    ensures { λ _. ⌜ now (s .exit) ≡ countedFrom 0 (length (now (s .entry))) ⌝ }
+{
     let mut i: usize = 0;
     while i < s.len() {
         s[i] = (i % 256) as u8;
@@ -21,8 +37,7 @@ fn fill_strip(s: &mut [u8]) {
 pub fn run(fd: i32) {
     let mut request = [0u8; REQUEST_ROOM];
     let n = io::read_full(fd, &mut request);
-    let mut table = [0u8; Layout::SIZE];
-    table[COUNT_BYTE] = Layout::PLACES as u8;
+    let mut table = blank_table();
     let mut strip = [0u8; engine::STRIP_SIZE];
     fill_strip(&mut strip);
     let mut out = [0u8; engine::ROOM_LEAST];

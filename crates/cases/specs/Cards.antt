@@ -1,13 +1,13 @@
 -- 01, "Bench cards": the cases marked P, as one list of tests over the definitions. Requests and responses stand as bytes.
 -- Assumes nothing. The bytes were worked out from the papers and not from these definitions.
-use Prim.Native.Nat.{ℕ, zero, suc, _+_, _%_}
+use Prim.Native.Nat.{ℕ, zero, suc, _+_}
 use mathlib.Core.Bool.{Bool, true, false, not, _&&_}
 use mathlib.Core.Option.{Option, none, some}
 use mathlib.Core.List.{List, [], _∷_, _++_}
 use lib.ListN.{length, take, replicate}
 use lib.Dec.{eqb}
 use Rattle.octets.specs.Maybe.{isSome}
-use Rattle.octets.specs.Octets.{fromBe, part, same}
+use Rattle.octets.specs.Octets.{fromBe, part, same, countedFrom}
 use Rattle.ttlv.specs.Items.{Items, nil, value, group, encode}
 use Rattle.ttlv.specs.Parse.{message}
 use Rattle.engine.specs.Effects.{Effect}
@@ -72,11 +72,6 @@ nested zero = nil
 nested (suc d) = group 0x420001 (nested d) nil
 
 -- ---- calls
-
--- the bytes 0 to 255 again and again
-unfoldable pub countedFrom : ℕ → ℕ → List ℕ
-countedFrom i zero = []
-countedFrom i (suc k) = i % 256 ∷ countedFrom (i + 1) k
 
 -- a call with clock 0, "a strip of the bytes 0 to 255 twice" and 4,824 bytes of room
 unfoldable pub callOn : List ℕ → List ℕ → Effect

@@ -1,10 +1,11 @@
-// The feed program's work: calls of the engine in a plain binary form from one file descriptor, and all that each of them left, to another.
-// What it writes is tested and not proved; the call is the engine's. docs/CONTRACTS.md has the form.
+// The feed program's work: calls of the engine in a plain binary form from one file descriptor, and
+// all that each of them left, to another. What a head says is proved, and the call is the engine's;
+// what is written is tested and not proved. docs/CONTRACTS.md has the form.
 ghost use mathlib.Core.Path.{_≡_};
 ghost use Prim.Native.Nat.{_≤_};
 ghost use lib.ListN.{length};
-ghost use mir.Syntax.{w64};
-ghost use mir.Val.{ofZ};
+ghost use Rattle.octets.specs.Octets.{fromBe, part};
+ghost use Rattle.feedlib.specs.Head.{headOf};
 
 // The bytes of a head.
 const HEAD: usize = 24;
@@ -28,32 +29,22 @@ struct Head {
 fn length_at(s: &[u8], at: usize) -> usize
     requires { ⌜ at ≤ 12 ⌝ }
     requires { ⌜ length (now s) ≡ 24 ⌝ }
+    ensures { λ r. ⌜ r ≡ fromBe (part (now (s .entry)) at 4) ⌝ }
 {
-    let end = at + 4;
-    octets::number(&s[at..end]) as usize
-}
-
-// The clock of these 64 bits, two's complement.
-fn clock_of(bits: u64) -> i64
-    ensures { λ r. ⌜ ofZ w64 r ≡ bits ⌝ }
-{
-    if bits < 9223372036854775808 {
-        bits as i64
-    } else {
-        -1 - ((18446744073709551615 - bits) as i64)
-    }
+    octets::number_at(s, at, 4) as usize
 }
 
 // A head's parts. `next` shows its size.
 fn read_head(s: &[u8]) -> Head
     requires { ⌜ length (now s) ≡ 24 ⌝ }
+    ensures { λ r. ⌜ r ≡ headOf (now (s .entry)) ⌝ }
 {
     Head {
         request: length_at(s, 0),
         table: length_at(s, 4),
         strip: length_at(s, 8),
         room: length_at(s, 12),
-        clock: clock_of(octets::number(&s[16..24])),
+        clock: clock::clock_of(octets::number_at(s, 16, 8)),
     }
 }
 
@@ -87,7 +78,8 @@ fn give(to: i32, number: u32, used: usize, table: &[u8], out: &[u8]) -> bool {
     false
 }
 
-// One call in buffers of its sizes: the bytes read, the engine called, what it left written. Answers whether to go on.
+// One call in buffers of its sizes: the bytes read, the engine called, what it left written.
+// Answers whether to go on.
 fn call(
     from: i32,
     to: i32,
@@ -160,7 +152,8 @@ fn next(from: i32, to: i32) -> bool {
     headed(from, to, read_head(&head))
 }
 
-// All cases until the input ends. A proved loop has to end, and nothing says that an input does: it counts down from a number that no run uses up.
+// All cases until the input ends. A proved loop has to end, and nothing says that an input does: it
+// counts down from a number that no run uses up.
 pub fn run(from: i32, to: i32) {
     let mut turns = u64::MAX;
     while turns > 0 && next(from, to) {

@@ -1,11 +1,12 @@
 -- Laws of bytes written over the front of others, and of a part that was lent and written over.
 -- Assumes nothing.
 use mathlib.Core.Path.{_≡_, refl, _∙_}
-use Prim.Native.Nat.{ℕ, _+_, _-_, _≤_}
+use Prim.Native.Nat.{ℕ, suc, _+_, _-_, _≤_, _<_}
 use native.Mathlib.Omega.{arith}
-use mathlib.Core.List.{List, [], _++_, append-assoc, append-nil}
-use lib.ListN.{length, take, drop, length-append, length-take, length-drop, drop-of-length-le}
-use lib.Seq.{take-at, drop-at, drop-drop, take-all}
+use native.Mathlib.Numerals.{add-one}
+use mathlib.Core.List.{List, [], _∷_, _++_, append-assoc, append-nil}
+use lib.ListN.{length, take, drop, set, getD, length-append, length-take, length-drop, drop-of-length-le}
+use lib.Seq.{take-at, drop-at, drop-drop, take-all, set-at, drop-cons}
 use borrow.Rule.Slice.PartMut.{putMid, midOf, postOf, same-len-mid}
 use Rattle.octets.specs.Octets.{over}
 
@@ -22,6 +23,11 @@ pub over-front : (n : ℕ) (b d xs : List ℕ) → length d ≡ n → n ≤ leng
 over-front n b d xs e h =
     let l : length (take n xs) ≡ n = rw length-take (omega arith) in
     rw (e, drop-at (take n xs) (over b (drop n xs)) n l, drop-drop, length-append, e, append-assoc)
+
+-- a byte is written right after b
+pub over-byte : (b xs : List ℕ) (n x : ℕ) → length b ≡ n → n < length xs → set (over b xs) n x ≡ over (b ++ (x ∷ [])) xs
+over-byte b xs n x e h =
+    rw (e, drop-cons xs n 0 h, set-at b (getD xs n 0) (drop (suc n) xs) x n e, length-append, e, add-one, append-assoc)
 
 -- ---- the room from a place on, lent
 

@@ -47,6 +47,11 @@ same [] (y ∷ ys) = false
 same (x ∷ xs) [] = false
 same (x ∷ xs) (y ∷ ys) = eqb x y && same xs ys
 
+-- the bytes from i on, as many as k, with 0 behind 255
+unfoldable pub countedFrom : ℕ → ℕ → List ℕ
+countedFrom i zero = []
+countedFrom i (suc k) = i % 256 ∷ countedFrom (i + 1) k
+
 -- each element is a byte
 abbrev pub Bytes : List ℕ → Type 0
 Bytes [] = Unit {0}

@@ -1,4 +1,4 @@
-// What programs print: bytes as upper-case hex, and what came of a call.
+// What programs print: bytes as upper-case hex, what came of a call, and lines of scripts.
 // Assumes nothing. What is printed is tested and not proved.
 
 // A byte as two hex digits.
@@ -20,8 +20,8 @@ pub fn line(s: &[u8]) {
     io::write_all(1, b"\n");
 }
 
-// The response at the front of the output, or the number of the refusal. That a response fits is the engine's promise; here it is tested, so that
-// nothing has to be asked.
+// The response at the front of the output, or the number of the refusal. That a response fits is
+// the engine's promise; here it is tested, so that nothing has to be asked.
 pub fn answer(out: &[u8], number: u32, len: usize) {
     if number != 0 {
         io::write_all(1, b"refusal ");
@@ -34,4 +34,22 @@ pub fn answer(out: &[u8], number: u32, len: usize) {
         return;
     }
     line(&out[..len]);
+}
+
+// The name of a card, before what came of it.
+pub fn name(s: &[u8]) {
+    io::write_all(1, s);
+    io::write_all(1, b": ");
+}
+
+// A line that is none of a script.
+pub fn bad_line(s: &[u8]) {
+    io::write_all(1, b"bad line: ");
+    io::write_all(1, s);
+    io::write_all(1, b"\n");
+}
+
+// Of a script that is longer than what a program holds, only that is said.
+pub fn too_long() {
+    io::write_all(1, b"script too long\n");
 }

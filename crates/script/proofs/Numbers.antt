@@ -2,7 +2,7 @@
 -- Assumes nothing.
 use Prim.Native.Nat.{ℕ, _+_, _*_, _-_, _≤_, _<_, _^_, min}
 use mathlib.Core.Path.{_≡_, refl, sym, ap, _∙_}
-use mathlib.Core.Bool.{true, false}
+use mathlib.Core.Bool.{true, false, _&&_}
 use mathlib.Core.List.{List, [], _∷_}
 use mathlib.Core.Option.{none, some}
 use native.Mathlib.Omega.{arith}
@@ -14,16 +14,18 @@ use lib.Dec.{eqb, leb, ltb}
 use borrow.Author.Tests.{lt-ltb, le-ltb, leb-true, ltb-true, ltb-false}
 use Rattle.octets.specs.If.{ifb}
 use Rattle.octets.specs.Maybe.{_>>_}
-use Rattle.octets.proofs.Bools.{and-r}
-use Rattle.octets.proofs.If.{ifb-true, ifb-false, on-bool}
+use Rattle.octets.proofs.Bools.{and-l, and-r}
+use Rattle.octets.proofs.If.{ifb-true, ifb-false, on-if, on-bool}
 use mir.Syntax.{w64}
 use mir.Val.{ofZ, toZ}
 use mir.Facts.{toZ-ofZ, toZ-pos}
 use Rattle.clock.proofs.Signs.{top-below}
 use Rattle.hex.specs.Hex.{isDecimal}
 use Rattle.script.specs.Numbers.{decimalOf, numberAfter, orNoNumber, numberIn, fromZero, belowZero, clockIn}
-use Rattle.script.specs.declared.Number.the-variants.{NoNumber}
-use Rattle.script.specs.declared.Clock.the-variants.{NoClock}
+use Rattle.script.specs.declared.Number.{Number}
+use Rattle.script.specs.declared.Number.the-variants.{Is, NoNumber}
+use Rattle.script.specs.declared.Clock.{Clock}
+use Rattle.script.specs.declared.Clock.the-variants.{At, NoClock}
 
 -- a character counts as a digit just if it is one
 pub digit-none : (c : ℕ) → decimalOf c ≡ 10 → isDecimal c ≡ false
@@ -91,6 +93,33 @@ module _ {z : ℤ} (n : ℕ) (h : n < 2 ^ 63) where
 
   pub stored-down : z ≡ toZ w64 (18446744073709551615 - n) → toZ w64 (ofZ w64 z) ≡ negsuc n
   stored-down p = rw (p ∙ top-below n h) (toZ-ofZ {w = w64} (record { sfits = h }))
+
+-- a clock that was read is one of 64 bits: it is stored as it is
+abbrev Kept : Clock → Type 0
+Kept NoClock = Unit {0}
+Kept (At z) = toZ w64 (ofZ w64 z) ≡ z
+
+up-kept : (number : Number) → Kept (fromZero number)
+up-kept NoNumber = tt
+up-kept (Is n) = on-if Kept (λ e. toZ-ofZ {w = w64} (record { sfits = ltb-true n (2 ^ 63) e })) (λ e. tt)
+
+down-kept : (number : Number) → Kept (belowZero number)
+down-kept NoNumber = tt
+down-kept (Is n) = on-if Kept in-range (λ e. tt)
+  where
+    in-range : (leb 1 n && leb n (2 ^ 63)) ≡ true → Kept (At (negsuc (n - 1)))
+    in-range e =
+        let least = leb-true 1 n (and-l (leb 1 n) (leb n (2 ^ 63)) e) in
+        let most = leb-true n (2 ^ 63) (and-r (leb 1 n) (leb n (2 ^ 63)) e) in
+        toZ-ofZ {w = w64} (record { sfits = omega arith })
+
+kept : (s : List ℕ) → Kept (clockIn s)
+unfolding clockIn
+kept [] = tt
+kept (c ∷ s) = on-if Kept (λ e. down-kept (numberIn s)) (λ e. up-kept (numberIn (c ∷ s)))
+
+pub clock-kept : (s : List ℕ) {z : ℤ} → clockIn s ≡ At z → toZ w64 (ofZ w64 z) ≡ z
+clock-kept s e = rw e at (kept s)
 
 -- what is past the end is nothing
 pub drop-min : (s : List ℕ) (i : ℕ) → drop (min i (length s)) s ≡ drop i s

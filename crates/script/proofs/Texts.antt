@@ -3,28 +3,24 @@
 use Prim.Native.Nat.{ℕ, suc, _+_, _*_, _-_, _≤_, _<_}
 use mathlib.Core.Path.{_≡_, refl, sym, ap, _∙_}
 use mathlib.Core.Bool.{true, false, _&&_, and-false}
-use mathlib.Core.List.{List, [], _∷_, _++_, append-assoc}
+use mathlib.Core.List.{List, [], _∷_, _++_}
 use native.Mathlib.Omega.{arith}
 use native.Mathlib.Numerals.{add-one}
-use lib.ListN.{length, take, drop, getD, set, drop-of-length-le, length-append, length-drop}
-use lib.Seq.{drop-cons, drop-drop, set-at, take-suc, take-all, length-take-le}
-use lib.Dec.{eqb, ltb}
-use borrow.Author.Tests.{eq-eqb, ne-eqb, le-leb, lt-leb, ltb-true, ltb-false}
+use lib.ListN.{length, take, drop, getD, set, drop-of-length-le, length-drop}
+use lib.Seq.{drop-cons, drop-drop, take-suc, take-all, length-take-le}
+use lib.Dec.{eqb, leb, ltb}
+use borrow.Author.Tests.{eq-eqb, ne-eqb, le-leb, lt-leb, leb-true, ltb-true, ltb-false}
 use Rattle.octets.specs.If.{ifb}
 use Rattle.octets.specs.Octets.{over}
 use Rattle.octets.proofs.Bools.{and-l, and-r}
-use Rattle.octets.proofs.Over.{length-over}
+use Rattle.octets.proofs.Over.{length-over, over-byte}
 use Rattle.octets.proofs.If.{ifb-true, ifb-false, on-bool}
 use Rattle.hex.specs.Hex.{isDigit, digitOf}
 use Rattle.hex.specs.Texts.{Pairs, Mark, gap, half, other, markOf, marksOf, pairsBy, pairsIn, ended, broken, behind}
 use Rattle.hex.proofs.Digits.{character-spells}
 use Rattle.script.specs.Bytes.{byteOf, firstByte, countIn, BytesRead}
+use Rattle.script.specs.declared.Bytes.{Bytes}
 use Rattle.script.specs.declared.Bytes.the-variants.{Count, NoBytes}
-
--- a byte is written right after b
-over-byte : (b xs : List ℕ) (n x : ℕ) → length b ≡ n → n < length xs → set (over b xs) n x ≡ over (b ++ (x ∷ [])) xs
-over-byte b xs n x e h =
-    rw (e, drop-cons xs n 0 h, set-at b (getD xs n 0) (drop (suc n) xs) x n e, length-append, e, add-one, append-assoc)
 
 -- ---- what a character is
 
@@ -263,3 +259,13 @@ module _ {s out₀ out : List ℕ} {n i : ℕ} (m : Mid s out₀ out n i) where
             left = rw one rest;
             written = ap (λ (x : List ℕ). set x n (firstByte (drop i s))) (m .written) ∙ over-byte (take n B) out₀ n (firstByte (drop i s)) size (omega arith) ∙ ap (λ (b : List ℕ). over b out₀) (sym front);
           }
+
+-- ---- what a caller goes by
+
+-- bytes that were counted lie in what was lent
+pub count-within : {s out left : List ℕ} {r : Bytes} {n : ℕ} → BytesRead s out r left → r ≡ Count n → n ≤ length out
+unfolding countIn
+count-within {s} {out} {left} {r} {n} b e =
+    on-bool (pairsIn s .whole && leb (length (pairsIn s .bytes)) (length out))
+    (λ t. let is : Count (length (pairsIn s .bytes)) ≡ Count n = sym (b .count ∙ ifb-true _ _ _ t) ∙ e in let size : length (pairsIn s .bytes) ≡ n = cc in let fits = leb-true (length (pairsIn s .bytes)) (length out) (and-r (pairsIn s .whole) _ t) in omega arith)
+    (λ f. absurd (let no : NoBytes ≡ Count n = sym (b .count ∙ ifb-false _ _ _ f) ∙ e in let z : _≡_ {A = ℕ} 0 1 = cc in omega arith))

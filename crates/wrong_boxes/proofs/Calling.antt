@@ -8,7 +8,7 @@ use lib.ListN.{replicate}
 use lib.Dec.{ltb, eqb, lit<}
 use borrow.Author.Tests.{ltb-true}
 use Rattle.hex.specs.Texts.{hex}
-use Rattle.octets.specs.Octets.{Bytes, all}
+use Rattle.octets.specs.Octets.{Bytes, all, countedFrom}
 use Rattle.octets.proofs.If.{ifb-true}
 use Rattle.octets.proofs.Bools.{and-l, and-r}
 use Rattle.table.specs.Layout.{placeCount}
@@ -17,7 +17,7 @@ use Rattle.engine.specs.Effects.{Effect}
 use Rattle.demands.specs.Box.{Call, Lent}
 use Rattle.demands.specs.Demand2.{frameOf, ofFrame, refusalConditions, lowest}
 use Rattle.wrong_boxes.specs.Wrong.{orRefused}
-use Rattle.cases.specs.Cards.{countedFrom, lifeRequest, grantRequest, lastRequest}
+use Rattle.cases.specs.Cards.{lifeRequest, grantRequest, lastRequest}
 use Rattle.cases.proofs.Cases.{opened}
 
 -- bytes, by a test

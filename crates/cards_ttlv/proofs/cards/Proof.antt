@@ -10,56 +10,52 @@ use Rattle.cards_ttlv.proofs.cards.Statement.{statement}
 use Rattle.cards_ttlv.proofs.cards.Tie as tie
 
 abbrev Inv-loop : tie.InvT-loop
-Inv-loop text t₀ t = length t ≤ length text
+Inv-loop text left₀ left = length left ≤ length text
 
 abbrev μ-loop : tie.MeasureT-loop
-μ-loop text t₀ t = length t
+μ-loop text left₀ left = length left
 
+-- src/main.rt:56:5
 loop-holds : tie.Need-loop-holds Inv-loop μ-loop
 loop-holds c = search needs
 
+-- src/main.rt:57:13
 find-requires : tie.Need-find-requires Inv-loop μ-loop
 find-requires c κs = search needs
 
-slice-aggregate-card : tie.Need-slice-aggregate-card Inv-loop μ-loop
-slice-aggregate-card c = sym (length-take-le _ _ (omega arith))
+-- src/main.rt:58:18
+slice-aggregate-one-line : tie.Need-slice-aggregate-one-line Inv-loop μ-loop
+slice-aggregate-one-line c = sym (length-take-le _ _ (omega arith))
 
-card-requires : tie.Need-card-requires Inv-loop μ-loop
-card-requires c κs = search needs
+-- src/main.rt:58:9
+one-line-requires : tie.Need-one-line-requires Inv-loop μ-loop
+one-line-requires c κs = search needs
 
-add-next : tie.Need-add-next Inv-loop μ-loop
-add-next c = search needs
+-- src/main.rt:59:13
+past-requires : tie.Need-past-requires Inv-loop μ-loop
+past-requires c κs = search needs
 
-sub-t : tie.Need-sub-t Inv-loop μ-loop
-sub-t c = search needs
+-- src/main.rt:60:16
+sub-left : tie.Need-sub-left Inv-loop μ-loop
+sub-left c = search needs
 
-part-t-start : tie.Need-part-t-start Inv-loop μ-loop
-part-t-start c = search needs
+-- src/main.rt:60:16
+part-left-start : tie.Need-part-left-start Inv-loop μ-loop
+part-left-start c = search needs
 
-part-t-end : tie.Need-part-t-end Inv-loop μ-loop
-part-t-end c = search needs
+-- src/main.rt:60:16
+part-left-end : tie.Need-part-left-end Inv-loop μ-loop
+part-left-end c = search needs
 
+-- src/main.rt:56:5
 loop-less : tie.Need-loop-less Inv-loop μ-loop
 loop-less c = rw (length-take, length-drop) (omega arith)
 
+-- src/main.rt:56:5
 loop-again : tie.Need-loop-again Inv-loop μ-loop
 loop-again c = rw (length-take, length-drop) (omega arith)
 
-sub-t-2 : tie.Need-sub-t-2 Inv-loop μ-loop
-sub-t-2 c = search needs
-
-part-t-start-2 : tie.Need-part-t-start-2 Inv-loop μ-loop
-part-t-start-2 c = search needs
-
-part-t-end-2 : tie.Need-part-t-end-2 Inv-loop μ-loop
-part-t-end-2 c = search needs
-
-loop-less-2 : tie.Need-loop-less-2 Inv-loop μ-loop
-loop-less-2 c = rw (length-take, length-drop) (omega arith)
-
-loop-again-2 : tie.Need-loop-again-2 Inv-loop μ-loop
-loop-again-2 c = rw (length-take, length-drop) (omega arith)
-
+-- src/main.rt:54:1
 returns : tie.Need-returns Inv-loop μ-loop
 returns c = search needs
 
@@ -71,17 +67,12 @@ cards-spec =
     μ-loop
     loop-holds
     find-requires
-    slice-aggregate-card
-    card-requires
-    add-next
-    sub-t
-    part-t-start
-    part-t-end
+    slice-aggregate-one-line
+    one-line-requires
+    past-requires
+    sub-left
+    part-left-start
+    part-left-end
     loop-less
     loop-again
-    sub-t-2
-    part-t-start-2
-    part-t-end-2
-    loop-less-2
-    loop-again-2
     returns)

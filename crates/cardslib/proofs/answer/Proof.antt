@@ -1,4 +1,4 @@
--- `cardslib::answer`. What is lent is within its buffer.
+-- `cardslib::answer`. What is lent is within.
 -- Assumes nothing.
 use mathlib.Core.Path.{sym}
 use native.Mathlib.Omega.{arith}

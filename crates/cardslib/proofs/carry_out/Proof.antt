@@ -40,9 +40,6 @@ enum-told-2 c = search needs
 put-requires : tie.Need-put-requires
 put-requires c κs = search needs
 
-ended-requires : tie.Need-ended-requires
-ended-requires c κs = search needs
-
 enum-told-3 : tie.Need-enum-told-3
 enum-told-3 c = search needs
 
@@ -73,17 +70,11 @@ enum-told-7 c = search needs
 request-requires : tie.Need-request-requires
 request-requires c κs = search needs
 
-ended-requires-2 : tie.Need-ended-requires-2
-ended-requires-2 c κs = search needs
-
 enum-told-8 : tie.Need-enum-told-8
 enum-told-8 c = search needs
 
 show-requires : tie.Need-show-requires
 show-requires c κs = search needs
-
-ended-requires-3 : tie.Need-ended-requires-3
-ended-requires-3 c κs = search needs
 
 enum-told-9 : tie.Need-enum-told-9
 enum-told-9 c = search needs
@@ -91,14 +82,8 @@ enum-told-9 c = search needs
 show-requires-2 : tie.Need-show-requires-2
 show-requires-2 c κs = search needs
 
-ended-requires-4 : tie.Need-ended-requires-4
-ended-requires-4 c κs = search needs
-
 enum-told-10 : tie.Need-enum-told-10
 enum-told-10 c = search needs
-
-ended-requires-5 : tie.Need-ended-requires-5
-ended-requires-5 c κs = search needs
 
 same-length : tie.Need-same-length
 same-length c = search needs
@@ -166,7 +151,6 @@ carry-out-spec =
     blank-requires
     enum-told-2
     put-requires
-    ended-requires
     enum-told-3
     set-clock-requires
     enum-told-4
@@ -177,15 +161,11 @@ carry-out-spec =
     lend-requires-3
     enum-told-7
     request-requires
-    ended-requires-2
     enum-told-8
     show-requires
-    ended-requires-3
     enum-told-9
     show-requires-2
-    ended-requires-4
     enum-told-10
-    ended-requires-5
     same-length
     same-length-2
     returns

@@ -1,24 +1,31 @@
--- `cardslib::fill`. Every place written is within.
+-- `cardslib::fill`. What is written is the byte again and again.
 -- Assumes nothing.
-use Prim.Native.Nat.{_≤_, _-_}
-use mathlib.Core.Path.{_≡_}
+use mathlib.Core.Path.{_≡_, refl, sym, ap, _∙_}
+use Prim.Native.Nat.{ℕ, zero, suc, _+_, _-_, _≤_, _<_}
+use mathlib.Core.List.{List, [], _∷_, _++_}
 use native.Mathlib.Omega.{arith}
-use lib.ListN.{length, length-set}
+use native.Mathlib.Numerals.{add-one}
+use lib.ListN.{length, take, replicate, set, length-set}
+use lib.Seq.{take-suc-set, take-all}
 use borrow.Author.Needs.{needs}
 use Rattle.cardslib.proofs.fill.Statement.{statement}
 use Rattle.cardslib.proofs.fill.Tie as tie
 
 abbrev Inv-loop : tie.InvT-loop
-Inv-loop s₀ buffer i₀ s i = (length s ≡ length s₀) × (i ≤ length s)
+Inv-loop s₀ b i₀ s i = (length s ≡ length s₀) × ((i ≤ length s) × (take i s ≡ replicate i b))
 
 abbrev μ-loop : tie.MeasureT-loop
-μ-loop s₀ buffer i₀ s i = length s₀ - i
+μ-loop s₀ b i₀ s i = length s - i
+
+one-more : (n b : ℕ) → replicate (suc n) b ≡ replicate n b ++ (b ∷ [])
+one-more zero b = refl
+one-more (suc n) b = ap (λ (s : List ℕ). b ∷ s) (one-more n b)
+
+filled : (s : List ℕ) (i b : ℕ) → i < length s → take i s ≡ replicate i b → take (i + 1) (set s i b) ≡ replicate (i + 1) b
+filled s i b h e = rw (add-one, take-suc-set s i b h, e) (sym (one-more i b))
 
 loop-holds : tie.Need-loop-holds Inv-loop μ-loop
-loop-holds c = search needs
-
-first-byte-requires : tie.Need-first-byte-requires Inv-loop μ-loop
-first-byte-requires c κs = search needs
+loop-holds c = (refl, (omega arith, refl))
 
 slice-write-s : tie.Need-slice-write-s Inv-loop μ-loop
 slice-write-s c = search needs
@@ -27,16 +34,21 @@ add-i : tie.Need-add-i Inv-loop μ-loop
 add-i c = search needs
 
 loop-less : tie.Need-loop-less Inv-loop μ-loop
-loop-less c = search needs
+loop-less c = rw length-set (omega arith)
 
 loop-again : tie.Need-loop-again Inv-loop μ-loop
-loop-again c = (simp length-set (omega arith), simp length-set (omega arith))
+loop-again c =
+    let k = c .before .loop in
+    (rw length-set (k .inv .0), (rw length-set (omega arith), filled (k .s) (k .i) (c .before .before .args .b) (omega arith) (k .inv .1 .1)))
 
 same-length : tie.Need-same-length Inv-loop μ-loop
 same-length c = search needs
 
 returns : tie.Need-returns Inv-loop μ-loop
-returns c = search needs
+returns c =
+    let l = c .before .loop in
+    let end : l .i ≡ length (c .before .before .args .s .now) = let size = l .inv .0 in omega arith in
+    sym (take-all (l .i) (l .s) (omega arith)) ∙ l .inv .1 .1 ∙ ap (λ (n : ℕ). replicate n (c .before .before .args .b)) end
 
 pub fill-spec : {M : Type 1} → statement M
 fill-spec =
@@ -45,7 +57,6 @@ fill-spec =
     Inv-loop
     μ-loop
     loop-holds
-    first-byte-requires
     slice-write-s
     add-i
     loop-less

@@ -1,11 +1,23 @@
--- `cardslib::put`. The parts are within.
+-- `cardslib::put`. The bytes are within what they were read into, and lie in the table.
 -- Assumes nothing.
-use mathlib.Core.Path.{sym}
+use Prim.Native.Nat.{ℕ, _≤_}
+use mathlib.Core.Path.{_≡_, sym}
+use lib.ListN.{length, take}
 use native.Mathlib.Omega.{arith}
 use lib.Seq.{length-take-le}
+use Rattle.script.proofs.Texts.{count-within}
 use borrow.Author.Needs.{needs}
 use Rattle.cardslib.proofs.put.Statement.{statement}
 use Rattle.cardslib.proofs.put.Tie as tie
+
+-- where the bytes were read, and that they fit
+within : (c : tie.After-n) → c .n .given .0 .0 ≤ 4624
+within c =
+    let w = count-within (c .before .before .before .bytes-in .ensures) (c .n .given .1) in
+    omega arith
+
+abbrev tested : tie.Else3 → tie.After-n
+tested c = c .before .before .before .before
 
 find-requires : tie.Need-find-requires
 find-requires c κs = search needs
@@ -40,6 +52,12 @@ slice-aggregate-bytes-in c = search needs
 bytes-in-requires : tie.Need-bytes-in-requires
 bytes-in-requires c κs = search needs
 
+enum-known-n : tie.Need-enum-known-n
+enum-known-n c = search needs
+
+enum-told-2 : tie.Need-enum-told-2
+enum-told-2 c = search needs
+
 returns-2 : tie.Need-returns-2
 returns-2 c = search needs
 
@@ -49,29 +67,24 @@ returns-3 c = search needs
 returns-4 : tie.Need-returns-4
 returns-4 c = search needs
 
-sub-if4 : tie.Need-sub-if4
-sub-if4 c = search needs
+sub-if3 : tie.Need-sub-if3
+sub-if3 c = search needs
 
 returns-5 : tie.Need-returns-5
 returns-5 c = search needs
 
 array-share-prefix-bytes : tie.Need-array-share-prefix-bytes
-array-share-prefix-bytes c = search needs
+array-share-prefix-bytes c = let w = within (c .before .before .before .before .before) in omega arith
 
-slice-aggregate-lay : tie.Need-slice-aggregate-lay
-slice-aggregate-lay c = sym (length-take-le _ _ (omega arith))
+slice-aggregate-put-all : tie.Need-slice-aggregate-put-all
+slice-aggregate-put-all c = let w = within (tested (c .before .before)) in sym (length-take-le _ _ (omega arith))
 
-sub-lay : tie.Need-sub-lay
-sub-lay c = search needs
-
-part-lay-start : tie.Need-part-lay-start
-part-lay-start c = search needs
-
-part-lay-end : tie.Need-part-lay-end
-part-lay-end c = search needs
-
-lay-requires : tie.Need-lay-requires
-lay-requires c κs = search needs
+put-all-requires : tie.Need-put-all-requires
+put-all-requires c κs =
+    let t = tested (c .before .before) in
+    let w = within t in
+    let l : length (take (t .n .given .0 .0) (t .before .before .before .bytes-in .last .1 .0)) ≡ t .n .given .0 .0 = length-take-le _ _ (omega arith) in
+    omega arith
 
 same-length : tie.Need-same-length
 same-length c = search needs
@@ -94,16 +107,15 @@ put-spec =
     part-bytes-in-end
     slice-aggregate-bytes-in
     bytes-in-requires
+    enum-known-n
+    enum-told-2
     returns-2
     returns-3
     returns-4
-    sub-if4
+    sub-if3
     returns-5
     array-share-prefix-bytes
-    slice-aggregate-lay
-    sub-lay
-    part-lay-start
-    part-lay-end
-    lay-requires
+    slice-aggregate-put-all
+    put-all-requires
     same-length
     returns-6)

@@ -1,0 +1,3 @@
+-- How a script starts.
+-- Assumes nothing.
+pub mod Usual

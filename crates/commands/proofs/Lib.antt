@@ -1,0 +1,3 @@
+-- That each answer is unique.
+-- Assumes nothing.
+pub mod Unique

@@ -1,0 +1,16 @@
+-- No second answer meets a public function's contract, as the checker reads it.
+-- Assumes nothing.
+use mathlib.Core.Path.{sym, _∙_}
+use Rattle.outcomes.specs.Outcomes.{OneAnswer}
+use Rattle.commands.proofs.verb_of.Reads as verb-of
+use Rattle.commands.proofs.set_clock.Reads as set-clock
+use Rattle.commands.proofs.lend.Reads as lend
+
+pub verb-of-unique : OneAnswer verb-of.Post
+verb-of-unique κs a r r′ s s′ p q = p ∙ sym q
+
+pub set-clock-unique : OneAnswer set-clock.Post
+set-clock-unique κs a r r′ s s′ p q = p ∙ sym q
+
+pub lend-unique : OneAnswer lend.Post
+lend-unique κs a r r′ s s′ p q = p ∙ sym q

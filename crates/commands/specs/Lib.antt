@@ -1,0 +1,3 @@
+-- The commands of a script, and the setting that they change.
+-- Assumes nothing.
+pub mod Commands

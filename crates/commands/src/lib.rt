@@ -1,0 +1,116 @@
+// The commands of a script of bench cards by their names, and those that change how a request is
+// served from there on. Assumes nothing: any bytes are read, and what is no command is told.
+ghost use mathlib.Core.Path.{_≡_};
+ghost use Rattle.script.specs.Numbers.{numberIn, clockIn};
+ghost use Rattle.commands.specs.Commands.{verbOf, withClock, lending};
+use script::Clock;
+use script::Number;
+
+// What is lent to a call besides the request.
+pub enum Buffer {
+    Table,
+    Strip,
+    Output,
+}
+
+// The command of a line.
+pub enum Verb {
+    Blank,
+    Put,
+    Clock,
+    Room,
+    Strip,
+    Size,
+    Request,
+    Table,
+    Output,
+    Unknown,
+}
+
+// How a request is served: the clock, and how many bytes of output, strip and table are lent.
+pub struct Setting {
+    pub clock: i64,
+    pub room: usize,
+    pub strip: usize,
+    pub size: usize,
+}
+
+// What a line comes to: whether it is one of a script, and the setting after it.
+pub struct Done {
+    pub good: bool,
+    pub setting: Setting,
+}
+
+// The command that a word names.
+pub fn verb_of(word: &[u8]) -> Verb
+    ensures { λ r. ⌜ r ≡ verbOf (now (word .entry)) ⌝ }
+{
+    if lines::same(word, b"blank") {
+        return Verb::Blank;
+    }
+    if lines::same(word, b"put") {
+        return Verb::Put;
+    }
+    if lines::same(word, b"clock") {
+        return Verb::Clock;
+    }
+    if lines::same(word, b"room") {
+        return Verb::Room;
+    }
+    if lines::same(word, b"strip") {
+        return Verb::Strip;
+    }
+    if lines::same(word, b"size") {
+        return Verb::Size;
+    }
+    if lines::same(word, b"request") {
+        return Verb::Request;
+    }
+    if lines::same(word, b"table") {
+        return Verb::Table;
+    }
+    if lines::same(word, b"output") {
+        return Verb::Output;
+    }
+    Verb::Unknown
+}
+
+// `clock NUMBER`: the clock from here on.
+pub fn set_clock(rest: &[u8], setting: Setting) -> Done
+    ensures { λ r. ⌜ r ≡ withClock setting (clockIn (now (rest .entry))) ⌝ }
+{
+    let Clock::At(clock) = script::clock_in(rest) else {
+        return Done {
+            good: false,
+            setting,
+        };
+    };
+    let mut s = setting;
+    s.clock = clock;
+    Done {
+        good: true,
+        setting: s,
+    }
+}
+
+// `size NUMBER`, `strip NUMBER`, `room NUMBER`: how many bytes of a buffer are lent from here on.
+pub fn lend(rest: &[u8], buffer: Buffer, setting: Setting) -> Done
+    ensures { λ r. ⌜ r ≡ lending buffer setting (numberIn (now (rest .entry))) ⌝ }
+{
+    let Number::Is(n) = script::number_in(rest) else {
+        return Done {
+            good: false,
+            setting,
+        };
+    };
+    let mut s = setting;
+    match buffer {
+        Buffer::Table => s.size = n,
+        Buffer::Strip => s.strip = n,
+        Buffer::Output => s.room = n,
+    }
+    Done {
+        good: true,
+        setting: s,
+    }
+}

@@ -1,0 +1,3 @@
+-- What stands in front of a call.
+-- Assumes nothing.
+pub mod Head
