@@ -143,8 +143,8 @@ fn create(t: &mut [u8], n: usize, wanted: Attributes, fresh: &[u8]) -> Performed
     }
 }
 
-// Re-key of the record at place i, which is neither destroyed nor replaced: whether there is a place
-// for the new object is left to see.
+// Re-key of the record at place i, which is neither destroyed nor replaced: whether there is a
+// place for the new object is left to see.
 fn replace_at(t: &mut [u8], n: usize, i: usize, old: Record, fresh: &[u8]) -> Performed
     requires { ⌜ Place n (now t) i ⌝ }
     ensures { λ r. ⌜ leaves r (now (t .exit)) ≡ replacing n (now (fresh .entry)) (now (t .entry)) i old (placeForNew n (now (t .entry))) ⌝ }

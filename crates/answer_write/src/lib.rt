@@ -1,5 +1,6 @@
 // The writer of answers: batch items, and what stands in front of them, in lent room.
-// What a function asks is shown by its callers here; what `write_answer` and `write_front` ask, by the writer of the whole response.
+// What a function asks is shown by its callers here; what `write_answer` and `write_front` ask, by
+// the writer of the whole response.
 ghost use mathlib.Core.Path.{_≡_};
 ghost use Prim.Native.Nat.{_+_, _*_, _%_, _≤_};
 ghost use lib.ListN.{length, take};
@@ -54,7 +55,8 @@ fn write_showed(out: &mut [u8], shown: Shown) -> usize
 
 // ---- outcomes
 
-// The status of a success and the head of its payload, in front of the payload's n bytes. Each caller shows that n is a length of items.
+// The status of a success and the head of its payload, in front of the payload's n bytes. Each
+// caller shows that n is a length of items.
 fn write_success(out: &mut [u8], n: usize) -> usize
     requires { ⌜ (24 + n ≤ length (now out)) × (n ≤ 224) × (n % 8 ≡ 0) ⌝ }
     ensures { λ r. ⌜ (r ≡ 24 + n) × Holds (opening n) (now (out .entry)) (now (out .exit)) 24 ⌝ }

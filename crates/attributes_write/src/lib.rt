@@ -1,5 +1,6 @@
 // The writer of a key's attributes, and of an identifier, in lent room.
-// What a function asks is shown by its callers: here, or for `write_attributes` in the writer of answers.
+// What a function asks is shown by its callers: here, or for `write_attributes` in the writer of
+// answers.
 ghost use mathlib.Core.Bool.{true};
 ghost use Prim.Native.Nat.{_≤_};
 ghost use lib.ListN.{length};

@@ -111,7 +111,8 @@ fn show(rest: &[u8], s: &[u8]) -> bool {
     true
 }
 
-// Serves a request by the setting, and prints what came of it, or of what more is lent than there is.
+// Serves a request by the setting, and prints what came of it, or of what more is lent than there
+// is.
 fn answer(request: &[u8], table: &mut [u8], strip: &[u8], out: &mut [u8], s: Setting) {
     let size = s.size;
     let given = s.strip;

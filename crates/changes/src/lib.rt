@@ -1,5 +1,6 @@
-// The changes of a record, by value: how it begins, is replaced, moves and is destroyed, and what a grant leaves of it.
-// They ask nothing. Whether a change is due is decided by rules; records are those of the table crate.
+// The changes of a record, by value: how it begins, is replaced, moves and is destroyed, and what a
+// grant leaves of it. They ask nothing. Whether a change is due is decided by rules; records are
+// those of the table crate.
 ghost use mathlib.Core.Path.{_≡_};
 ghost use Rattle.changes.specs.Records.{materialFrom, newRecord, heirOf, linkedTo, movedTo, withCount};
 use rules::Attributes;

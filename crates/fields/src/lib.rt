@@ -1,22 +1,25 @@
-// The fields of a run of items, first to last: what the readers of requests go by. It knows nothing of keys.
-// Assumes nothing: no function asks anything of its bytes.
+// The fields of a run of items, first to last: what the readers of requests go by. It knows nothing
+// of keys. Assumes nothing: no function asks anything of its bytes.
 ghost use mathlib.Core.Path.{_≡_};
 ghost use Rattle.fields.specs.Found.{startsAt, bytesAt, numberAt, bodyAt};
 use ttlv::First;
 
-// The value of a wanted item at the front: len bytes, which start at 8, with the rest of the run from next on. Or no such item stands there.
+// The value of a wanted item at the front: len bytes, which start at 8, with the rest of the run
+// from next on. Or no such item stands there.
 pub enum BytesField {
     Span { len: usize, next: usize },
     NoSpan,
 }
 
-// The number that the value of a wanted item at the front spells, with the rest of the run from next on. Or no such item stands there.
+// The number that the value of a wanted item at the front spells, with the rest of the run from
+// next on. Or no such item stands there.
 pub enum NumberField {
     Number { value: u64, next: usize },
     NoNumber,
 }
 
-// The items of a wanted structure at the front, from 8 to next, with the rest of the run from next on. Or no such structure stands there.
+// The items of a wanted structure at the front, from 8 to next, with the rest of the run from next
+// on. Or no such structure stands there.
 pub enum BodyField {
     Body { next: usize },
     NoBody,
@@ -68,7 +71,8 @@ pub fn bytes_field(s: &[u8], tag: u32, kind: u8) -> BytesField
     BytesField::Span { len, next }
 }
 
-// The number that the value of the item at the front spells, if it has this tag and type; it reads at most eight bytes.
+// The number that the value of the item at the front spells, if it has this tag and type; it reads
+// at most eight bytes.
 pub fn number_field(s: &[u8], tag: u32, kind: u8) -> NumberField
     ensures { λ r. ⌜ r ≡ numberAt (now (s .entry)) tag kind ⌝ }
 {

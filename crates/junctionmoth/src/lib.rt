@@ -1,5 +1,5 @@
-// The C boundary: one call of the engine over lent buffers. include/junctionmoth.h says what a host must know.
-// Asks nothing: its contract is the engine's, with the length through a reference.
+// The C boundary: one call of the engine over lent buffers. include/junctionmoth.h says what a host
+// must know. Asks nothing: its contract is the engine's, with the length through a reference.
 ghost use mir.Syntax.{w64};
 ghost use mir.Val.{ofZ};
 ghost use Rattle.junctionmoth.specs.Boundary.{CallIs};

@@ -36,8 +36,9 @@ fn word(s: &[u8]) -> u32
     n
 }
 
-// The number that the first eight bytes of s spell, or all of them where there are fewer: one function for every width.
-// It is put together of two words, because a compiler makes one load of four bytes and not of eight.
+// The number that the first eight bytes of s spell, or all of them where there are fewer: one
+// function for every width. It is put together of two words, because a compiler makes one load of
+// four bytes and not of eight.
 pub fn number(s: &[u8]) -> u64
     ensures { λ r. ⌜ (r ≡ fromBe (take 8 (now (s .entry)))) × (r < 256 ^ length (take 8 (now (s .entry)))) ⌝ }
 {
@@ -85,7 +86,8 @@ pub fn put_all(t: &mut [u8], at: usize, s: &[u8])
     }
 }
 
-// Whether s holds nothing but zeros. It looks at every byte, with no way out between them, so that a compiler can take many at once.
+// Whether s holds nothing but zeros. It looks at every byte, with no way out between them, so that
+// a compiler can take many at once.
 pub fn all_zero(s: &[u8]) -> bool
     ensures { λ r. ⌜ r ≡ all isZero (now (s .entry)) ⌝ }
 {

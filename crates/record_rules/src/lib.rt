@@ -29,7 +29,8 @@ pub fn values_right(p: Record) -> bool
         & limit_right(p)
 }
 
-// Rules 7, 14 and 15: the serial and those that it is linked to, where `last` is the last one issued.
+// Rules 7, 14 and 15: the serial and those that it is linked to, where `last` is the last one
+// issued.
 pub fn names_right(p: Record, last: u32) -> bool
     ensures { λ r. ⌜ r ≡ namesRight last p ⌝ }
 {
@@ -38,7 +39,8 @@ pub fn names_right(p: Record, last: u32) -> bool
     (p.serial <= last) & back & forth
 }
 
-// Where the zeros in a record's material start: behind its length, or at the front if the record is destroyed.
+// Where the zeros in a record's material start: behind its length, or at the front if the record is
+// destroyed.
 pub fn zeros_from(p: Record) -> usize
     ensures { λ r. ⌜ r ≡ min (zerosFrom p) materialSize ⌝ }
 {

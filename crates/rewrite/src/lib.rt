@@ -1,5 +1,5 @@
-// A message written again from what the reader says of each of its items: the reader and the writer undo each other.
-// Assumes nothing. It knows nothing of keys.
+// A message written again from what the reader says of each of its items: the reader and the writer
+// undo each other. Assumes nothing. It knows nothing of keys.
 use ttlv::First;
 ghost use mathlib.Core.Path.{_≡_};
 ghost use mathlib.Core.Bool.{true};
@@ -24,7 +24,8 @@ fn rewrite_word(out: &mut [u8], tag: u32, kind: u8, bits: u32) -> usize
     ttlv_write::write_interval(out, tag, bits)
 }
 
-// A number of eight bytes by the writer of its type. `rewrite_value` shows that the type has eight, and that a Boolean is 0 or 1.
+// A number of eight bytes by the writer of its type. `rewrite_value` shows that the type has eight,
+// and that a Boolean is 0 or 1.
 fn rewrite_long(out: &mut [u8], tag: u32, kind: u8, bits: u64) -> usize
     requires { ⌜ (isLong kind ≡ true) × (kind ≡ boolean → bits ≤ 1) ⌝ }
     ensures { λ r. ⌜ WroteNumber 8 tag kind bits (now (out .entry)) (now (out .exit)) r ⌝ }
@@ -61,7 +62,8 @@ fn rewrite_value(out: &mut [u8], tag: u32, kind: u8, v: &[u8]) -> usize
     rewrite_long(out, tag, kind, octets::number(v))
 }
 
-// The item at the front of t again over the front of out; of a structure, its head. `rewrite` shows that t is a run of items, not empty, and fits.
+// The item at the front of t again over the front of out; of a structure, its head. `rewrite` shows
+// that t is a run of items, not empty, and fits.
 fn rewrite_first(out: &mut [u8], t: &[u8]) -> usize
     requires { ⌜ (0 < length (now t)) × ((isRun (now t) ≡ true) × (length (now t) ≤ length (now out))) ⌝ }
     ensures { λ r. ⌜ Again (now (t .entry)) (now (out .entry)) (now (out .exit)) r ⌝ }
@@ -82,7 +84,8 @@ fn rewrite_first(out: &mut [u8], t: &[u8]) -> usize
     }
 }
 
-// The message s again over the front of out, item by item: its size, or 0 where s is no message or out is short.
+// The message s again over the front of out, item by item: its size, or 0 where s is no message or
+// out is short.
 pub fn rewrite(out: &mut [u8], s: &[u8]) -> usize
     ensures { λ r. ⌜ Rewrote (now (s .entry)) (now (out .entry)) (now (out .exit)) r ⌝ }
 {

@@ -1,5 +1,6 @@
-// What may happen to a record: which operation moves it from state to state, what it grants, and why an operation fails.
-// It asks nothing and knows nothing of TTLV; what becomes of the record is for changes.
+// What may happen to a record: which operation moves it from state to state, what it grants, and
+// why an operation fails. It asks nothing and knows nothing of TTLV; what becomes of the record is
+// for changes.
 ghost use mathlib.Core.Path.{_≡_};
 ghost use Rattle.rules.specs.Numbers.{reasonNumber};
 ghost use Rattle.rules.specs.States.{nextState, granting};

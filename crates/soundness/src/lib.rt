@@ -63,7 +63,8 @@ fn zeros_right(t: &[u8], n: usize, i: usize) -> bool
     octets::all_zero(&t[zeros..zeros + 4])
 }
 
-// Rules 12 and 13, of the record p that stands at place i: its material is looked at where it stands.
+// Rules 12 and 13, of the record p that stands at place i: its material is looked at where it
+// stands.
 fn material_right(t: &[u8], n: usize, i: usize, p: Record) -> bool
     requires { ⌜ RecordAt n (now t) i p ⌝ }
     ensures { λ r. ⌜ r ≡ materialRight p ⌝ }
@@ -75,7 +76,8 @@ fn material_right(t: &[u8], n: usize, i: usize, p: Record) -> bool
     octets::all_zero(&t[from..end])
 }
 
-// Rule 6: the search for the serial of place i gives place i. A serial above all that stand at lower places needs no search: `top` is as high as any of them.
+// Rule 6: the search for the serial of place i gives place i. A serial above all that stand at
+// lower places needs no search: `top` is as high as any of them.
 fn own_place(t: &[u8], n: usize, i: usize, top: u32, serial: u32) -> bool
     requires { ⌜ Owns n (now t) i top serial ⌝ }
     ensures { λ r. ⌜ r ≡ isAt i (find n (now (t .entry)) serial) ⌝ }
@@ -111,7 +113,8 @@ fn forth_right(t: &[u8], n: usize, serial: u32, replacement: u32) -> bool
     }
 }
 
-// Rules 5 to 16, of the record p that stands at place i, where `last` is the last serial issued: the check has read both, and `top` from the serials of the lower places.
+// Rules 5 to 16, of the record p that stands at place i, where `last` is the last serial issued:
+// the check has read both, and `top` from the serials of the lower places.
 fn standing_right(t: &[u8], n: usize, i: usize, last: u32, top: u32, p: Record) -> bool
     requires { ⌜ ReachedRecord n (now t) i last top p ⌝ }
     ensures { λ r. ⌜ r ≡ standingRight n (now (t .entry)) i p ⌝ }

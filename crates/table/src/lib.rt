@@ -66,7 +66,8 @@ impl Layout {
         Self::LEAD + Self::LINE * i
     }
 
-    // Where the body of place i starts. The caller shows that the place is one of the table's, and that the table's size is a usize.
+    // Where the body of place i starts. The caller shows that the place is one of the table's, and
+    // that the table's size is a usize.
     pub fn body(self, i: usize) -> usize
         requires { ⌜ (i < self .places) × (sizeOf (self .places) < 2 ^ 64) ⌝ }
         ensures { λ r. ⌜ r ≡ bodyStart (self .places) i ⌝ }

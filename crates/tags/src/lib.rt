@@ -73,7 +73,8 @@ pub const USAGE_LIMITS_UNIT: u32 = 0x420098;
 
 pub const ATTRIBUTES: u32 = 0x420125;
 
-// Whether a number is a tag: three bytes, of which the first is 42 hex. An item with any other would not read back.
+// Whether a number is a tag: three bytes, of which the first is 42 hex. An item with any other
+// would not read back.
 pub fn tag_ok(tag: u32) -> bool
     ensures { λ r. ⌜ r ≡ tagOk tag ⌝ }
 {

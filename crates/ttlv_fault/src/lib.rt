@@ -4,7 +4,8 @@ ghost use mathlib.Core.Path.{_≡_};
 ghost use Rattle.ttlv_fault.specs.Fault.{faultOf};
 use ttlv::First;
 
-// Where the item starts at which s first differs from the rules, with structures at most `depth` deep; the length of s where it does not.
+// Where the item starts at which s first differs from the rules, with structures at most `depth`
+// deep; the length of s where it does not.
 pub fn first_fault(s: &[u8], depth: usize) -> usize
     ensures { λ r. ⌜ r ≡ faultOf depth (now (s .entry)) ⌝ }
 {

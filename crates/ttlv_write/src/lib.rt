@@ -1,5 +1,6 @@
-// The TTLV writers, one for each type of value: one item over the front of lent room. They know nothing of keys.
-// Assumes nothing. A writer answers the bytes written, or 0 with the room as it was; so it does where the tag is none.
+// The TTLV writers, one for each type of value: one item over the front of lent room. They know
+// nothing of keys. Assumes nothing. A writer answers the bytes written, or 0 with the room as it
+// was; so it does where the tag is none.
 ghost use mathlib.Core.Bool.{true};
 ghost use lib.ListN.{length};
 ghost use Rattle.ttlv_types.specs.Types.{integer, longInteger, bigInteger, enumeration, boolean, textString, byteString, dateTime, interval, dateTimeExtended, lengthOk, text};
@@ -75,7 +76,8 @@ pub fn write_text(out: &mut [u8], tag: u32, s: &[u8]) -> usize
     ttlv_put::spell_value(out, tag, ttlv_types::TEXT_STRING, s)
 }
 
-// The bytes are those of the signed number, in two's complement: a multiple of 8 of them, and not none.
+// The bytes are those of the signed number, in two's complement: a multiple of 8 of them, and not
+// none.
 pub fn write_big_integer(out: &mut [u8], tag: u32, s: &[u8]) -> usize
     ensures { λ r. ⌜ WroteValue (lengthOk bigInteger (length (now (s .entry)))) tag bigInteger (now (s .entry)) (now (out .entry)) (now (out .exit)) r ⌝ }
 {

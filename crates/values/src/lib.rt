@@ -1,5 +1,5 @@
-// The values that a key may have. The soundness check and the reader of Create go by the same tests.
-// Assumes nothing: any number gets an answer.
+// The values that a key may have. The soundness check and the reader of Create go by the same
+// tests. Assumes nothing: any number gets an answer.
 ghost use mathlib.Core.Path.{_≡_};
 ghost use Rattle.values.specs.Values.{bitsOk, maskOk, unitOk, totalOk};
 
