@@ -13,9 +13,7 @@ use script::Number;
 use script::Span;
 use table::Layout;
 
-// The most bytes of a script, of a request in it, of the strip and of the output.
-const SCRIPT_ROOM: usize = 262144;
-
+// The most bytes of a request in a script, of the strip and of the output.
 const REQUEST_ROOM: usize = 8192;
 
 const STRIP_ROOM: usize = 1024;
@@ -216,7 +214,7 @@ fn script(text: &[u8], table: &mut [u8], strip: &[u8], out: &mut [u8]) {
 
 // Runs the script that is read from a file descriptor; of one that is too long only that is said.
 pub fn run(fd: i32) {
-    let mut text = [0u8; SCRIPT_ROOM];
+    let mut text = commands::script_room();
     let n = io::read_full(fd, &mut text);
     if n == text.len() {
         printlib::too_long();

@@ -1,10 +1,14 @@
 // The commands of a script of bench cards by their names, and those that change how a request is
 // served from there on. Assumes nothing: any bytes are read, and what is no command is told.
 ghost use mathlib.Core.Path.{_≡_};
+ghost use lib.ListN.{replicate};
 ghost use Rattle.script.specs.Numbers.{numberIn, clockIn};
 ghost use Rattle.commands.specs.Commands.{verbOf, withClock, lending};
 use script::Clock;
 use script::Number;
+
+// The bytes of room for a script: one more than the longest.
+pub const SCRIPT_ROOM: usize = 262144;
 
 // What is lent to a call besides the request.
 pub enum Buffer {
@@ -39,6 +43,13 @@ pub struct Setting {
 pub struct Done {
     pub good: bool,
     pub setting: Setting,
+}
+
+// Room for a script, all zero.
+pub fn script_room() -> [u8; SCRIPT_ROOM]
+    ensures { λ r. ⌜ r ≡ replicate 262144 0 ⌝ }
+{
+    [0u8; SCRIPT_ROOM]
 }
 
 // The command that a word names.
