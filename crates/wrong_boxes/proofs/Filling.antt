@@ -10,7 +10,7 @@ use mathlib.Core.List.{List}
 use lib.ListN.{length}
 use lib.Dec.{lit<}
 use borrow.Author.Tests.{eq-eqb, ne-eqb}
-use Rattle.octets.specs.Octets.{Bytes}
+use Rattle.octets.specs.Octets.{Bytes, countedFrom}
 use Rattle.table.specs.declared.Record.{Record}
 use Rattle.table.specs.Layout.{placeCount, materialSize}
 use Rattle.table.specs.Records.{placeAt, serialAt, stateAt, isFree, lastSerial, blank}
@@ -28,7 +28,6 @@ use Rattle.keeps.proofs.Keeps.{Held, held-blank, keeps-born}
 use Rattle.keeps.proofs.Leaves.{Born, born-leaves}
 use Rattle.act.specs.Act.{Env, envAt}
 use Rattle.engine.proofs.Batches.{own-bytes, own-long}
-use Rattle.cases.specs.Cards.{countedFrom}
 use Rattle.cases.proofs.Cases.{opened}
 use Rattle.wrong_boxes.proofs.Calling.{isByte, bytes-test}
 

@@ -9,7 +9,7 @@ use mathlib.Core.List.{List, [], _∷_, _++_}
 use lib.Dec.{lit<}
 use Rattle.hex.specs.Texts.{hex}
 use Rattle.octets.specs.If.{ifb}
-use Rattle.octets.specs.Octets.{all}
+use Rattle.octets.specs.Octets.{all, countedFrom}
 use Rattle.octets.specs.Maybe.{_>>=_}
 use Rattle.octets.proofs.If.{ifb-false, on-if}
 use Rattle.octets.proofs.Bools.{and-no}
@@ -37,7 +37,6 @@ use Rattle.demands.specs.Demand2.{frameOf, ofFrame, refusalConditions, lowest}
 use Rattle.demands.specs.Log.{Event, logged}
 use Rattle.demands.specs.Demand3.{Run, begins, calls}
 use Rattle.wrong_boxes.specs.Wrong.{ranUnder, regranting, Regrants}
-use Rattle.cases.specs.Cards.{countedFrom}
 use Rattle.cases.proofs.Cases.{opened}
 use Rattle.wrong_boxes.proofs.Calling.{isByte, callingOn, calling, lent-on, accepted-is}
 use Rattle.wrong_boxes.proofs.Filling.{wanted, own, grown, Filled, filled-blank, filled-room, filled-more}
