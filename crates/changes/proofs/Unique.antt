@@ -2,15 +2,11 @@
 -- Assumes nothing.
 use mathlib.Core.Path.{sym, _∙_}
 use Rattle.outcomes.specs.Outcomes.{OneAnswer}
-use Rattle.changes.proofs.material_from.Reads as material-from-reads
 use Rattle.changes.proofs.new_record.Reads as new-record-reads
 use Rattle.changes.proofs.heir_of.Reads as heir-of-reads
 use Rattle.changes.proofs.linked_to.Reads as linked-to-reads
 use Rattle.changes.proofs.moved_to.Reads as moved-to-reads
 use Rattle.changes.proofs.with_count.Reads as with-count-reads
-
-pub material-from-unique : OneAnswer material-from-reads.Post
-material-from-unique κs a r r′ s s′ p q = p ∙ sym q
 
 pub new-record-unique : OneAnswer new-record-reads.Post
 new-record-unique κs a r r′ s s′ p q = p ∙ sym q

@@ -7,7 +7,7 @@ use rules::Attributes;
 use table::Record;
 
 // The material of a new key: the first bits/8 bytes of its part of the fresh strip, then zeros.
-pub fn material_from(fresh: &[u8], bits: u16) -> [u8; 32]
+fn material_from(fresh: &[u8], bits: u16) -> [u8; 32]
     ensures { λ r. ⌜ r ≡ materialFrom bits (now (fresh .entry)) ⌝ }
 {
     let there = octets::fewer(32, fresh.len());

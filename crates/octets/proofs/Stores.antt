@@ -7,7 +7,7 @@ use native.Mathlib.Numerals.{add-one}
 use native.Mathlib.Omega.{arith}
 use mathlib.Core.List.{List, [], _∷_, _++_, append-assoc}
 use lib.ListN.{length, take, drop, getD, set, length-drop}
-use lib.Seq.{sets, take-suc-set, take-all, set-comm, length-sets, sets-eq, take-suc, getD-drop, take-at, drop-at, take-take, drop-drop, drop-set-lt, drop-set-add, take-set-le, length-take-le}
+use lib.Seq.{sets, take-all, set-comm, length-sets, sets-eq, take-suc, take-at, drop-at, take-take, drop-drop, drop-set-lt, drop-set-add, take-set-le, length-take-le}
 use Rattle.octets.specs.Octets.{be, part, over}
 use Rattle.octets.proofs.Numbers.{length-be}
 
@@ -109,12 +109,6 @@ sets-more t at s k h =
 -- a run of stores over the whole
 pub sets-whole : (t bs : List ℕ) → length bs ≡ length t → sets t 0 bs ≡ bs
 sets-whole t bs e = sym (take-all (length t) (sets t 0 bs) (rw length-sets (omega arith))) ∙ part-sets-same t 0 bs (length t) e (omega arith)
-
--- a turn of a loop that fills m from the front with what stands in t from `at` on
-pub prefix-more : (m t : List ℕ) (at k : ℕ) → k < length m → at + k < length t → take k m ≡ part t at k → take (k + 1) (set m k (getD t (at + k) 0)) ≡ part t at (k + 1)
-prefix-more m t at k h l e =
-    let q : k < length (drop at t) = rw length-drop (omega arith) in
-    rw (add-one, take-suc-set m k (getD t (at + k) 0), take-suc (drop at t) k 0, getD-drop at t k 0, e)
 
 -- a run of stores from the front is what is written over the front
 pub sets-over : (b t : List ℕ) → length b ≤ length t → sets t 0 b ≡ over b t

@@ -6,6 +6,7 @@ ghost use lib.ListN.{length};
 ghost use Rattle.octets.specs.Octets.{part};
 ghost use Rattle.table.specs.Layout.{materialSize, Place};
 ghost use Rattle.table.specs.Records.{placeAt};
+ghost use Rattle.records.specs.Links.{linkAt, LinkIn};
 use table::Layout;
 use table::Record;
 
@@ -15,11 +16,7 @@ fn material_at(t: &[u8], at: usize) -> [u8; 32]
     ensures { λ r. ⌜ r ≡ part (now (t .entry)) at materialSize ⌝ }
 {
     let mut m = [0u8; 32];
-    let mut k: usize = 0;
-    while k < Layout::MATERIAL {
-        m[k] = t[at + k];
-        k += 1;
-    }
+    octets::put_all(&mut m, 0, &t[at..at + Layout::MATERIAL]);
     m
 }
 
@@ -55,20 +52,11 @@ pub fn load(t: &[u8], n: usize, i: usize) -> Record
     }
 }
 
-// The serial that the record at place i replaced, read by itself.
-pub fn replaced(t: &[u8], n: usize, i: usize) -> u32
-    requires { ⌜ Place n (now t) i ⌝ }
-    ensures { λ r. ⌜ r ≡ placeAt n (now (t .entry)) i .replaced ⌝ }
+// The serial that stands `from` bytes into the line of place i, a link of its record, read by itself.
+pub fn link_at(t: &[u8], n: usize, i: usize, from: usize) -> u32
+    requires { ⌜ LinkIn n (now t) i from ⌝ }
+    ensures { λ r. ⌜ r ≡ linkAt (now (t .entry)) i from ⌝ }
 {
     let at = Layout::line(i);
-    octets::number_at(t, at + Layout::REPLACED_IN, 4) as u32
-}
-
-// The serial of the record that replaced the one at place i, read by itself.
-pub fn replacement(t: &[u8], n: usize, i: usize) -> u32
-    requires { ⌜ Place n (now t) i ⌝ }
-    ensures { λ r. ⌜ r ≡ placeAt n (now (t .entry)) i .replacement ⌝ }
-{
-    let at = Layout::line(i);
-    octets::number_at(t, at + Layout::REPLACEMENT_IN, 4) as u32
+    octets::number_at(t, at + from, 4) as u32
 }

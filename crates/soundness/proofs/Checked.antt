@@ -16,15 +16,16 @@ use Rattle.octets.proofs.If.{ifb-true, ifb-false}
 use Rattle.table.specs.declared.Record.{Record}
 use Rattle.search.specs.declared.Found.{Found}
 use Rattle.search.specs.declared.Found.the-variants.{At, Nothing}
-use Rattle.table.specs.Layout.{lineStart, lineSize, sizeOf, Table}
+use Rattle.table.specs.Layout.{lineStart, lineSize, sizeOf, Table, replacedIn, replacementIn}
 use Rattle.table.specs.Records.{placeAt, serialAt, lastSerial, placesSaid}
 use Rattle.search.specs.Search.{find}
 use Rattle.table.proofs.Places.{serial-is}
 use Rattle.search.proofs.Finds.{find-is}
+use Rattle.records.proofs.Links.{link-replaced, link-replacement}
 use Rattle.record_rules.specs.Checked.{valuesRight, namesRight, materialRight}
 use Rattle.record_rules.proofs.Fit.{Right, fit-is, fit-of}
 use Rattle.soundness.specs.Sound.{sizeRight, countRight, leadRight, freeRight, zerosRight, ifStands, namesReplacement, namesReplaced, linksRight, sound}
-use Rattle.soundness.specs.Checked.{wholeRight, TopBelow, isAt, standingRight, placeRight}
+use Rattle.soundness.specs.Checked.{wholeRight, TopBelow, isAt, hasLink, standingRight, placeRight}
 use Rattle.octets.proofs.Bools.{and-l, and-r, and-i, no-unless, not-both, facts, tests}
 use Rattle.soundness.proofs.SoundIs.{Sound, Stands, Linked, Distinct, find-own, own-distinct, links-is, links-of, sound-is, sound-of}
 
@@ -153,14 +154,30 @@ module _ (n : ℕ) (t : List ℕ) where
   pub passed-more : (i : ℕ) → Passed i → placeRight n t i ≡ true → Passed (i + 1)
   passed-more i h e k l = ⊎-elim (λ z. ap (placeRight n t) z ∙ e) (λ z. h k z) (eq-or-lt-of-le (let m : k ≤ i = omega arith in m))
 
+-- two tests that agree at every place agree on what a search found
+stands-same : {f g : ℕ → Bool} → ((j : ℕ) → f j ≡ g j) → (x : Found) → ifStands f x ≡ ifStands g x
+unfolding ifStands
+stands-same e (At j) = e j
+stands-same e Nothing = refl
+
+-- the halves of rule 16 as the check asks them
+links-parts : (n : ℕ) (t : List ℕ) (r : Record)
+    → (ifStands (hasLink t (r .serial) replacementIn) (find n t (r .replaced)) && ifStands (hasLink t (r .serial) replacedIn) (find n t (r .replacement))) ≡ linksRight n t r
+unfolding linksRight
+links-parts n t r =
+    rw (
+      stands-same {g = namesReplacement n t (r .serial)} (λ j. ap (λ (s : ℕ). eqb s (r .serial)) (link-replacement n t j)) (find n t (r .replaced)),
+      stands-same {g = namesReplaced n t (r .serial)} (λ j. ap (λ (s : ℕ). eqb s (r .serial)) (link-replaced n t j)) (find n t (r .replacement)),
+    )
+
 -- the answers of the functions for the parts of a standing place's rules, put together
 pub standing-parts : (n : ℕ) (t : List ℕ) (i last : ℕ) (r : Record) {zeros values material names own back forth : Bool} → last ≡ lastSerial t
     → zeros ≡ zerosRight n t i → values ≡ valuesRight r → material ≡ materialRight r → names ≡ namesRight last r → own ≡ isAt i (find n t (r .serial))
-    → back ≡ ifStands (namesReplacement n t (r .serial)) (find n t (r .replaced))
-    → forth ≡ ifStands (namesReplaced n t (r .serial)) (find n t (r .replacement))
+    → back ≡ ifStands (hasLink t (r .serial) replacementIn) (find n t (r .replaced))
+    → forth ≡ ifStands (hasLink t (r .serial) replacedIn) (find n t (r .replacement))
     → ((zeros && values && material && names) && own && (back && forth)) ≡ standingRight n t i r
-unfolding standingRight linksRight
-standing-parts n t i last r l z v m a o b f = rw (z, v, m, a, o, b, f, l)
+unfolding standingRight
+standing-parts n t i last r l z v m a o b f = rw (z, v, m, a, o, b, f, links-parts n t r, l)
 
 -- a serial above those of all lower places is found at its own
 pub top-own : (n : ℕ) (t : List ℕ) (i top serial : ℕ) → i < n → serial ≡ serialAt t i → TopBelow t i top → top < serial → isAt i (find n t serial) ≡ true

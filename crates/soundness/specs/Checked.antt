@@ -1,7 +1,7 @@
 -- What the check asks of the whole table and of one place after the other, each place once; that it asks what `sound` asks is a law.
 -- Assumes nothing.
 use mathlib.Core.Path.{_≡_}
-use Prim.Native.Nat.{ℕ, _≤_, _<_}
+use Prim.Native.Nat.{ℕ, _+_, _≤_, _<_}
 use mathlib.Core.Bool.{Bool, false, _&&_}
 use mathlib.Core.List.{List}
 use lib.Dec.{eqb}
@@ -9,9 +9,10 @@ use Rattle.octets.specs.If.{ifb}
 use Rattle.table.specs.declared.Record.{Record}
 use Rattle.search.specs.declared.Found.{Found}
 use Rattle.search.specs.declared.Found.the-variants.{At, Nothing}
-use Rattle.table.specs.Layout.{Place}
+use Rattle.table.specs.Layout.{lineSize, Table, Place}
 use Rattle.table.specs.Records.{placeAt, serialAt, isFree, lastSerial}
 use Rattle.search.specs.Search.{find}
+use Rattle.records.specs.Links.{linkAt}
 use Rattle.record_rules.specs.Checked.{valuesRight, materialRight, namesRight}
 use Rattle.soundness.specs.Sound.{sizeRight, countRight, leadRight, freeRight, zerosRight, linksRight}
 
@@ -28,6 +29,10 @@ unfoldable pub isAt : ℕ → Found → Bool
 isAt i (At j) = eqb j i
 isAt i Nothing = false
 
+-- the record at place j has this serial as the link that stands `from` bytes into its line
+abbrev pub hasLink : List ℕ → ℕ → ℕ → ℕ → Bool
+hasLink t serial from j = eqb (linkAt t j from) serial
+
 -- rules 5 to 16 at place i, where r stands: its serial is distinct if the search for it gives this place
 unfoldable pub standingRight : ℕ → List ℕ → ℕ → Record → Bool
 standingRight n t i r =
@@ -38,6 +43,11 @@ unfoldable pub placeRight : ℕ → List ℕ → ℕ → Bool
 placeRight n t i = ifb (isFree t i) (freeRight n t i) (standingRight n t i (placeAt n t i))
 
 -- ---- what the functions at a place ask; the check shows it as it counts the places
+
+-- the table has n places, and four bytes stand in a line from there on
+pub record LinkAsked (n : ℕ) (t : List ℕ) (from : ℕ) : Type 0 where
+  pub sized : Table n t
+  pub inLine : from + 4 ≤ lineSize
 
 -- p is the record at place i
 pub record RecordAt (n : ℕ) (t : List ℕ) (i : ℕ) (p : Record) : Type 0 where

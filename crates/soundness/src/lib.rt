@@ -6,8 +6,8 @@ ghost use lib.Dec.{eqb};
 ghost use Rattle.table.specs.Layout.{sizeOf, Table, Place};
 ghost use Rattle.search.specs.Search.{find};
 ghost use Rattle.record_rules.specs.Checked.{materialRight};
-ghost use Rattle.soundness.specs.Sound.{freeRight, zerosRight, ifStands, namesReplacement, namesReplaced, sound};
-ghost use Rattle.soundness.specs.Checked.{wholeRight, isAt, standingRight, placeRight, RecordAt, Owns, Reached, ReachedRecord};
+ghost use Rattle.soundness.specs.Sound.{freeRight, zerosRight, ifStands, sound};
+ghost use Rattle.soundness.specs.Checked.{wholeRight, isAt, standingRight, placeRight, hasLink, LinkAsked, RecordAt, Owns, Reached, ReachedRecord};
 use search::Found;
 use table::Layout;
 use table::Record;
@@ -91,24 +91,14 @@ fn own_place(t: &[u8], n: usize, i: usize, top: u32, serial: u32) -> bool
     }
 }
 
-// The first half of rule 16: the record that was replaced, if it stands, names this serial.
-fn back_right(t: &[u8], n: usize, serial: u32, replaced: u32) -> bool
-    requires { ⌜ Table n (now t) ⌝ }
-    ensures { λ r. ⌜ r ≡ ifStands (namesReplacement n (now (t .entry)) serial) (find n (now (t .entry)) replaced) ⌝ }
+// A half of rule 16: the record with the serial `other`, if it stands, has this serial as the link
+// that stands `from` bytes into its line.
+fn end_right(t: &[u8], n: usize, serial: u32, other: u32, from: usize) -> bool
+    requires { ⌜ LinkAsked n (now t) from ⌝ }
+    ensures { λ r. ⌜ r ≡ ifStands (hasLink (now (t .entry)) serial from) (find n (now (t .entry)) other) ⌝ }
 {
-    match search::find(t, n, replaced) {
-        Found::At(j) => { records::replacement(t, n, j) == serial }
-        Found::Nothing => true,
-    }
-}
-
-// The second half of rule 16: the replacement, if it stands, names this serial.
-fn forth_right(t: &[u8], n: usize, serial: u32, replacement: u32) -> bool
-    requires { ⌜ Table n (now t) ⌝ }
-    ensures { λ r. ⌜ r ≡ ifStands (namesReplaced n (now (t .entry)) serial) (find n (now (t .entry)) replacement) ⌝ }
-{
-    match search::find(t, n, replacement) {
-        Found::At(j) => { records::replaced(t, n, j) == serial }
+    match search::find(t, n, other) {
+        Found::At(j) => { records::link_at(t, n, j, from) == serial }
         Found::Nothing => true,
     }
 }
@@ -123,8 +113,9 @@ fn standing_right(t: &[u8], n: usize, i: usize, last: u32, top: u32, p: Record) 
         & record_rules::values_right(p)
         & material_right(t, n, i, p)
         & record_rules::names_right(p, last);
-    let links = back_right(t, n, p.serial, p.replaced) & forth_right(t, n, p.serial, p.replacement);
-    alone & own_place(t, n, i, top, p.serial) & links
+    let back = end_right(t, n, p.serial, p.replaced, Layout::REPLACEMENT_IN);
+    let forth = end_right(t, n, p.serial, p.replacement, Layout::REPLACED_IN);
+    alone & own_place(t, n, i, top, p.serial) & (back & forth)
 }
 
 // Rules 4 to 16 at place i.

@@ -3,14 +3,10 @@
 use mathlib.Core.Path.{sym, _∙_}
 use Rattle.outcomes.specs.Outcomes.{OneAnswer}
 use Rattle.ttlv.proofs.read_first.Reads as read-first-reads
-use Rattle.ttlv.proofs.check.Reads as check-reads
 use Rattle.ttlv.proofs.is_message.Reads as is-message-reads
 
 pub read-first-unique : OneAnswer read-first-reads.Post
 read-first-unique κs a x y s t p q = p ∙ sym q
-
-pub check-unique : OneAnswer check-reads.Post
-check-unique κs a x y s t p q = p ∙ sym q
 
 pub is-message-unique : OneAnswer is-message-reads.Post
 is-message-unique κs a x y s t p q = p ∙ sym q

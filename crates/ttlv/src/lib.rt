@@ -94,7 +94,7 @@ pub fn read_first(s: &[u8]) -> First
 }
 
 // Whether s is a run of items by the rules, with structures at most `depth` deep.
-pub fn check(s: &[u8], depth: usize) -> bool
+fn check(s: &[u8], depth: usize) -> bool
     ensures { λ r. ⌜ r ≡ isSome (parse depth (now (s .entry))) ⌝ }
 {
     if depth == 0 {

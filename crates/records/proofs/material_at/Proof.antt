@@ -1,63 +1,51 @@
--- `records::material_at`. The front of the array is what stands from `at` on, as far as it was copied.
+-- `records::material_at`. What is stored over all of the array is what the array then holds.
 -- Assumes nothing.
-use Prim.Native.Nat.{_-_, _≤_}
-use mathlib.Core.Path.{_≡_, refl, sym, _∙_}
+use Prim.Native.Nat.{ℕ, _+_, _-_}
+use mathlib.Core.Path.{_≡_, ap, _∙_}
 use native.Mathlib.Omega.{arith}
-use lib.ListN.{length, take, length-set}
-use lib.Seq.{take-all}
+use lib.ListN.{replicate}
+use lib.Seq.{sets}
+use borrow.Author.Needs.{needs}
 use Rattle.octets.specs.Octets.{part}
-use Rattle.octets.proofs.Stores.{prefix-more}
+use Rattle.octets.proofs.Stores.{length-part, sets-whole}
 use Rattle.table.specs.Layout.{materialSize}
 use Rattle.records.proofs.material_at.Statement.{statement}
 use Rattle.records.proofs.material_at.Tie as tie
 
-abbrev Inv-loop : tie.InvT-loop
-Inv-loop t at m₀ k₀ m k = (k ≤ materialSize) × ((length m ≡ materialSize) × (take k m ≡ part t at k))
+slice-aggregate-put-all : tie.Need-slice-aggregate-put-all
+slice-aggregate-put-all c = search needs
 
-abbrev μ-loop : tie.MeasureT-loop
-μ-loop t at m₀ k₀ m k = materialSize - k
+add-put-all : tie.Need-add-put-all
+add-put-all c = search needs
 
-loop-holds : tie.Need-loop-holds Inv-loop μ-loop
-loop-holds c = (omega arith, (refl, refl))
+sub-put-all : tie.Need-sub-put-all
+sub-put-all c = search needs
 
-add-m : tie.Need-add-m Inv-loop μ-loop
-add-m c = omega arith
+part-put-all-start : tie.Need-part-put-all-start
+part-put-all-start c = search needs
 
-shared-slice-read-m : tie.Need-shared-slice-read-m Inv-loop μ-loop
-shared-slice-read-m c = omega arith
+part-put-all-end : tie.Need-part-put-all-end
+part-put-all-end c = search needs
 
-array-write-m : tie.Need-array-write-m Inv-loop μ-loop
-array-write-m c = omega arith
+put-all-requires : tie.Need-put-all-requires
+put-all-requires c κs = search needs
 
-add-k : tie.Need-add-k Inv-loop μ-loop
-add-k c = omega arith
-
-loop-less : tie.Need-loop-less Inv-loop μ-loop
-loop-less c = omega arith
-
-loop-again : tie.Need-loop-again Inv-loop μ-loop
-loop-again c =
-    let l = c .before .before .loop in
-    let a = c .before .before .before .args in
-    (omega arith, (simp length-set (l .inv .1 .0), prefix-more (l .m) (a .t .now) (a .at) (l .k) (omega arith) (omega arith) (l .inv .1 .1)))
-
-returns : tie.Need-returns Inv-loop μ-loop
+returns : tie.Need-returns
 returns c =
-    let l = c .before .loop in
-    let e : l .k ≡ materialSize = omega arith in
-    sym (take-all materialSize (l .m) (omega arith)) ∙ (rw e at (l .inv .1 .1))
+    let a = c .before .before .before .before .before .args in
+    let e : a .at + materialSize - a .at ≡ materialSize = omega arith in
+    c .before .put-all .ensures
+    ∙ ap (λ (k : ℕ). sets (replicate materialSize 0) 0 (part (a .t .now) (a .at) k)) e
+    ∙ sets-whole (replicate materialSize 0) (part (a .t .now) (a .at) materialSize) (length-part (a .t .now) (a .at) materialSize (omega arith))
 
 pub material-at-spec : {M : Type 1} → statement M
 material-at-spec =
     tie.close
     (tie.spec
-    Inv-loop
-    μ-loop
-    loop-holds
-    add-m
-    shared-slice-read-m
-    array-write-m
-    add-k
-    loop-less
-    loop-again
+    slice-aggregate-put-all
+    add-put-all
+    sub-put-all
+    part-put-all-start
+    part-put-all-end
+    put-all-requires
     returns)

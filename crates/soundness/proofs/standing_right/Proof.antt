@@ -2,6 +2,7 @@
 -- Assumes nothing.
 use Prim.Native.Nat.{_-_}
 use mathlib.Core.Path.{sym, ap, _∙_}
+use lib.Dec.{lit≤}
 use borrow.Author.Needs.{needs}
 use Rattle.table.specs.declared.Record.{Record}
 use Rattle.table.proofs.Places.{serial-is}
@@ -21,16 +22,20 @@ material-right-requires c κs = search needs
 names-right-requires : tie.Need-names-right-requires
 names-right-requires c κs = search needs
 
-back-right-requires : tie.Need-back-right-requires
-back-right-requires c κs = search needs
+end-right-requires : tie.Need-end-right-requires
+end-right-requires c κs = record { sized = c .before .before .before .before .before .pre .reached .place .sized; inLine = lit≤ tt }
 
-forth-right-requires : tie.Need-forth-right-requires
-forth-right-requires c κs = search needs
+end-right-requires-2 : tie.Need-end-right-requires-2
+end-right-requires-2 c κs =
+    let at-names = c .before in
+    record { sized = at-names .before .before .before .before .before .pre .reached .place .sized; inLine = lit≤ tt }
 
 own-place-requires : tie.Need-own-place-requires
 own-place-requires c κs =
-    let a = c .before .before .before .before .before .before .before .args in
-    let p = c .before .before .before .before .before .before .before .pre in
+    let at-names = c .before .before in
+    let entry = at-names .before .before .before .before .before in
+    let a = entry .args in
+    let p = entry .pre in
     record {
       place = p .reached .place;
       own = ap (λ (r : Record). r .serial) (p .held) ∙ sym (serial-is (a .n) (a .t .now) (a .i));
@@ -39,16 +44,19 @@ own-place-requires c κs =
 
 returns : tie.Need-returns
 returns c =
-    let a = c .before .before .before .before .before .before .before .before .args in
+    let at-names = c .before .before .before in
+    let at-zeros = at-names .before .before .before in
+    let entry = at-zeros .before .before in
+    let a = entry .args in
     standing-parts (a .n) (a .t .now) (a .i) (a .last) (a .p)
-    (c .before .before .before .before .before .before .before .before .pre .reached .issued)
-    (c .before .before .before .before .before .before .zeros-right .ensures)
-    (c .before .before .before .before .before .values-right .ensures)
-    (c .before .before .before .before .material-right .ensures)
-    (c .before .before .before .names-right .ensures)
+    (entry .pre .reached .issued)
+    (at-zeros .zeros-right .ensures)
+    (at-names .before .before .values-right .ensures)
+    (at-names .before .material-right .ensures)
+    (at-names .names-right .ensures)
     (c .own-place .ensures)
-    (c .before .before .back-right .ensures)
-    (c .before .forth-right .ensures)
+    (c .before .before .end-right .ensures)
+    (c .before .end-right2 .ensures)
 
 pub standing-right-spec : {M : Type 1} → statement M
 standing-right-spec =
@@ -58,7 +66,7 @@ standing-right-spec =
     values-right-requires
     material-right-requires
     names-right-requires
-    back-right-requires
-    forth-right-requires
+    end-right-requires
+    end-right-requires-2
     own-place-requires
     returns)

@@ -1,0 +1,3 @@
+-- The links of a record, read by themselves.
+-- Assumes nothing.
+pub mod Links
