@@ -1,6 +1,7 @@
 -- `ttlv::body_field`. By cases on the item at the front and its tag.
 -- Assumes nothing.
-use mathlib.Core.Path.{sym, ap, _∙_}
+use mathlib.Core.Path.{_≡_, sym, ap, _∙_}
+use Rattle.ttlv.specs.declared.First.the-variants.{Group}
 use Rattle.fields.specs.Found.{bodyIn, bodyAt}
 use Rattle.fields.proofs.Found.{no-group-first, other-group, wanted-group}
 use borrow.Author.Needs.{needs}
@@ -16,21 +17,21 @@ enum-known-named c = search needs
 returns : tie.Need-returns
 unfolding bodyAt
 returns c =
-    let a = c .before .before .before .args in
+    let tag = c .before .before .before .args .tag in
     let rf = c .before .read-first in
-    sym (ap (bodyIn (a .tag)) (sym (rf .ensures)) ∙ no-group-first (a .tag) (rf .result) (c .match .keys2))
+    sym (ap (bodyIn tag) (sym (rf .ensures)) ∙ no-group-first tag (rf .result) (c .match .keys2))
+
+-- the structure at the front decides
+front : (c : tie.After-named) → let a = c .before .before .before .before .args in
+    bodyAt (a .s .now) (a .tag) ≡ bodyIn (a .tag) (Group (c .named .given .0 .0) (c .named .given .0 .1 .0))
+unfolding bodyAt
+front c = ap (bodyIn (c .before .before .before .before .args .tag)) (sym (c .before .before .read-first .ensures) ∙ c .named .given .1)
 
 returns-2 : tie.Need-returns-2
-unfolding bodyAt
-returns-2 c =
-    let a = c .before .before .before .before .before .before .args in
-    sym (ap (bodyIn (a .tag)) (sym (c .before .before .before .before .read-first .ensures) ∙ c .before .before .named .given .1) ∙ other-group (a .tag) _ _ (c .if1 .taken))
+returns-2 c = sym (front (c .before .before) ∙ other-group _ _ _ (c .if1 .taken))
 
 returns-3 : tie.Need-returns-3
-unfolding bodyAt
-returns-3 c =
-    let a = c .before .before .before .before .before .before .args in
-    sym (ap (bodyIn (a .tag)) (sym (c .before .before .before .before .read-first .ensures) ∙ c .before .before .named .given .1) ∙ wanted-group (a .tag) _ _ (c .if1 .left))
+returns-3 c = sym (front (c .before .before) ∙ wanted-group _ _ _ (c .if1 .left))
 
 pub body-field-spec : {M : Type 1} → statement M
 body-field-spec =
