@@ -59,6 +59,11 @@ BATCH_ITEM = 0x42000F
 CRYPTOGRAPHIC_ALGORITHM = 0x420028
 CRYPTOGRAPHIC_LENGTH = 0x42002A
 CRYPTOGRAPHIC_USAGE_MASK = 0x42002C
+KEY_BLOCK = 0x420040
+KEY_FORMAT_TYPE = 0x420042
+KEY_MATERIAL = 0x420043
+KEY_VALUE = 0x420045
+KEY_WRAP_TYPE = 0x4200F8
 LINK = 0x42004A
 LINK_TYPE = 0x42004B
 LINKED_OBJECT_IDENTIFIER = 0x42004C
@@ -83,6 +88,7 @@ REVOCATION_MESSAGE = 0x420080
 REVOCATION_REASON = 0x420081
 REVOCATION_REASON_CODE = 0x420082
 STATE = 0x42008D
+SYMMETRIC_KEY = 0x42008F
 TIME_STAMP = 0x420092
 UNIQUE_BATCH_ITEM_ID = 0x420093
 UNIQUE_IDENTIFIER = 0x420094
@@ -97,6 +103,7 @@ OTHER = 0x420020  # a tag that no payload names
 
 CREATE = 0x01
 REKEY = 0x04
+GET = 0x0A
 GET_ATTRIBUTES = 0x0B
 ALLOCATE = 0x11
 ACTIVATE = 0x12
@@ -196,6 +203,10 @@ def destroy(name=None, *more, id=None):
     return ask(DESTROY, *target(name), *more, id=id)
 
 
+def get(name=None, *more, id=None):
+    return ask(GET, *target(name), *more, id=id)
+
+
 def attributes(name=None, *more, id=None):
     return ask(GET_ATTRIBUTES, *target(name), *more, id=id)
 
@@ -224,6 +235,18 @@ def created(name, id=None):
 def named(operation, name, id=None):
     """Success that answers an identifier alone."""
     return done(operation, identifier(name), id=id)
+
+
+def handed(name, material, id=None):
+    """Success of Get: the key in the format Raw; its length is that of its material."""
+    block = structure(
+        KEY_BLOCK,
+        enumeration(KEY_FORMAT_TYPE, 1),
+        structure(KEY_VALUE, byte_string(KEY_MATERIAL, material)),
+        enumeration(CRYPTOGRAPHIC_ALGORITHM, 3),
+        integer(CRYPTOGRAPHIC_LENGTH, 8 * len(material)),
+    )
+    return done(GET, symmetric_key(), identifier(name), structure(SYMMETRIC_KEY, block), id=id)
 
 
 def link(kind, name):
@@ -314,6 +337,12 @@ PRINTED_BAD_CREATE = unhex(
     "42007F05 00000004 00000001 00000000 42007E05 00000004 00000007 00000000 42000F01 00000030 42005C05 00000004 00000012 00000000"
     "42007F05 00000004 00000001 00000000 42007E05 00000004 00000037 00000000"
 )
+# a key of 128 bits, material 00 to 0F, as Get answers it: the Response Payload
+PRINTED_KEY = unhex(
+    "42007C01 00000080 42005705 00000004 00000002 00000000 42009407 00000008 30303030 30303031 42008F01 00000058 42004001 00000050"
+    "42004205 00000004 00000001 00000000 42004501 00000018 42004308 00000010 00010203 04050607 08090A0B 0C0D0E0F"
+    "42002805 00000004 00000003 00000000 42002A02 00000004 00000080 00000000"
+)
 PRINTED_NAME = unhex("42005301 00000020 42005507 00000004 70756D70 00000000 42005405 00000004 00000001 00000000")
 PRINTED_OFFSET = unhex("4200580A 00000004 000D2F00 00000000")
 
@@ -333,6 +362,8 @@ def check_builders():
     assert len(created("00000001", id=id)) == 104
     assert len(full) == 296 and len(response(*[full] * 16)) == 4824
     assert len(request(create(limit(1, 1), id=id))) == 72 + 168
+    assert handed("00000001", bytes(range(16)))[-len(PRINTED_KEY) :] == PRINTED_KEY
+    assert [len(handed("00000001", bytes(size), id=id)) for size in (16, 24, 32)] == [200, 208, 216]
     assert line_at(1) - line_at(0) == 16 and body_at(0) == 1040 and body_at(PLACES) == TABLE_SIZE
     assert len(lead(0)) == len(line(1, 1)) == 16 and len(body()) == 56
 
@@ -845,12 +876,105 @@ def cards_of_attributes(s):
     s.output("output past the 4824 bytes as it was", 4824, b"\xFF" * 8)
 
 
+def cards_of_get(s):
+    s.about("Get: keys of 128, 192 and 256 bits, each with its whole response; nothing is changed.")
+    s.blank()
+    s.put(0, lead(3)[:4])
+    keys = [bytes(range(16)), bytes(range(0x20, 0x38)), bytes(range(0xE0, 0x100))]
+    lines = b"".join(line(serial, 2, bits=8 * len(key)) for serial, key in zip(range(1, 4), keys))
+    s.put(line_at(0), lines)
+    s.put(body_at(0), b"".join(body(0, 0, 4, key) for key in keys))
+    for name, key in zip((ONE, TWO, THREE), keys):
+        s.card(f"Get of {8 * len(key)} bits", (get(name), handed(name, key)))
+    s.table("lines after Get", line_at(0), lines)
+    s.table("bodies after Get", body_at(0), b"".join(body(0, 0, 4, key) for key in keys))
+    s.about("Get on states 1 to 6: every state but 5 and 6 answers the material; a compromised key is handed out, and a limit plays no part.")
+    six_states(s)
+    pairs = [(get(f"{n:08X}"), handed(f"{n:08X}", material(n))) for n in range(1, 5)]
+    pairs += [(get(f"{n:08X}"), failed(GET, OBJECT_DESTROYED)) for n in (5, 6)]
+    s.card("Get on states 1 to 6", *pairs, option=CONTINUE)
+    s.table("bodies after Get on states 1 to 6", body_at(0), b"".join(stored(state) for state in range(1, 7)))
+    s.about("Get: Object Not Found, and Invalid Field for anything but an identifier.")
+    s.fails("Get of no key", get("00000007"), GET, OBJECT_NOT_FOUND)
+    s.fails("Get without identifier", get(), GET, OBJECT_NOT_FOUND)
+    s.fails("Get in lower case", get("0000000a"), GET, OBJECT_NOT_FOUND)
+    s.fails("Get of eight zeros", get("00000000"), GET, OBJECT_NOT_FOUND)
+    for name, payload in [
+        ("the identifier as Integer", [integer(UNIQUE_IDENTIFIER, 1)]),
+        ("a second identifier", [identifier(ONE), identifier(ONE)]),
+        ("a Key Format Type", [identifier(ONE), enumeration(KEY_FORMAT_TYPE, 1)]),
+        ("a Key Format Type alone", [enumeration(KEY_FORMAT_TYPE, 1)]),
+        ("a Key Wrap Type", [identifier(ONE), enumeration(KEY_WRAP_TYPE, 1)]),
+        ("something after a destroyed key's identifier", [identifier(FIVE), integer(OTHER, 1)]),
+    ]:
+        s.fails(f"Get with {name}", ask(GET, *payload), GET, INVALID_FIELD)
+    s.about("By the placeholder: after Create the new key, after Re-key the replacement and not the old key; Get keeps it.")
+    s.blank()
+    s.card(
+        "Get after Create, by the placeholder",
+        (create(bits=256), created(ONE)),
+        (get(), handed(ONE, fresh(0, 32))),
+        (activate(), named(ACTIVATE, ONE)),
+        (get(), handed(ONE, fresh(0, 32))),
+    )
+    s.card(
+        "Get after Re-key, by the placeholder",
+        (get(ONE), handed(ONE, fresh(0, 32))),
+        (rekey(ONE), named(REKEY, TWO)),
+        (get(), handed(TWO, fresh(1, 32))),
+        (get(ONE), handed(ONE, fresh(0, 32))),
+        (get(), handed(TWO, fresh(1, 32))),
+    )
+    s.card(
+        "Get that fails empties the placeholder",
+        (create(), created(THREE)),
+        (get("0000FFFF"), failed(GET, OBJECT_NOT_FOUND)),
+        (get(), failed(GET, OBJECT_NOT_FOUND)),
+        option=CONTINUE,
+    )
+    s.about("Destroy and Get in one batch: nothing is handed out behind the Destroy, nor in a later request.")
+    s.card(
+        "Get before and after Destroy in one batch",
+        (get(THREE), handed(THREE, fresh(0, 16))),
+        (destroy(THREE), named(DESTROY, THREE)),
+        (get(THREE), failed(GET, OBJECT_DESTROYED)),
+        option=CONTINUE,
+    )
+    s.fails("Get after Destroy, a later request", get(THREE), GET, OBJECT_DESTROYED)
+    s.card(
+        "Get by the placeholder of a key just destroyed",
+        (create(), created(FOUR)),
+        (destroy(), named(DESTROY, FOUR)),
+        (get(), failed(GET, OBJECT_DESTROYED)),
+    )
+    s.about("The place of a destroyed key is taken over: the new key is handed out, the old identifier is found no more.")
+    full_table(s)
+    s.put(line_at(9), line(10, 5))
+    s.card(
+        "Get in the batch in which the place was taken",
+        (get("0000000A"), failed(GET, OBJECT_DESTROYED)),
+        (create(), created("00000041")),
+        (get(), handed("00000041", fresh(1, 16))),
+        (get("0000000A"), failed(GET, OBJECT_NOT_FOUND)),
+        option=CONTINUE,
+    )
+    s.about("Sixteen Gets of 256 bits with IDs of 16 bytes: items of 216 bytes, 3,544 in all.")
+    s.blank()
+    s.put(0, lead(1)[:4])
+    s.key(0, line(1, 2, bits=256), body(0, 0, 4, keys[2]))
+    ids = [bytes(range(16 * n, 16 * n + 16)) for n in range(16)]
+    pairs = [(get(ONE, id=id), handed(ONE, keys[2], id=id)) for id in ids]
+    assert len(response(*[answer for _, answer in pairs])) == 88 + 16 * 216 == 3544
+    s.card("sixteen Gets", *pairs, option=STOP)
+    s.output("output past the 3544 bytes as it was", 3544, b"\xFF" * 8)
+
+
 def cards_of_other_operations(s):
     s.about("Operation Not Supported, whatever stands in the payload; the operation is echoed.")
     s.blank()
-    for name, operation in [("0", 0), ("Get", 0x0A), ("Locate", 0x08), ("Ping", 0x3B), ("FFFFFFFF", 0xFFFFFFFF)]:
+    for name, operation in [("0", 0), ("Get Attribute List", 0x0C), ("Locate", 0x08), ("Ping", 0x3B), ("FFFFFFFF", 0xFFFFFFFF)]:
         s.fails(f"operation {name}", ask(operation), operation, NOT_SUPPORTED)
-    s.fails("operation Get with an identifier as Integer", ask(0x0A, integer(UNIQUE_IDENTIFIER, 1)), 0x0A, NOT_SUPPORTED)
+    s.fails("operation Get Attribute List with an identifier as Integer", ask(0x0C, integer(UNIQUE_IDENTIFIER, 1)), 0x0C, NOT_SUPPORTED)
 
 
 def cards_of_identifiers(s):
@@ -1298,6 +1422,7 @@ def all_cards():
         cards_of_destroy,
         cards_of_single_changes,
         cards_of_attributes,
+        cards_of_get,
         cards_of_other_operations,
         cards_of_identifiers,
         cards_of_the_placeholder,

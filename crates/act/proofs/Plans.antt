@@ -17,9 +17,9 @@ use Rattle.changes.specs.Changes.{serialMost, isFull}
 use Rattle.rules.proofs.Tests.{due-first, due-later, due-end}
 use Rattle.frame.specs.Frame.{Asked}
 use Rattle.payload.specs.declared.Command.{Command}
-use Rattle.payload.specs.declared.Command.the-variants.{Unsupported, Invalid, Create, Rekey, GetUsageAllocation, Activate, Revoke, Destroy, GetAttributes}
+use Rattle.payload.specs.declared.Command.the-variants.{Unsupported, Invalid, Create, Rekey, GetUsageAllocation, Activate, Revoke, Destroy, GetAttributes, Get}
 use Rattle.payload.specs.Payload.{command}
-use Rattle.act.specs.Act.{Env, Did, failing, refusal, carried, createPlan, rekeyPlan, allocationPlan, activatePlan, revokePlan, destroyPlan, showPlan, onFound, plan, step, carriedOut, inPlaces, performing}
+use Rattle.act.specs.Act.{Env, Did, failing, refusal, carried, createPlan, rekeyPlan, allocationPlan, activatePlan, revokePlan, destroyPlan, showPlan, getPlan, onFound, plan, step, carriedOut, inPlaces, performing}
 use Rattle.act.specs.Perform.{placeForNew}
 
 -- ---- a test at a time
@@ -75,7 +75,7 @@ module _ (n : ℕ) (t : List ℕ) where
 -- ---- items and commands
 
 same-plan : (env : Env) (holder : ℕ) (t : List ℕ) (c : Command) → plan env holder t c ≡ plan (inPlaces (env .places) (env .fresh)) holder t c
-unfolding plan createPlan rekeyPlan allocationPlan activatePlan revokePlan destroyPlan showPlan onFound
+unfolding plan createPlan rekeyPlan allocationPlan activatePlan revokePlan destroyPlan showPlan getPlan onFound
 same-plan env holder t Unsupported = refl
 same-plan env holder t Invalid = refl
 same-plan env holder t (Create wanted) = refl
@@ -85,6 +85,7 @@ same-plan env holder t (Activate target) = refl
 same-plan env holder t (Revoke target code) = refl
 same-plan env holder t (Destroy target) = refl
 same-plan env holder t (GetAttributes target) = refl
+same-plan env holder t (Get target) = refl
 
 -- what an item leaves is what its command leaves, whatever the clock says
 pub step-performs : (env : Env) (holder : ℕ) (t : List ℕ) (asked : Asked)

@@ -8,6 +8,7 @@ use mathlib.Core.List.{List, []}
 use lib.Dec.{eqb}
 use borrow.Author.Tests.{eq-eqb, ne-eqb}
 use Rattle.octets.specs.If.{ifb}
+use Rattle.octets.proofs.If.{ifb-true, ifb-false, on-bool}
 use Rattle.table.specs.declared.Record.{Record}
 use Rattle.table.specs.Layout.{Table, Place}
 use Rattle.table.specs.Records.{placeAt, withPlace, lastSerial, withLast}
@@ -29,13 +30,15 @@ use Rattle.changes.specs.Records.{newRecord, heirOf, linkedTo, movedTo, withCou
 use Rattle.changes.specs.Changes.{serialMost, nextSerial, bornAt, withBorn, withHeir}
 use Rattle.payload.specs.declared.Target.{Target}
 use Rattle.payload.specs.declared.Command.{Command}
-use Rattle.payload.specs.declared.Command.the-variants.{Unsupported, Invalid, Create, Rekey, GetUsageAllocation, Activate, Revoke, Destroy, GetAttributes}
-use Rattle.act.specs.declared.Outcome.the-variants.{Created, Done}
+use Rattle.payload.specs.declared.Command.the-variants.{Unsupported, Invalid, Create, Rekey, GetUsageAllocation, Activate, Revoke, Destroy, GetAttributes, Get}
+use Rattle.act.specs.declared.Outcome.the-variants.{Created, Done, Got}
+use Rattle.words.specs.declared.Words.{Words}
+use Rattle.words.specs.Words.{wordsOf}
 use Rattle.act.specs.declared.Performed.{Performed}
 use Rattle.act.specs.declared.Deed.{Deed}
-use Rattle.act.specs.declared.Deed.the-variants.{Replace, Allocate, Move, Show}
-use Rattle.act.specs.Act.{Did, emptyHolder, failing, carried, carriedOut, sought, createPlan, rekeyPlan, allocationPlan, activatePlan, revokePlan, destroyPlan, showPlan, onFound, plan, inPlaces, performing, leaves}
-use Rattle.act.specs.Perform.{TwoPlaces, failed, showing, placeForNew, linkedAt, replacing, storing, movePlan, deedPlan, aboutPlan}
+use Rattle.act.specs.declared.Deed.the-variants.{Replace, Allocate, Move, Show, Give}
+use Rattle.act.specs.Act.{Did, emptyHolder, failing, carried, carriedOut, sought, createPlan, rekeyPlan, allocationPlan, activatePlan, revokePlan, destroyPlan, showPlan, getPlan, keyOf, onFound, plan, inPlaces, performing, leaves}
+use Rattle.act.specs.Perform.{TwoPlaces, failed, showing, giving, placeForNew, linkedAt, replacing, storing, movePlan, deedPlan, aboutPlan}
 use Rattle.act.proofs.Plans.{fails-first, goes-on, is-done, refused, nowhere-issued, place-unissued, unissued, new-there, not-full, full}
 
 -- a failure leaves the table as it was
@@ -215,6 +218,23 @@ module _ (n holder : ℕ) (t : List ℕ) (operation code i : ℕ) (old : Record)
   unfolding onNext
   move-fails reason f r e = fails t e ∙ sym (moved ∙ ap (onNext t stating) f)
 
+-- ---- a key handed out
+
+module _ (holder : ℕ) (r old : Record) (loaded : old ≡ r) (gone : Bool) (is : gone ≡ isDestroyed (old .state)) where
+  gone-is : {b : Bool} → gone ≡ b → isDestroyed (r .state) ≡ b
+  gone-is e = ap (λ (x : Record). isDestroyed (x .state)) (sym loaded) ∙ sym is ∙ e
+
+  pub gives-none : gone ≡ true → (p : Performed) → p ≡ failed ObjectDestroyed → p ≡ giving holder r
+  unfolding giving
+  gives-none g p e = e ∙ sym (ifb-true _ _ _ (gone-is g))
+
+  pub gives : gone ≡ false → (w : Words) → w ≡ wordsOf (old .material) → record { outcome = Got (record { serial = old .serial; bits = old .bits; material = w }); holder = holder } ≡ giving holder r
+  unfolding giving keyOf
+  gives g w e =
+      ap (λ (x : Words). record { outcome = Got (record { serial = old .serial; bits = old .bits; material = x }); holder = holder }) e
+      ∙ ap (λ (x : Record). record { outcome = Got (keyOf x); holder = holder }) loaded
+      ∙ sym (ifb-false _ _ _ (gone-is g))
+
 -- ---- deeds
 
 module _ (n : ℕ) (fresh : List ℕ) (holder : ℕ) (t : List ℕ) (i : ℕ) (deed : Deed) where
@@ -237,6 +257,19 @@ module _ (n : ℕ) (fresh : List ℕ) (holder : ℕ) (t : List ℕ) (i : ℕ) (d
   pub does-show : deed ≡ Show → (r : Performed) → r ≡ showing holder (placeAt n t i) → leaves r t ≡ doing deed
   unfolding deedPlan showPlan
   does-show d r e = ap (λ (x : Performed). leaves x t) e ∙ sym (ap doing d ∙ is-done t _)
+
+  pub does-give : deed ≡ Give → (r : Performed) → r ≡ giving holder (placeAt n t i) → leaves r t ≡ doing deed
+  unfolding deedPlan giving getPlan
+  does-give d r e = ap (λ (x : Performed). leaves x t) e ∙ by-state ∙ sym (ap doing d)
+    where
+      gone : Bool
+      gone = isDestroyed (placeAt n t i .state)
+
+      by-state : leaves (giving holder (placeAt n t i)) t ≡ carriedOut t (getPlan (inPlaces n fresh) holder t i (placeAt n t i))
+      by-state =
+          on-bool gone
+          (λ g. ap (λ (x : Performed). leaves x t) (ifb-true gone _ _ g) ∙ sym (fails-first t _ _ _ g))
+          (λ g. ap (λ (x : Performed). leaves x t) (ifb-false gone _ _ g) ∙ sym (goes-on t _ _ _ g ∙ is-done t _))
 
 -- ---- the record that an item is about
 
@@ -308,3 +341,7 @@ module _ (n : ℕ) (fresh : List ℕ) (holder : ℕ) (t : List ℕ) (command : C
       pub performs-show : command ≡ GetAttributes target → done ≡ meets Show target → done ≡ performed command
       unfolding performing plan deedPlan
       performs-show c e = e ∙ sym (ap performed c)
+
+      pub performs-get : command ≡ Get target → done ≡ meets Give target → done ≡ performed command
+      unfolding performing plan deedPlan
+      performs-get c e = e ∙ sym (ap performed c)

@@ -26,10 +26,10 @@ use Rattle.changes.specs.Changes.{isFull}
 use Rattle.frame.specs.Frame.{Asked}
 use Rattle.payload.specs.declared.Target.{Target}
 use Rattle.payload.specs.declared.Command.{Command}
-use Rattle.payload.specs.declared.Command.the-variants.{Unsupported, Invalid, Create, Rekey, GetUsageAllocation, Activate, Revoke, Destroy, GetAttributes}
+use Rattle.payload.specs.declared.Command.the-variants.{Unsupported, Invalid, Create, Rekey, GetUsageAllocation, Activate, Revoke, Destroy, GetAttributes, Get}
 use Rattle.payload.specs.Payload.{command}
-use Rattle.act.specs.declared.Outcome.the-variants.{Showed}
-use Rattle.act.specs.Act.{Env, Did, Plan, sought, failing, carried, createPlan, rekeyPlan, changed, allocationPlan, activatePlan, revokePlan, destroyPlan, shownOf, showPlan, onFound, plan, step}
+use Rattle.act.specs.declared.Outcome.the-variants.{Showed, Got}
+use Rattle.act.specs.Act.{Env, Did, Plan, sought, failing, carried, createPlan, rekeyPlan, changed, allocationPlan, activatePlan, revokePlan, destroyPlan, shownOf, keyOf, showPlan, getPlan, onFound, plan, step}
 
 -- a command that moves a state: its operation, its revocation code, its target
 pub data Moving : Command → ℕ → ℕ → Target → Type 0 where
@@ -54,6 +54,8 @@ module _ (env : Env) (holder : ℕ) (t : List ℕ) where
         → nextState operation code (placeAt (env .places) t i .state) ≡ To next → Kind c (changed env holder t i (movedTo operation next (placeAt (env .places) t i)))
     shows : (target : Target) (i : ℕ) → find (env .places) t (sought holder target) ≡ At i
         → Kind (GetAttributes target) (record { outcome = Showed (shownOf (placeAt (env .places) t i)); table = t; holder = holder })
+    gets : (target : Target) (i : ℕ) → find (env .places) t (sought holder target) ≡ At i → isDestroyed (placeAt (env .places) t i .state) ≡ false
+        → Kind (Get target) (record { outcome = Got (keyOf (placeAt (env .places) t i)); table = t; holder = holder })
 
   -- a plan as its tests decide
   abbrev decided : Plan → Did
@@ -94,6 +96,10 @@ module _ (env : Env) (holder : ℕ) (t : List ℕ) where
   by-move {operation} {code} m i e none q = moves m i (movedState operation code (placeAt n t i .state)) e (ap (nextUnless (movedState operation code (placeAt n t i .state))) q)
   by-move m i e (some reason) q = fails reason
 
+  by-get : (target : Target) (i : ℕ) → find n t (sought holder target) ≡ At i → Kind (Get target) (decided (getPlan env holder t i (placeAt n t i)))
+  unfolding getPlan due carried
+  by-get target i e = on-if (λ (o : Option Reason). Kind (Get target) (carried t (getPlan env holder t i (placeAt n t i) .did) o)) (λ d. fails ObjectDestroyed) (λ d. gets target i e d)
+
   -- the plan of a target operation, by where its record is
   by-found : {c : Command} (own : ℕ → Record → Plan) (target : Target) → ((i : ℕ) → find n t (sought holder target) ≡ At i → Kind c (decided (own i (placeAt n t i))))
       → (f : Found) → find n t (sought holder target) ≡ f → Kind c (decided (onFound env holder t own f))
@@ -112,6 +118,7 @@ module _ (env : Env) (holder : ℕ) (t : List ℕ) where
   kind (Revoke target code) = by-found (revokePlan env holder t code) target (λ i e. by-move revoking i e (due (revokeTests code (placeAt n t i .state))) refl) (find n t (sought holder target)) refl
   kind (Destroy target) = by-found (destroyPlan env holder t) target (λ i e. by-move destroying i e (due (destroyTests (placeAt n t i .state))) refl) (find n t (sought holder target)) refl
   kind (GetAttributes target) = by-found (showPlan env holder t) target (λ i e. shows target i e) (find n t (sought holder target)) refl
+  kind (Get target) = by-found (getPlan env holder t) target (by-get target) (find n t (sought holder target)) refl
 
   -- how a step went
   pub step-kind : (asked : Asked) → Kind (command (asked .operation) (asked .payload)) (step env holder t asked)

@@ -24,11 +24,13 @@ use Rattle.frame.specs.Frame.{Asked}
 use Rattle.payload.specs.declared.Target.{Target}
 use Rattle.payload.specs.declared.Target.the-variants.{Placeholder, Serial}
 use Rattle.payload.specs.declared.Command.{Command}
-use Rattle.payload.specs.declared.Command.the-variants.{Unsupported, Invalid, Create, Rekey, GetUsageAllocation, Activate, Revoke, Destroy, GetAttributes}
+use Rattle.payload.specs.declared.Command.the-variants.{Unsupported, Invalid, Create, Rekey, GetUsageAllocation, Activate, Revoke, Destroy, GetAttributes, Get}
 use Rattle.payload.specs.Payload.{command}
+use Rattle.words.specs.Words.{wordsOf}
 use Rattle.act.specs.declared.Shown.{Shown}
+use Rattle.act.specs.declared.Key.{Key}
 use Rattle.act.specs.declared.Outcome.{Outcome}
-use Rattle.act.specs.declared.Outcome.the-variants.{Failed, Created, Done, Showed}
+use Rattle.act.specs.declared.Outcome.the-variants.{Failed, Created, Done, Showed, Got}
 use Rattle.act.specs.declared.Performed.{Performed}
 
 -- ---- what an item meets
@@ -102,6 +104,10 @@ shownOf r = record {
   replacement = r .replacement;
 }
 
+-- what Get hands out
+unfoldable pub keyOf : Record → Key
+keyOf r = record { serial = r .serial; bits = r .bits; material = wordsOf (r .material) }
+
 module _ (env : Env) (holder : ℕ) (t : List ℕ) where
   -- "Server Limit Exceeded"; a new record from the attributes. "Answers Object Type, identifier"
   unfoldable pub createPlan : Attributes → Plan
@@ -156,6 +162,13 @@ module _ (env : Env) (holder : ℕ) (t : List ℕ) where
   unfoldable pub showPlan : ℕ → Record → Plan
   showPlan i r = record { tests = []; did = record { outcome = Showed (shownOf r); table = t; holder = holder } }
 
+  -- "States 5 and 6 fail with Object Destroyed; every other state answers the material at its length"
+  unfoldable pub getPlan : ℕ → Record → Plan
+  getPlan i r = record {
+    tests = isDestroyed (r .state) ⇒ ObjectDestroyed ∷ [];
+    did = record { outcome = Got (keyOf r); table = t; holder = holder };
+  }
+
   -- "Object Not Found (no such record, or no identifier and no placeholder), then the operation's own"
   unfoldable pub onFound : (ℕ → Record → Plan) → Found → Plan
   onFound own (At i) = own i (placeAt (env .places) t i)
@@ -176,6 +189,7 @@ module _ (env : Env) (holder : ℕ) (t : List ℕ) where
   plan (Revoke target code) = targeted (revokePlan code) target
   plan (Destroy target) = targeted destroyPlan target
   plan (GetAttributes target) = targeted showPlan target
+  plan (Get target) = targeted getPlan target
 
   -- one item carried out
   unfoldable pub step : Asked → Did
@@ -201,3 +215,4 @@ isFailed (Failed reason) = true
 isFailed (Created serial) = false
 isFailed (Done serial) = false
 isFailed (Showed shown) = false
+isFailed (Got key) = false

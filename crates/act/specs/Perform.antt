@@ -9,18 +9,18 @@ use Rattle.search.specs.declared.Found.{Found}
 use Rattle.search.specs.declared.Found.the-variants.{At, Nothing}
 use Rattle.table.specs.Layout.{Place}
 use Rattle.table.specs.Records.{placeAt, withPlace, lastSerial}
-use Rattle.search.specs.Search.{newPlace}
+use Rattle.search.specs.Search.{newPlace, isDestroyed}
 use Rattle.rules.specs.declared.Reason.{Reason}
-use Rattle.rules.specs.declared.Reason.the-variants.{ServerLimitExceeded}
+use Rattle.rules.specs.declared.Reason.the-variants.{ObjectDestroyed, ServerLimitExceeded}
 use Rattle.rules.specs.States.{moveTests}
 use Rattle.changes.specs.Records.{heirOf, linkedTo}
 use Rattle.changes.specs.Changes.{serialMost, nextSerial, bornAt}
 use Rattle.payload.specs.declared.Target.{Target}
-use Rattle.act.specs.declared.Outcome.the-variants.{Failed, Done, Showed}
+use Rattle.act.specs.declared.Outcome.the-variants.{Failed, Done, Showed, Got}
 use Rattle.act.specs.declared.Performed.{Performed}
 use Rattle.act.specs.declared.Deed.{Deed}
-use Rattle.act.specs.declared.Deed.the-variants.{Replace, Allocate, Move, Show}
-use Rattle.act.specs.Act.{Env, Did, Plan, emptyHolder, failing, shownOf, rekeyPlan, allocationPlan, showPlan, changed, moved, targeted, inPlaces}
+use Rattle.act.specs.declared.Deed.the-variants.{Replace, Allocate, Move, Show, Give}
+use Rattle.act.specs.Act.{Env, Did, Plan, emptyHolder, failing, shownOf, keyOf, rekeyPlan, allocationPlan, showPlan, getPlan, changed, moved, targeted, inPlaces}
 
 -- ---- answers
 
@@ -31,6 +31,10 @@ failed reason = record { outcome = Failed reason; holder = emptyHolder }
 -- Get Attributes shows the record and keeps the placeholder
 abbrev pub showing : ℕ → Record → Performed
 showing holder r = record { outcome = Showed (shownOf r); holder = holder }
+
+-- Get hands the key out and keeps the placeholder, unless the key is destroyed
+unfoldable pub giving : ℕ → Record → Performed
+giving holder r = ifb (isDestroyed (r .state)) (failed ObjectDestroyed) (record { outcome = Got (keyOf r); holder = holder })
 
 -- ---- by parts
 
@@ -72,6 +76,7 @@ module _ (env : Env) (holder : ℕ) (t : List ℕ) where
   deedPlan (Allocate amount) = allocationPlan env holder t amount
   deedPlan (Move operation code) = movePlan (env .places) holder t operation code
   deedPlan Show = showPlan env holder t
+  deedPlan Give = getPlan env holder t
 
   -- what is asked of the record that an item is about
   abbrev pub aboutPlan : Deed → Target → Plan

@@ -6,7 +6,7 @@ ghost use Rattle.table.specs.Records.{placeAt};
 ghost use Rattle.search.specs.declared.Found.the-variants.{At};
 ghost use Rattle.changes.specs.Changes.{bornAt};
 ghost use Rattle.act.specs.Act.{emptyHolder, sought, createPlan, rekeyPlan, allocationPlan, carriedOut, inPlaces, performing, leaves, isFailed};
-ghost use Rattle.act.specs.Perform.{TwoPlaces, failed, showing, storing, placeForNew, linkedAt, replacing, movePlan, deedPlan, aboutPlan};
+ghost use Rattle.act.specs.Perform.{TwoPlaces, failed, showing, giving, storing, placeForNew, linkedAt, replacing, movePlan, deedPlan, aboutPlan};
 use payload::Command;
 use payload::Target;
 use rules::Attributes;
@@ -15,6 +15,7 @@ use rules::Next;
 use rules::Reason;
 use search::Found;
 use table::Record;
+use words::Words;
 
 // What Get Attributes shows of a record. Unit 0 is no usage limit; a link serial 0 is no link.
 pub struct Shown {
@@ -29,6 +30,13 @@ pub struct Shown {
     pub replacement: u32,
 }
 
+// What Get hands out of a record: its material, as four numbers, and its length.
+pub struct Key {
+    pub serial: u32,
+    pub bits: u16,
+    pub material: Words,
+}
+
 // What became of an item.
 pub enum Outcome {
     Failed { reason: Reason },
@@ -38,6 +46,8 @@ pub enum Outcome {
     Done { serial: u32 },
     // Get Attributes
     Showed { shown: Shown },
+    // Get
+    Got { key: Key },
 }
 
 // What became of an item, and the placeholder after it, 0 where it is empty.
@@ -56,6 +66,7 @@ enum Deed {
     // an operation that moves the state, with its revocation code
     Move(u32, u32),
     Show,
+    Give,
 }
 
 const SERIAL_MOST: u32 = 4294967295;
@@ -69,6 +80,7 @@ pub fn is_failed(outcome: Outcome) -> bool
         Outcome::Created { serial: _ } => false,
         Outcome::Done { serial: _ } => false,
         Outcome::Showed { shown: _ } => false,
+        Outcome::Got { key: _ } => false,
     }
 }
 
@@ -245,6 +257,28 @@ fn show_at(t: &[u8], n: usize, i: usize, holder: u32) -> Performed
     }
 }
 
+// Get of the record at place i: its key, unless it is destroyed.
+fn give_at(t: &[u8], n: usize, i: usize, holder: u32) -> Performed
+    requires { ⌜ Place n (now t) i ⌝ }
+    ensures { λ r. ⌜ r ≡ giving holder (placeAt n (now (t .entry)) i) ⌝ }
+{
+    let given = records::load(t, n, i);
+    if search::is_destroyed(given.state) {
+        return fail(Reason::ObjectDestroyed);
+    }
+    let material = given.material;
+    Performed {
+        outcome: Outcome::Got {
+            key: Key {
+                serial: given.serial,
+                bits: given.bits,
+                material: words::words_of(material),
+            },
+        },
+        holder,
+    }
+}
+
 // What is asked of the record at place i.
 fn act_at(t: &mut [u8], n: usize, i: usize, holder: u32, deed: Deed, fresh: &[u8]) -> Performed
     requires { ⌜ Place n (now t) i ⌝ }
@@ -255,6 +289,7 @@ fn act_at(t: &mut [u8], n: usize, i: usize, holder: u32, deed: Deed, fresh: &[u8
         Deed::Allocate(amount) => allocate_at(t, n, i, holder, amount),
         Deed::Move(operation, code) => move_at(t, n, i, holder, operation, code),
         Deed::Show => show_at(t, n, i, holder),
+        Deed::Give => give_at(t, n, i, holder),
     }
 }
 
@@ -306,5 +341,6 @@ pub fn perform(t: &mut [u8], n: usize, holder: u32, command: Command, fresh: &[u
             fresh,
         ),
         Command::GetAttributes { target } => act_on(t, n, holder, target, Deed::Show, fresh),
+        Command::Get { target } => act_on(t, n, holder, target, Deed::Give, fresh),
     }
 }

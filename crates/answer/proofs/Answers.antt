@@ -19,7 +19,7 @@ use Rattle.octets.proofs.Bools.{both, and-i}
 use Rattle.tags.specs.Tags.{batchCount, batchItem, operationTag, protocolVersion, protocolVersionMajor, protocolVersionMinor, uniqueBatchItemId, responseHeader, responseMessage, timeStamp}
 use Rattle.frame.specs.Frame.{idMost, idOk, idBytes, batchMost}
 use Rattle.act.specs.declared.Outcome.{Outcome}
-use Rattle.act.specs.declared.Outcome.the-variants.{Failed, Created, Done, Showed}
+use Rattle.act.specs.declared.Outcome.the-variants.{Failed, Created, Done, Showed, Got}
 use Rattle.answer.specs.Respond.{Answer, Response, outcomeItems, idItems, answerItems, batchItems, versionItems, headerItems, respond}
 use Rattle.answer.specs.Read.{answerIn, answersOf, headIn, outcomeOk, answerOk, allowed, ifAllowed, answersIn}
 use Rattle.octets.proofs.Maybe.{not-some, some-is, on-bind, on-test}
@@ -39,6 +39,7 @@ no-id (Failed reason) = refl
 no-id (Created serial) = refl
 no-id (Done serial) = refl
 no-id (Showed shown) = refl
+no-id (Got key) = refl
 
 -- an ID, as it is read in front of the rest
 record IdRead (id : List ℕ) (rest : Items) : Type 0 where

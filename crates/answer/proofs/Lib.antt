@@ -6,6 +6,7 @@ pub mod Fields
 pub mod Links
 pub mod Limits
 pub mod Payloads
+pub mod Keys
 pub mod Outcomes
 pub mod Answers
 pub mod Sizes

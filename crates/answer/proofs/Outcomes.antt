@@ -18,14 +18,15 @@ use Rattle.octets.proofs.Bools.{both}
 use Rattle.tags.specs.Tags.{responsePayload, resultReason, resultStatus}
 use Rattle.rules.specs.declared.Reason.{Reason}
 use Rattle.rules.specs.declared.Reason.the-variants.{OperationNotSupported, InvalidField, ObjectNotFound, ObjectDestroyed, PermissionDenied, WrongKeyLifecycleState, UsageLimitExceeded, ServerLimitExceeded}
-use Rattle.rules.specs.Numbers.{reasonNumber, create, getAttributes, success, operationFailed}
+use Rattle.rules.specs.Numbers.{reasonNumber, create, get, getAttributes, success, operationFailed}
 use Rattle.act.specs.declared.Outcome.{Outcome}
-use Rattle.act.specs.declared.Outcome.the-variants.{Failed, Created, Done, Showed}
+use Rattle.act.specs.declared.Outcome.the-variants.{Failed, Created, Done, Showed, Got}
 use Rattle.answer.specs.Respond.{word, succeeded, outcomeItems}
-use Rattle.answer.specs.Read.{doneIn, showedIn, answersDone, payloadIn, reasons, reasonAmong, failureIn, successIn, outcomeIn, serialOk, shownOk, outcomeOk}
+use Rattle.answer.specs.Read.{doneIn, showedIn, gotIn, answersDone, payloadIn, reasons, reasonAmong, failureIn, successIn, outcomeIn, serialOk, shownOk, keyOk, outcomeOk}
 use Rattle.octets.proofs.Maybe.{not-some, some-is, on-bind, on-test}
 use Rattle.answer.proofs.Fields.{ended-is, body-spells, spelled-back, spelled-spells}
 use Rattle.answer.proofs.Payloads.{created-back, created-spells, done-back, done-spells, showed-back, showed-spells}
+use Rattle.answer.proofs.Keys.{got-back, got-spells}
 
 -- ---- reasons
 
@@ -93,6 +94,10 @@ outcome-back operation (Showed shown) h =
     let p = both (eqb operation getAttributes) (shownOk shown) h in
     let e = eqb-true operation getAttributes (p .0) in
     succeeded-back operation _ ∙ rw e (unfold ifb in showed-back shown (p .1))
+outcome-back operation (Got key) h =
+    let p = both (eqb operation get) (keyOk key) h in
+    let e = eqb-true operation get (p .0) in
+    succeeded-back operation _ ∙ rw e (unfold ifb in got-back key (p .1))
 
 -- what is read as a success's payload was written as one
 payload-spells : (operation : ℕ) (t : Items) {o : Outcome} → payloadIn operation t ≡ some o → succeeded t ≡ outcomeItems o
@@ -102,11 +107,14 @@ payload-spells operation t {o} h = create-first h
     Spelled : Option Outcome → Type 0
     Spelled q = q ≡ some o → succeeded t ≡ outcomeItems o
 
-    last : Spelled (ifb (eqb operation getAttributes) (showedIn t) none)
-    last = on-if Spelled (λ e g. let p = showed-spells t g in ap succeeded (p .2) ∙ sym (ap outcomeItems (p .1))) (λ e g. absurd (not-some g))
+    last : Spelled (ifb (eqb operation get) (gotIn t) none)
+    last = on-if Spelled (λ e g. let p = got-spells t g in ap succeeded (p .2) ∙ sym (ap outcomeItems (p .1))) (λ e g. absurd (not-some g))
 
-    done-next : Spelled (ifb (answersDone operation) (doneIn t) (ifb (eqb operation getAttributes) (showedIn t) none))
-    done-next = on-if Spelled (λ e g. let p = done-spells t g in ap succeeded (p .2) ∙ sym (ap outcomeItems (p .1))) (λ e. last)
+    showed-next : Spelled (ifb (eqb operation getAttributes) (showedIn t) (ifb (eqb operation get) (gotIn t) none))
+    showed-next = on-if Spelled (λ e g. let p = showed-spells t g in ap succeeded (p .2) ∙ sym (ap outcomeItems (p .1))) (λ e. last)
+
+    done-next : Spelled (ifb (answersDone operation) (doneIn t) (ifb (eqb operation getAttributes) (showedIn t) (ifb (eqb operation get) (gotIn t) none)))
+    done-next = on-if Spelled (λ e g. let p = done-spells t g in ap succeeded (p .2) ∙ sym (ap outcomeItems (p .1))) (λ e. showed-next)
 
     create-first : Spelled (payloadIn operation t)
     create-first = on-if Spelled (λ e g. let p = created-spells t g in ap succeeded (p .2) ∙ sym (ap outcomeItems (p .1))) (λ e. done-next)

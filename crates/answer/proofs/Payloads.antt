@@ -1,7 +1,7 @@
 -- Response payloads read back: what Get Attributes shows, and the payload of each operation.
 -- Assumes nothing.
 use mathlib.Core.Path.{_≡_, refl, sym, ap}
-use Prim.Native.Nat.{ℕ, _^_, _<_}
+use Prim.Native.Nat.{ℕ, _^_, _≤_, _<_}
 use native.Mathlib.Omega.{arith}
 use mathlib.Core.Bool.{true, false, _&&_, _||_}
 use mathlib.Core.Option.{none, some}
@@ -39,8 +39,9 @@ pub record ShownFacts (s : Shown) : Type 0 where
   pub replaced-ok : linkOk (s .replaced) ≡ true
   pub replacement-ok : linkOk (s .replacement) ≡ true
 
-bits-facts : (bits : ℕ) → bitsOk bits ≡ true → bits < 256 ^ 4
-bits-facts bits h =
+-- a length has at most 256 bits
+pub bits-most : (bits : ℕ) → bitsOk bits ≡ true → bits ≤ 256
+bits-most bits h =
     on-or (eqb bits 128 || eqb bits 192) (eqb bits 256) h
     (λ g. on-or (eqb bits 128) (eqb bits 192) g (λ e. omega (arith, eqb-true)) (λ e. omega (arith, eqb-true)))
     (λ e. omega (arith, eqb-true))
@@ -57,7 +58,7 @@ shown-facts s h =
     let state = both (leb 1 (s .state)) (leb (s .state) 6) (p3 .1) in
     record {
       serial-ok = p1 .0;
-      bits-short = bits-facts (s .bits) (p1 .1);
+      bits-short = omega (arith, bits-most (s .bits) (p1 .1));
       mask-short = omega (arith, leb-true);
       state-short = omega (arith, leb-true);
       limits-ok = limits-facts (limitsOf s) (p4 .1);

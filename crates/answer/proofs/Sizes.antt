@@ -5,22 +5,25 @@ use Prim.Native.Nat.{ℕ, _+_, _*_, _≤_}
 use native.Mathlib.Omega.{arith}
 use mathlib.Core.Bool.{true}
 use mathlib.Core.List.{List, [], _∷_}
-use lib.ListN.{length}
+use lib.ListN.{length, length-take}
 use lib.Dec.{eqb}
 use Rattle.octets.specs.Octets.{be, all}
 use Rattle.octets.proofs.If.{on-if}
 use Rattle.octets.proofs.Numbers.{length-be}
-use Rattle.ttlv.specs.Items.{Items, nil, group, encode}
+use Rattle.ttlv_types.specs.Types.{byteString}
+use Rattle.ttlv.specs.Items.{Items, nil, value, group, encode}
 use Rattle.ttlv.proofs.Sizes.{size, size-nil, size-value, size-group}
 use Rattle.octets.proofs.Bools.{both}
 use Rattle.identifier.specs.Identifier.{identifier}
 use Rattle.identifier.proofs.Texts.{length-identifier}
-use Rattle.tags.specs.Tags.{batchItem}
+use Rattle.tags.specs.Tags.{batchItem, keyMaterial}
 use Rattle.frame.specs.Frame.{idMost}
+use Rattle.words.proofs.Laws.{length-words}
 use Rattle.act.specs.declared.Shown.{Shown}
+use Rattle.act.specs.declared.Key.{Key}
 use Rattle.act.specs.declared.Outcome.{Outcome}
-use Rattle.act.specs.declared.Outcome.the-variants.{Failed, Created, Done, Showed}
-use Rattle.answer.specs.Respond.{Answer, word, long, named, limitItems, linkItems, attributeItems, outcomeItems, idItems, answerItems, batchItems, replacedObjectLink, replacementObjectLink}
+use Rattle.act.specs.declared.Outcome.the-variants.{Failed, Created, Done, Showed, Got}
+use Rattle.answer.specs.Respond.{Answer, word, long, named, limitItems, linkItems, attributeItems, materialOf, keyBlockItems, keyItems, outcomeItems, idItems, answerItems, batchItems, replacedObjectLink, replacementObjectLink}
 use Rattle.answer.specs.Read.{answerOk}
 use Rattle.answer.specs.Front.{longestItem}
 use Rattle.answer.proofs.Answers.{answer-facts}
@@ -58,12 +61,28 @@ attributes-size s =
     let first = linkItems replacedObjectLink (s .replaced) second in
     simp sizes (omega (arith, limit-size s first, link-size replacedObjectLink (s .replaced) second, link-size replacementObjectLink (s .replacement) nil, size-nil))
 
+pub material-length : (k : Key) → length (materialOf k) ≤ 32
+unfolding materialOf
+material-length k = let l = length-words (k .material) in rw length-take (omega arith)
+
+-- the material with its head; a length is a multiple of 8 bits, so that it needs no padding
+pub material-size : (k : Key) → size (value keyMaterial byteString (materialOf k) nil) ≤ 40
+material-size k = let l = material-length k in rw (size-value, size-nil) (omega arith)
+
+pub block-size : (k : Key) → size (keyBlockItems (materialOf k) (k .bits)) ≤ 96
+block-size k = simp sizes (omega (arith, material-size k))
+
+pub key-size : (k : Key) → size (keyItems k) ≤ 112
+unfolding keyItems
+key-size k = simp (size-group, size-nil) (omega (arith, block-size k))
+
 pub outcome-size : (o : Outcome) → size (outcomeItems o) ≤ 248
 unfolding outcomeItems
 outcome-size (Failed reason) = simp sizes (omega arith)
 outcome-size (Created serial) = simp sizes (omega arith)
 outcome-size (Done serial) = simp sizes (omega arith)
 outcome-size (Showed shown) = simp sizes (omega (arith, attributes-size shown))
+outcome-size (Got key) = simp sizes (omega (arith, key-size key))
 
 pub id-size : (id : List ℕ) (rest : Items) → length id ≤ idMost → size (idItems id rest) ≤ 24 + size rest
 unfolding idItems

@@ -13,7 +13,7 @@ use Rattle.octets.specs.Octets.{be, all}
 use Rattle.octets.proofs.If.{on-if}
 use Rattle.octets.proofs.Numbers.{length-be}
 use Rattle.ttlv_types.specs.Types.{structure, integer, longInteger, enumeration, textString, byteString, dateTime, lengthOk, text, valueOk}
-use Rattle.tags.specs.Tags.{tagLead, tagOk, batchCount, batchItem, operationTag, protocolVersion, protocolVersionMajor, protocolVersionMinor, uniqueBatchItemId, attributes, cryptographicAlgorithm, cryptographicLength, cryptographicUsageMask, objectType, uniqueIdentifier, usageLimits, usageLimitsCount, usageLimitsTotal, usageLimitsUnit, link, linkType, linkedObjectIdentifier, responseHeader, responseMessage, responsePayload, resultReason, resultStatus, stateTag, timeStamp}
+use Rattle.tags.specs.Tags.{tagLead, tagOk, batchCount, batchItem, operationTag, protocolVersion, protocolVersionMajor, protocolVersionMinor, uniqueBatchItemId, attributes, cryptographicAlgorithm, cryptographicLength, cryptographicUsageMask, keyBlock, keyFormatType, keyMaterial, keyValue, objectType, uniqueIdentifier, usageLimits, usageLimitsCount, usageLimitsTotal, usageLimitsUnit, link, linkType, linkedObjectIdentifier, responseHeader, responseMessage, responsePayload, resultReason, resultStatus, stateTag, symmetricKeyTag, timeStamp}
 use Rattle.payload.specs.Payload.{symmetricKey, aes}
 use Rattle.ttlv.specs.Items.{Items, nil, value, group, itemOk, wellFormed}
 use Rattle.ttlv.specs.Parse.{depthMost}
@@ -24,16 +24,17 @@ use Rattle.identifier.proofs.Texts.{length-identifier, identifier-text}
 use Rattle.frame.specs.Frame.{idMost}
 use Rattle.rules.specs.Numbers.{reasonNumber, success, operationFailed}
 use Rattle.act.specs.declared.Shown.{Shown}
+use Rattle.act.specs.declared.Key.{Key}
 use Rattle.act.specs.declared.Outcome.{Outcome}
-use Rattle.act.specs.declared.Outcome.the-variants.{Failed, Created, Done, Showed}
-use Rattle.answer.specs.Respond.{Answer, Response, word, long, named, limitItems, linkItems, attributeItems, succeeded, outcomeItems, idItems, answerItems, batchItems, versionItems, headerItems, respond, replacedObjectLink, replacementObjectLink}
+use Rattle.act.specs.declared.Outcome.the-variants.{Failed, Created, Done, Showed, Got}
+use Rattle.answer.specs.Respond.{Answer, Response, word, long, named, limitItems, linkItems, attributeItems, raw, materialOf, keyValueItems, keyItems, succeeded, outcomeItems, idItems, answerItems, batchItems, versionItems, headerItems, respond, replacedObjectLink, replacementObjectLink}
 use Rattle.answer.specs.Read.{Limits, answerOk, allowed}
 use Rattle.answer.specs.Front.{responseMost}
 use Rattle.answer.proofs.Links.{linked}
 use Rattle.answer.proofs.Limits.{limited, limitsOf}
 use Rattle.answer.proofs.Answers.{answer-facts, allowed-facts}
-use Rattle.ttlv.proofs.Sizes.{size, size-group}
-use Rattle.answer.proofs.Sizes.{sizes, attributes-size, answer-items-size, batch-size}
+use Rattle.ttlv.proofs.Sizes.{size, size-nil, size-group}
+use Rattle.answer.proofs.Sizes.{sizes, attributes-size, material-length, material-size, block-size, key-size, answer-items-size, batch-size}
 use Rattle.answer.proofs.Front.{header-size}
 
 -- a run that is well-formed with structures at most d deep
@@ -111,6 +112,27 @@ attributes-well s =
     (link-well replacedObjectLink (s .replaced) _
     (link-well replacementObjectLink (s .replacement) nil (nil-well 4)))))))
 
+-- the fields of a Symmetric Key are at 4, those of its Key Block at 3, those of the Key Value at 2
+value-well : (k : Key) (rest : Items) → Well 3 rest → Well 3 (keyValueItems (materialOf k) rest)
+unfolding lengthOk valueOk ifb
+value-well k rest w =
+    let short = material-length k in
+    body-well 2 keyValue _ rest refl (omega (arith, material-size k))
+    (field-well 1 keyMaterial byteString (length (materialOf k)) (materialOf k) nil refl (lt-ltb (length (materialOf k)) (256 ^ 4) (omega arith)) refl (nil-well 2))
+    w
+
+key-well : (k : Key) → Well 5 (keyItems k)
+unfolding keyItems lengthOk valueOk ifb
+key-well k =
+    body-well 4 symmetricKeyTag _ nil refl (simp (size-group, size-nil) (omega (arith, block-size k)))
+    (body-well 3 keyBlock _ nil refl (omega (arith, block-size k))
+    (word-well 2 keyFormatType enumeration raw _ refl refl
+    (value-well k _
+    (word-well 2 cryptographicAlgorithm enumeration aes _ refl refl
+    (word-well 2 cryptographicLength integer (k .bits) nil refl refl (nil-well 3)))))
+    (nil-well 4))
+    (nil-well 5)
+
 -- ---- answers
 
 succeeded-well : (payload : Items) → size payload < 256 ^ 4 → Well 5 payload → Well 6 (succeeded payload)
@@ -133,6 +155,10 @@ outcome-well (Showed shown) =
     succeeded-well _ (simp sizes (omega (arith, attributes-size shown)))
     (named-well 4 uniqueIdentifier (shown .serial) _ refl
     (body-well 4 attributes (attributeItems shown) nil refl (omega (arith, attributes-size shown)) (attributes-well shown) (nil-well 5)))
+outcome-well (Got key) =
+    succeeded-well _ (simp sizes (omega (arith, key-size key)))
+    (word-well 4 objectType enumeration symmetricKey _ refl refl
+    (named-well 4 uniqueIdentifier (key .serial) _ refl (key-well key)))
 
 id-well : (id : List ℕ) (rest : Items) → length id ≤ idMost → Well 6 rest → Well 6 (idItems id rest)
 unfolding idItems lengthOk valueOk ifb

@@ -1,23 +1,28 @@
 -- Worked responses, computed: written to the papers' bytes, and read back.
 -- Assumes nothing. The bytes were worked out from the papers.
+use Prim.Native.Nat.{ℕ}
 use mathlib.Core.Path.{_≡_, refl}
+use mathlib.Core.Bool.{false}
 use mathlib.Core.Option.{none, some}
-use mathlib.Core.List.{[], _∷_}
+use mathlib.Core.List.{List, [], _∷_}
+use lib.ListN.{length, replicate}
 use Rattle.hex.specs.Texts.{hex}
+use Rattle.words.specs.Words.{wordsOf, wordBytes, wordsOk, filled}
 use Rattle.rules.specs.declared.Reason.the-variants.{OperationNotSupported}
-use Rattle.act.specs.declared.Outcome.the-variants.{Failed, Done, Showed}
+use Rattle.act.specs.declared.Outcome.the-variants.{Failed, Done, Showed, Got}
 use Rattle.answer.specs.Respond.{Answer, Response}
 use Rattle.octets.specs.If.{ifb}
 use Rattle.octets.specs.Maybe.{_>>=_, _>>_, isSome}
 use Rattle.octets.specs.Octets.{be, fromBeAfter, fromBe, all, same}
 use Rattle.ttlv_types.specs.Types.{lengthOk, text, valueOk}
-use Rattle.ttlv.specs.Items.{encode, itemOk, wellFormed, ended}
+use Rattle.ttlv.specs.Items.{nil, group, encode, itemOk, wellFormed, ended}
+use Rattle.tags.specs.Tags.{batchItem}
 use Rattle.ttlv.specs.Parse.{headed, firstOf, putValue, putGroup, more, walk, parse, isOne, message}
 use Rattle.fields.specs.Fields.{startsWith, bytesOf, bodyOf, numberOf, optional}
 use Rattle.identifier.specs.Identifier.{digits, identifier, fromDigitsAfter, serialOf}
 use Rattle.frame.specs.Frame.{versionIn, headerIn, idOk, idBytes, itemIn, itemsIn, frameIn, optionOf, framing, framed}
-use Rattle.answer.specs.Respond.{limitItems, linkItems, attributeItems, outcomeItems, idItems, answerItems, batchItems, versionItems, headerItems, respond}
-use Rattle.answer.specs.Read.{spelled, fixed, serialIn, limitsFirst, orNoLimits, linkFirst, orNoLink, linkIn, shownIn, createdIn, doneIn, showedIn, payloadIn, reasonAmong, failureIn, successIn, outcomeIn, answerIn, answersOf, headIn, shownOk, outcomeOk, answerOk, allowed, ifAllowed, answersIn}
+use Rattle.answer.specs.Respond.{limitItems, linkItems, attributeItems, materialOf, keyItems, outcomeItems, idItems, answerItems, batchItems, versionItems, headerItems, respond}
+use Rattle.answer.specs.Read.{spelled, fixed, serialIn, limitsFirst, orNoLimits, linkFirst, orNoLink, linkIn, shownIn, createdIn, doneIn, showedIn, keyRead, keyBlockIn, keyIn, gotIn, payloadIn, reasonAmong, failureIn, successIn, outcomeIn, answerIn, answersOf, headIn, shownOk, keyOk, outcomeOk, answerOk, allowed, ifAllowed, answersIn}
 
 -- 01's card: "Activate of the Pre-Active "00000001", alone, no Unique Batch Item ID, clock 0, whole response of 152 bytes"
 abbrev activated : Response
@@ -25,7 +30,7 @@ activated = record { clock = 0; answers = record { operation = 0x12; id = []; ou
 
 -- the definitions that the cases compute with: who opens this opens them all
 opened : Unit {0}
-unfolding ifb _>>=_ _>>_ isSome be fromBeAfter fromBe all same lengthOk text valueOk encode itemOk wellFormed headed firstOf putValue putGroup more walk parse isOne message startsWith ended bytesOf bodyOf numberOf optional digits identifier fromDigitsAfter serialOf versionIn headerIn idOk idBytes itemIn itemsIn frameIn optionOf framing framed limitItems linkItems attributeItems outcomeItems idItems answerItems batchItems versionItems headerItems respond spelled fixed serialIn limitsFirst orNoLimits linkFirst orNoLink linkIn shownIn createdIn doneIn showedIn payloadIn reasonAmong failureIn successIn outcomeIn answerIn answersOf headIn shownOk outcomeOk answerOk allowed ifAllowed answersIn
+unfolding wordsOf wordBytes wordsOk filled ifb _>>=_ _>>_ isSome be fromBeAfter fromBe all same lengthOk text valueOk encode itemOk wellFormed headed firstOf putValue putGroup more walk parse isOne message startsWith ended bytesOf bodyOf numberOf optional digits identifier fromDigitsAfter serialOf versionIn headerIn idOk idBytes itemIn itemsIn frameIn optionOf framing framed limitItems linkItems attributeItems materialOf keyItems outcomeItems idItems answerItems batchItems versionItems headerItems respond spelled fixed serialIn limitsFirst orNoLimits linkFirst orNoLink linkIn shownIn createdIn doneIn showedIn keyRead keyBlockIn keyIn gotIn payloadIn reasonAmong failureIn successIn outcomeIn answerIn answersOf headIn shownOk keyOk outcomeOk answerOk allowed ifAllowed answersIn
 opened = tt
 
 activated-written : encode (respond activated) ≡ hex "42007B01 00000090 42007A01 00000048 42006901 00000020 42006A02 00000004 00000002 00000000 42006B02 00000004 00000001 00000000 42009209 00000008 00000000 00000000 42000D02 00000004 00000001 00000000 42000F01 00000038 42005C05 00000004 00000012 00000000 42007F05 00000004 00000000 00000000 42007C01 00000010 42009407 00000008 30303030 30303031"
@@ -60,3 +65,32 @@ mixed-read = refl
 not-created : answersIn (respond (record { clock = 0; answers = record { operation = 0x01; id = []; outcome = Done 1 } ∷ [] })) ≡ none
 unfolding opened
 not-created = refl
+
+-- ---- Get
+
+-- an answer that hands out a key of so many bits, with this material
+handing : ℕ → List ℕ → List ℕ → Answer
+handing bits material id = record { operation = 0x0A; id = id; outcome = Got (record { serial = 1; bits = bits; material = wordsOf (filled material) }) }
+
+-- 128 bits, material 00 to 0F
+got : Response
+got = record { clock = 0; answers = handing 128 (hex "000102030405060708090A0B0C0D0E0F") [] ∷ [] }
+
+got-written : encode (respond got) ≡ hex "42007B01 00000100 42007A01 00000048 42006901 00000020 42006A02 00000004 00000002 00000000 42006B02 00000004 00000001 00000000 42009209 00000008 00000000 00000000 42000D02 00000004 00000001 00000000 42000F01 000000A8 42005C05 00000004 0000000A 00000000 42007F05 00000004 00000000 00000000 42007C01 00000080 42005705 00000004 00000002 00000000 42009407 00000008 30303030 30303031 42008F01 00000058 42004001 00000050 42004205 00000004 00000001 00000000 42004501 00000018 42004308 00000010 00010203 04050607 08090A0B 0C0D0E0F 42002805 00000004 00000003 00000000 42002A02 00000004 00000080 00000000"
+unfolding opened got handing
+got-written = refl
+
+got-read : answersIn (respond got) ≡ some got
+unfolding opened got handing
+got-read = refl
+
+-- no response has key bytes past the length
+not-past : allowed (record { clock = 0; answers = handing 128 (replicate 17 1) [] ∷ [] }) ≡ false
+unfolding opened handing
+not-past = refl
+
+-- "A Get item stays within the 296 bytes": with an ID of 16 bytes the keys of 128, 192 and 256 bits make items of 200, 208 and 216
+handed-sizes : length (encode (group batchItem (answerItems (handing 128 [] (replicate 16 1))) nil)) ∷ length (encode (group batchItem (answerItems (handing 192 [] (replicate 16 1))) nil)) ∷ length (encode (group batchItem (answerItems (handing 256 [] (replicate 16 1))) nil)) ∷ []
+    ≡ 200 ∷ 208 ∷ 216 ∷ []
+unfolding opened handing
+handed-sizes = refl

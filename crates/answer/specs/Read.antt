@@ -1,30 +1,32 @@
 -- Responses read back: `answersIn` reads what `respond` writes and nothing else, and `allowed` says which responses there are.
 -- Assumes nothing.
-use Prim.Native.Nat.{ℕ, _^_}
+use Prim.Native.Nat.{ℕ, _/_, _^_}
 use mathlib.Core.Bool.{Bool, true, not, _&&_, _||_}
 use mathlib.Core.Option.{Option, none, some}
 use mathlib.Core.List.{List, [], _∷_}
-use lib.ListN.{length}
+use lib.ListN.{length, drop}
 use lib.Dec.{leb, ltb, eqb}
 use Rattle.octets.specs.If.{ifb}
 use Rattle.octets.specs.Maybe.{_>>=_, _>>_}
-use Rattle.octets.specs.Octets.{be, fromBe, same, all}
+use Rattle.octets.specs.Octets.{be, fromBe, same, all, allZero}
 use Rattle.ttlv_types.specs.Types.{integer, longInteger, enumeration, textString, byteString, dateTime}
 use Rattle.ttlv.specs.Items.{Items, nil, value, group, ended}
 use Rattle.fields.specs.Fields.{bytesOf, bodyOf, optional}
-use Rattle.tags.specs.Tags.{batchCount, batchItem, operationTag, protocolVersion, protocolVersionMajor, protocolVersionMinor, uniqueBatchItemId, attributes, cryptographicAlgorithm, cryptographicLength, cryptographicUsageMask, objectType, uniqueIdentifier, usageLimits, usageLimitsCount, usageLimitsTotal, usageLimitsUnit, link, linkType, linkedObjectIdentifier, responseHeader, responseMessage, responsePayload, resultReason, resultStatus, stateTag, timeStamp}
+use Rattle.tags.specs.Tags.{batchCount, batchItem, operationTag, protocolVersion, protocolVersionMajor, protocolVersionMinor, uniqueBatchItemId, attributes, cryptographicAlgorithm, cryptographicLength, cryptographicUsageMask, keyBlock, keyFormatType, keyMaterial, keyValue, objectType, uniqueIdentifier, usageLimits, usageLimitsCount, usageLimitsTotal, usageLimitsUnit, link, linkType, linkedObjectIdentifier, responseHeader, responseMessage, responsePayload, resultReason, resultStatus, stateTag, symmetricKeyTag, timeStamp}
 use Rattle.payload.specs.Payload.{symmetricKey, aes}
 use Rattle.identifier.specs.Identifier.{serialOf}
 use Rattle.values.specs.Values.{bitsOk, maskOk, unitOk, totalOk}
 use Rattle.rules.specs.declared.Reason.{Reason}
 use Rattle.rules.specs.declared.Reason.the-variants.{OperationNotSupported, InvalidField, ObjectNotFound, ObjectDestroyed, PermissionDenied, WrongKeyLifecycleState, UsageLimitExceeded, ServerLimitExceeded}
-use Rattle.rules.specs.Numbers.{reasonNumber, create, rekey, getAttributes, getUsageAllocation, activate, revoke, destroy, success, operationFailed}
+use Rattle.rules.specs.Numbers.{reasonNumber, create, rekey, get, getAttributes, getUsageAllocation, activate, revoke, destroy, success, operationFailed}
 use Rattle.changes.specs.Changes.{serialMost}
+use Rattle.words.specs.Words.{wordsOf, wordBytes, wordsOk, filled}
 use Rattle.act.specs.declared.Shown.{Shown}
+use Rattle.act.specs.declared.Key.{Key}
 use Rattle.act.specs.declared.Outcome.{Outcome}
-use Rattle.act.specs.declared.Outcome.the-variants.{Failed, Created, Done, Showed}
+use Rattle.act.specs.declared.Outcome.the-variants.{Failed, Created, Done, Showed, Got}
 use Rattle.frame.specs.Frame.{idMost, idOk, idBytes, batchMost}
-use Rattle.answer.specs.Respond.{Answer, Response, replacedObjectLink, replacementObjectLink}
+use Rattle.answer.specs.Respond.{Answer, Response, raw, materialOf, replacedObjectLink, replacementObjectLink}
 
 -- ---- fields, in their one spelling
 
@@ -131,6 +133,40 @@ showedIn t = do
   shown ← shownIn serial body
   some (Showed shown)
 
+-- the key that a serial, a length and the bytes of its material say; past these it is zero
+unfoldable pub keyRead : ℕ → ℕ → List ℕ → Key
+keyRead serial bits v = record { serial = serial; bits = bits; material = wordsOf (filled v) }
+
+-- material and length, as a Key Block has them
+unfoldable pub keyBlockIn : Items → Option (List ℕ × ℕ)
+keyBlockIn t = do
+  r ← fixed keyFormatType enumeration raw t
+  (held, s) ← bodyOf keyValue r
+  (v, u) ← bytesOf keyMaterial byteString held
+  ended u
+  w ← fixed cryptographicAlgorithm enumeration aes s
+  (bits, x) ← spelled 4 cryptographicLength integer w
+  ended x
+  some (v, bits)
+
+-- a Symmetric Key and nothing else; its material has the length that is said
+unfoldable pub keyIn : ℕ → Items → Option Key
+keyIn serial t = do
+  (object, rest) ← bodyOf symmetricKeyTag t
+  ended rest
+  (block, after) ← bodyOf keyBlock object
+  ended after
+  (v, bits) ← keyBlockIn block
+  same v (materialOf (keyRead serial bits v))
+  some (keyRead serial bits v)
+
+unfoldable pub gotIn : Items → Option Outcome
+gotIn t = do
+  r ← fixed objectType enumeration symmetricKey t
+  (serial, s) ← serialIn uniqueIdentifier r
+  key ← keyIn serial s
+  some (Got key)
+
 -- Re-key, Get Usage Allocation, Activate, Revoke, Destroy: the operations that answer an identifier alone
 abbrev pub answersDone : ℕ → Bool
 answersDone operation = eqb operation rekey || eqb operation getUsageAllocation || eqb operation activate || eqb operation revoke || eqb operation destroy
@@ -141,7 +177,8 @@ payloadIn operation t =
     ifb (eqb operation create) (createdIn t)
     (ifb (answersDone operation) (doneIn t)
     (ifb (eqb operation getAttributes) (showedIn t)
-    none))
+    (ifb (eqb operation get) (gotIn t)
+    none)))
 
 -- ---- outcomes
 
@@ -224,12 +261,17 @@ shownOk s =
     && linkOk (s .replaced)
     && linkOk (s .replacement)
 
+-- a key as a sound table has it: zero past its length
+unfoldable pub keyOk : Key → Bool
+keyOk k = serialOk (k .serial) && bitsOk (k .bits) && wordsOk (k .material) && allZero (drop (k .bits / 8) (wordBytes (k .material)))
+
 -- the outcomes that an operation can have; any operation can fail
 unfoldable pub outcomeOk : ℕ → Outcome → Bool
 outcomeOk operation (Failed reason) = true
 outcomeOk operation (Created serial) = eqb operation create && serialOk serial
 outcomeOk operation (Done serial) = answersDone operation && serialOk serial
 outcomeOk operation (Showed shown) = eqb operation getAttributes && shownOk shown
+outcomeOk operation (Got key) = eqb operation get && keyOk key
 
 unfoldable pub answerOk : Answer → Bool
 answerOk a = ltb (a .operation) (2 ^ 32) && leb (length (a .id)) idMost && outcomeOk (a .operation) (a .outcome)

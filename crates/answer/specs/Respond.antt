@@ -1,20 +1,22 @@
 -- 01, "Response Message": the answers to a request as items. With `encode` it is the one spelling of a response.
 -- Assumes nothing.
-use Prim.Native.Nat.{ℕ}
+use Prim.Native.Nat.{ℕ, _/_}
 use mathlib.Core.List.{List, [], _∷_}
-use lib.ListN.{length}
+use lib.ListN.{length, take}
 use lib.Dec.{eqb}
 use Rattle.octets.specs.If.{ifb}
 use Rattle.octets.specs.Octets.{be}
 use Rattle.ttlv_types.specs.Types.{integer, longInteger, enumeration, textString, byteString, dateTime}
 use Rattle.ttlv.specs.Items.{Items, nil, value, group}
-use Rattle.tags.specs.Tags.{batchCount, batchItem, operationTag, protocolVersion, protocolVersionMajor, protocolVersionMinor, uniqueBatchItemId, attributes, cryptographicAlgorithm, cryptographicLength, cryptographicUsageMask, objectType, uniqueIdentifier, usageLimits, usageLimitsCount, usageLimitsTotal, usageLimitsUnit, link, linkType, linkedObjectIdentifier, responseHeader, responseMessage, responsePayload, resultReason, resultStatus, stateTag, timeStamp}
+use Rattle.tags.specs.Tags.{batchCount, batchItem, operationTag, protocolVersion, protocolVersionMajor, protocolVersionMinor, uniqueBatchItemId, attributes, cryptographicAlgorithm, cryptographicLength, cryptographicUsageMask, keyBlock, keyFormatType, keyMaterial, keyValue, objectType, uniqueIdentifier, usageLimits, usageLimitsCount, usageLimitsTotal, usageLimitsUnit, link, linkType, linkedObjectIdentifier, responseHeader, responseMessage, responsePayload, resultReason, resultStatus, stateTag, symmetricKeyTag, timeStamp}
 use Rattle.payload.specs.Payload.{symmetricKey, aes}
 use Rattle.identifier.specs.Identifier.{identifier}
 use Rattle.rules.specs.Numbers.{success, operationFailed, reasonNumber}
+use Rattle.words.specs.Words.{wordBytes}
 use Rattle.act.specs.declared.Shown.{Shown}
+use Rattle.act.specs.declared.Key.{Key}
 use Rattle.act.specs.declared.Outcome.{Outcome}
-use Rattle.act.specs.declared.Outcome.the-variants.{Failed, Created, Done, Showed}
+use Rattle.act.specs.declared.Outcome.the-variants.{Failed, Created, Done, Showed, Got}
 
 -- ---- what a response says
 
@@ -79,6 +81,30 @@ attributeItems s =
     (linkItems replacedObjectLink (s .replaced)
     (linkItems replacementObjectLink (s .replacement) nil))))))
 
+-- "Key Format Type Raw"
+abbrev pub raw : ℕ
+raw = 1
+
+-- "the material at its length"
+unfoldable pub materialOf : Key → List ℕ
+materialOf k = take (k .bits / 8) (wordBytes (k .material))
+
+-- "Key Value { Key Material }"
+abbrev pub keyValueItems : List ℕ → Items → Items
+keyValueItems material rest = group keyValue (value keyMaterial byteString material nil) rest
+
+-- "Key Block { Key Format Type Raw, Key Value, algorithm, length }"
+abbrev pub keyBlockItems : List ℕ → ℕ → Items
+keyBlockItems material bits =
+    word keyFormatType enumeration raw
+    (keyValueItems material
+    (word cryptographicAlgorithm enumeration aes
+    (word cryptographicLength integer bits nil)))
+
+-- "Symmetric Key with its Key Block", nothing else optional
+unfoldable pub keyItems : Key → Items
+keyItems k = group symmetricKeyTag (group keyBlock (keyBlockItems (materialOf k) (k .bits)) nil) nil
+
 -- a success: its status and its payload
 abbrev pub succeeded : Items → Items
 succeeded payload = word resultStatus enumeration success (group responsePayload payload nil)
@@ -89,6 +115,7 @@ outcomeItems (Failed reason) = word resultStatus enumeration operationFailed (wo
 outcomeItems (Created serial) = succeeded (word objectType enumeration symmetricKey (named uniqueIdentifier serial nil))
 outcomeItems (Done serial) = succeeded (named uniqueIdentifier serial nil)
 outcomeItems (Showed shown) = succeeded (named uniqueIdentifier (shown .serial) (group attributes (attributeItems shown) nil))
+outcomeItems (Got key) = succeeded (word objectType enumeration symmetricKey (named uniqueIdentifier (key .serial) (keyItems key)))
 
 -- ---- the message
 

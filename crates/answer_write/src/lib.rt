@@ -12,10 +12,11 @@ ghost use Rattle.tags.specs.Tags.{batchItem, protocolVersionMajor, protocolVers
 ghost use Rattle.payload.specs.Payload.{symmetricKey};
 ghost use Rattle.frame.specs.Frame.{idMost, batchMost};
 ghost use Rattle.act.specs.declared.Outcome.the-variants.{Failed};
-ghost use Rattle.answer.specs.Respond.{word, named, attributeItems, outcomeItems, idItems, answerItems, versionItems, headerItems};
+ghost use Rattle.answer.specs.Respond.{word, named, attributeItems, keyItems, outcomeItems, idItems, answerItems, versionItems, headerItems};
 ghost use Rattle.answer.specs.Front.{headerSize, frameSize, longestItem, front};
 ghost use Rattle.attributes_write.specs.Puts.{Puts};
 ghost use Rattle.answer_write.specs.Answers.{opening, answerOf};
+use act::Key;
 use act::Outcome;
 use act::Shown;
 use frame::ItemId;
@@ -50,6 +51,16 @@ fn write_showed(out: &mut [u8], shown: Shown) -> usize
 {
     let n = attributes_write::write_named(out, tags::UNIQUE_IDENTIFIER, shown.serial);
     let m = attributes_write::write_attributes(&mut out[n..], shown);
+    n + m
+}
+
+// The payload of Get: what Create answers, and the key behind it.
+fn write_got(out: &mut [u8], key: Key) -> usize
+    requires { ⌜ 144 ≤ length (now out) ⌝ }
+    ensures { λ r. ⌜ Puts 144 (word objectType enumeration symmetricKey (named uniqueIdentifier (key .serial) (keyItems key))) (now (out .entry)) (now (out .exit)) r ⌝ }
+{
+    let n = write_created(out, key.serial);
+    let m = key_write::write_key(&mut out[n..], key);
     n + m
 }
 
@@ -96,6 +107,10 @@ fn write_outcome(out: &mut [u8], outcome: Outcome) -> usize
         }
         Outcome::Showed { shown } => {
             let n = write_showed(&mut out[24..], shown);
+            write_success(out, n)
+        }
+        Outcome::Got { key } => {
+            let n = write_got(&mut out[24..], key);
             write_success(out, n)
         }
     }

@@ -20,16 +20,17 @@ use Rattle.rules.specs.States.{canRevoke, canDestroy, activateTests, revokeTest
 use Rattle.rules.specs.Tests.{due}
 use Rattle.frame.specs.Frame.{versionIn, headerIn, idOk, idBytes, itemIn, itemsIn, frameIn, optionOf, framing, framed}
 use Rattle.payload.specs.Payload.{limitIn, limitFirst, wantedOf, limitsIn, maskedIn, attributesIn, createIn, targetOf, targetIn, aloneIn, allocationIn, revokeIn, orInvalid, command}
-use Rattle.act.specs.Act.{sought, carried, shownOf, createPlan, rekeyPlan, allocationPlan, activatePlan, revokePlan, destroyPlan, showPlan, onFound, plan, step, isFailed}
-use Rattle.answer.specs.Read.{spelled, fixed, serialIn, limitsFirst, orNoLimits, linkFirst, orNoLink, linkIn, shownIn, createdIn, doneIn, showedIn, payloadIn, reasonAmong, failureIn, successIn, outcomeIn, answerIn, answersOf, headIn, shownOk, outcomeOk, answerOk, allowed, ifAllowed, answersIn}
-use Rattle.answer.specs.Respond.{limitItems, linkItems, attributeItems, outcomeItems, idItems, answerItems, batchItems, versionItems, headerItems, respond}
+use Rattle.words.specs.Words.{wordsOf, wordBytes, wordsOk, filled}
+use Rattle.act.specs.Act.{sought, carried, shownOf, createPlan, rekeyPlan, allocationPlan, activatePlan, revokePlan, destroyPlan, showPlan, onFound, plan, step, isFailed, keyOf, getPlan}
+use Rattle.answer.specs.Read.{spelled, fixed, serialIn, limitsFirst, orNoLimits, linkFirst, orNoLink, linkIn, shownIn, createdIn, doneIn, showedIn, payloadIn, reasonAmong, failureIn, successIn, outcomeIn, answerIn, answersOf, headIn, shownOk, outcomeOk, answerOk, allowed, ifAllowed, answersIn, keyRead, keyBlockIn, keyIn, gotIn, keyOk}
+use Rattle.answer.specs.Respond.{limitItems, linkItems, attributeItems, outcomeItems, idItems, answerItems, batchItems, versionItems, headerItems, respond, materialOf, keyItems}
 use Rattle.engine.specs.Batch.{endsBatch, batch, running}
 use Rattle.engine.specs.Serving.{answered, earlyRefusal, carryOut, serving}
 use Rattle.cases.specs.Cards.{sameItems, isRead, integerRead, integerMalformed, booleanMalformed, textOfEight, textOfNine, nested, callOn, tableFrom, answers, refuses, stateLeft, countLeft, depthEight, depthNine, depthRead, depthRefused, grantRequest, grantResponse, grantsCounted, overRequest, overResponse, grantTooLarge, lifeRequest, lifeResponse, compromiseRequest, compromiseResponse, destroyedInTurn, rekeyRequest, rekeyResponse, rekeyedTwice, stopRequest, stopResponse, stopsThere, continueRequest, continueResponse, goesOn, lastRequest, lastResponse, lastSerialIssued, pCases, allHold}
 
 -- the definitions that the cases compute with: who opens this opens them all
 unfoldable pub opened : Unit {0}
-unfolding ifb _>>=_ _>>_ isSome be fromBeAfter fromBe all same startsWith ended bytesOf bodyOf numberOf optional encode itemOk wellFormed headed firstOf putValue putGroup more walk parse isOne message lengthOk text valueOk digits identifier fromDigitsAfter serialOf line body recordOf placeAt withPlace serialAt stateAt lastSerial withLast placesSaid blank firstFrom isNothing orElse find freePlace destroyedPlace newPlace sizeRight countRight leadRight freeRight zerosRight distinctRight issuedRight stateRight bitsRight maskRight limitRight tailRight wipedRight replacedRight replacementRight ifStands linksRight breaksFree breaksStanding orLater standingFault placeFault wholeFault firstFault sound isFull bornAt withBorn withHeir materialFrom newRecord heirOf linkedTo inState movedTo withCount canRevoke canDestroy activateTests revokeTests destroyTests moveTests revokedState destroyedState movedState nextUnless nextState grantTests leftUnless granting due versionIn headerIn idOk idBytes itemIn itemsIn frameIn optionOf framing framed limitIn limitFirst wantedOf limitsIn maskedIn attributesIn createIn targetOf targetIn aloneIn allocationIn revokeIn orInvalid command sought carried shownOf createPlan rekeyPlan allocationPlan activatePlan revokePlan destroyPlan showPlan onFound plan step isFailed spelled fixed serialIn limitsFirst orNoLimits linkFirst orNoLink linkIn shownIn createdIn doneIn showedIn payloadIn reasonAmong failureIn successIn outcomeIn answerIn answersOf headIn shownOk outcomeOk answerOk allowed ifAllowed answersIn limitItems linkItems attributeItems outcomeItems idItems answerItems batchItems versionItems headerItems respond endsBatch batch running answered earlyRefusal carryOut serving sameItems isRead integerRead integerMalformed booleanMalformed textOfEight textOfNine nested countedFrom callOn tableFrom answers refuses stateLeft countLeft depthEight depthNine depthRead depthRefused grantRequest grantResponse grantsCounted overRequest overResponse grantTooLarge lifeRequest lifeResponse compromiseRequest compromiseResponse destroyedInTurn rekeyRequest rekeyResponse rekeyedTwice stopRequest stopResponse stopsThere continueRequest continueResponse goesOn lastRequest lastResponse lastSerialIssued pCases allHold
+unfolding wordsOf wordBytes wordsOk filled ifb _>>=_ _>>_ isSome be fromBeAfter fromBe all same startsWith ended bytesOf bodyOf numberOf optional encode itemOk wellFormed headed firstOf putValue putGroup more walk parse isOne message lengthOk text valueOk digits identifier fromDigitsAfter serialOf line body recordOf placeAt withPlace serialAt stateAt lastSerial withLast placesSaid blank firstFrom isNothing orElse find freePlace destroyedPlace newPlace sizeRight countRight leadRight freeRight zerosRight distinctRight issuedRight stateRight bitsRight maskRight limitRight tailRight wipedRight replacedRight replacementRight ifStands linksRight breaksFree breaksStanding orLater standingFault placeFault wholeFault firstFault sound isFull bornAt withBorn withHeir materialFrom newRecord heirOf linkedTo inState movedTo withCount canRevoke canDestroy activateTests revokeTests destroyTests moveTests revokedState destroyedState movedState nextUnless nextState grantTests leftUnless granting due versionIn headerIn idOk idBytes itemIn itemsIn frameIn optionOf framing framed limitIn limitFirst wantedOf limitsIn maskedIn attributesIn createIn targetOf targetIn aloneIn allocationIn revokeIn orInvalid command sought carried shownOf createPlan rekeyPlan allocationPlan activatePlan revokePlan destroyPlan showPlan keyOf getPlan onFound plan step isFailed spelled fixed serialIn limitsFirst orNoLimits linkFirst orNoLink linkIn shownIn createdIn doneIn showedIn keyRead keyBlockIn keyIn gotIn payloadIn reasonAmong failureIn successIn outcomeIn answerIn answersOf headIn shownOk keyOk outcomeOk answerOk allowed ifAllowed answersIn limitItems linkItems attributeItems materialOf keyItems outcomeItems idItems answerItems batchItems versionItems headerItems respond endsBatch batch running answered earlyRefusal carryOut serving sameItems isRead integerRead integerMalformed booleanMalformed textOfEight textOfNine nested countedFrom callOn tableFrom answers refuses stateLeft countLeft depthEight depthNine depthRead depthRefused grantRequest grantResponse grantsCounted overRequest overResponse grantTooLarge lifeRequest lifeResponse compromiseRequest compromiseResponse destroyedInTurn rekeyRequest rekeyResponse rekeyedTwice stopRequest stopResponse stopsThere continueRequest continueResponse goesOn lastRequest lastResponse lastSerialIssued pCases allHold
 opened = tt
 
 -- every case of the list holds

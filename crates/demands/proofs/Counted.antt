@@ -31,11 +31,11 @@ use Rattle.keeps.proofs.Keeps.{Held, facts, found-stands}
 use Rattle.keeps.proofs.Leaves.{Born, Replaced, moved-leaves, count-leaves, born-leaves, heir-leaves}
 use Rattle.payload.specs.declared.Target.{Target}
 use Rattle.payload.specs.declared.Command.{Command}
-use Rattle.payload.specs.declared.Command.the-variants.{Unsupported, Invalid, Create, Rekey, GetUsageAllocation, Activate, Revoke, Destroy, GetAttributes}
+use Rattle.payload.specs.declared.Command.the-variants.{Unsupported, Invalid, Create, Rekey, GetUsageAllocation, Activate, Revoke, Destroy, GetAttributes, Get}
 use Rattle.act.specs.declared.Outcome.{Outcome}
-use Rattle.act.specs.declared.Outcome.the-variants.{Failed, Showed}
-use Rattle.act.specs.Act.{Env, Did, sought, failing, createPlan, rekeyPlan, changed, shownOf}
-use Rattle.act.proofs.Went.{Moving, activating, revoking, destroying, Kind, fails, creates, rekeys, grants, moves, shows}
+use Rattle.act.specs.declared.Outcome.the-variants.{Failed, Showed, Got}
+use Rattle.act.specs.Act.{Env, Did, sought, failing, createPlan, rekeyPlan, changed, shownOf, keyOf}
+use Rattle.act.proofs.Went.{Moving, activating, revoking, destroying, Kind, fails, creates, rekeys, grants, moves, shows, gets}
 use Rattle.engine.proofs.Commands.{Commanded, to-create}
 use Rattle.keeps.proofs.Begun.{Allowed}
 use Rattle.demands.specs.Log.{issuedBy, grantBy}
@@ -53,6 +53,7 @@ no-issue (Activate target) reason = refl
 no-issue (Revoke target code) reason = refl
 no-issue (Destroy target) reason = refl
 no-issue (GetAttributes target) reason = refl
+no-issue (Get target) reason = refl
 
 no-grant : (x : ℕ) (c : Command) (reason : Reason) → grantBy x c (Failed reason) ≡ 0
 unfolding grantBy
@@ -65,6 +66,7 @@ no-grant x (Activate target) reason = refl
 no-grant x (Revoke target code) reason = refl
 no-grant x (Destroy target) reason = refl
 no-grant x (GetAttributes target) reason = refl
+no-grant x (Get target) reason = refl
 
 pub move-issues : {c : Command} {operation code : ℕ} {target : Target} → Moving c operation code target → (o : Outcome) → issuedBy c o ≡ 0
 unfolding issuedBy
@@ -159,6 +161,7 @@ beginsWith n t holder (Activate target) i = 0
 beginsWith n t holder (Revoke target code) i = 0
 beginsWith n t holder (Destroy target) i = 0
 beginsWith n t holder (GetAttributes target) i = 0
+beginsWith n t holder (Get target) i = 0
 
 -- what a command counts, with the place of the record that it names where a new object copies its total
 pub record Counts (n : ℕ) (t : List ℕ) (holder : ℕ) (c : Command) (did : Did) : Type 0 where
@@ -240,6 +243,7 @@ module _ (env : Env) (holder : ℕ) (t : List ℕ) (held : Held (env .places) t)
       isRekey (Revoke target code) = 0
       isRekey (Destroy target) = 0
       isRekey (GetAttributes target) = 0
+      isRekey (Get target) = 0
 
   rekey-counted : (target : Target) (i : ℕ) → find (env .places) t (sought holder target) ≡ At i → isDestroyed (placeAt (env .places) t i .state) ≡ false → (room : isFull (env .places) t ≡ false)
       → Counts (env .places) t holder (Rekey target) (rekeyPlan env holder t i (placeAt (env .places) t i) .did)
@@ -277,6 +281,7 @@ module _ (env : Env) (holder : ℕ) (t : List ℕ) (held : Held (env .places) t)
       targetIn (Revoke target code) d = d
       targetIn (Destroy target) d = d
       targetIn (GetAttributes target) d = d
+      targetIn (Get target) d = d
 
       same-target : {other : Target} → Rekey target ≡ Rekey other → target ≡ other
       same-target q = ap (λ (c : Command). targetIn c target) q
@@ -304,3 +309,4 @@ module _ (env : Env) (holder : ℕ) (t : List ℕ) (held : Held (env .places) t)
   kind-counts c did (grants target amount i e g) m = grant-counted target amount i e g
   kind-counts c did (moves v i next e g) m = move-counted v i next e g
   kind-counts c did (shows target i e) m = silent {did = record { outcome = Showed (shownOf (placeAt (env .places) t i)); table = t; holder = holder }} refl (counted-same (env .places) t _ _ _ refl (λ x. refl))
+  kind-counts c did (gets target i e alive) m = silent {did = record { outcome = Got (keyOf (placeAt (env .places) t i)); table = t; holder = holder }} refl (counted-same (env .places) t _ _ _ refl (λ x. refl))

@@ -13,7 +13,7 @@ use Rattle.demands.specs.Log.{Event, commandOf, issuedBy, issued, grante
 use Rattle.demands.specs.Demand3.{Run, begins, calls, Stands, takes, Tame, InOrder, Path, arrived, went, Demand3}
 use Rattle.demands.proofs.Logged.{granted-more, issued-now, issued-before}
 use Rattle.demands.proofs.Ordered.{inv-order}
-use Rattle.demands.proofs.Runs.{blank-inv}
+use Rattle.demands.proofs.Runs.{blank-books}
 
 -- ---- along a path
 
@@ -86,7 +86,7 @@ module _ (B : Box) (d : Demand3 B) where
   -- the books are in order at every point between two calls, as they are between two items
   pub in-order : {log : List Event} {t : List ℕ} → Run B log t → InOrder log t
   unfolding logged
-  in-order begins = inv-order [] (blank placeCount) blank-inv
+  in-order begins = inv-order [] (blank placeCount) (blank-books .inv) (blank-books .dead)
   in-order (calls {log} {t} c e r same lent b) = path-order (d .path log t r c e same lent b) (in-order r)
 
   later-gone : (x units : ℕ) → (x ≡ 0 → ⊥) → {log log′ : List Event} {t t′ : List ℕ} → Run B log t → Gone x units log t → Later B log t log′ t′ → Gone x units log′ t′

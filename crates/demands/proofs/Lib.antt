@@ -7,6 +7,7 @@ pub mod Meets
 pub mod Counted
 pub mod Logged
 pub mod Tame
+pub mod Dead
 pub mod Ordered
 pub mod Paired
 pub mod Runs

@@ -17,7 +17,7 @@ use Rattle.table.proofs.Places.{serial-is}
 use Rattle.search.proofs.Finds.{find-below, find-serial, find-nonzero}
 use Rattle.keeps.proofs.Keeps.{Held, facts}
 use Rattle.payload.specs.declared.Command.{Command}
-use Rattle.payload.specs.declared.Command.the-variants.{Unsupported, Invalid, Create, Rekey, GetUsageAllocation, Activate, Revoke, Destroy, GetAttributes}
+use Rattle.payload.specs.declared.Command.the-variants.{Unsupported, Invalid, Create, Rekey, GetUsageAllocation, Activate, Revoke, Destroy, GetAttributes, Get}
 use Rattle.act.specs.declared.Outcome.{Outcome}
 use Rattle.act.specs.Act.{Did, sought}
 use Rattle.demands.specs.Log.{Event, commandOf, issuedBy, issues, issued, grantBy, granted, limitBy, limit}
@@ -97,6 +97,7 @@ module _ (n : ℕ) (log : List Event) (t : List ℕ) (inv : Inv n log t) (e : Ev
       by-command (Revoke target code) d = refl
       by-command (Destroy target) d = refl
       by-command (GetAttributes target) d = refl
+      by-command (Get target) d = refl
 
   -- the counts, with what the event says in place of what was done
   counted : Counted n t (did .table) s g (beginsWith n t (e .held) (commandOf e) (q .place))

@@ -18,6 +18,7 @@ use Rattle.keeps.proofs.Keeps.{Held, facts}
 use Rattle.demands.specs.Log.{Event, issued, granted, limit}
 use Rattle.demands.specs.Demand3.{Stands, InOrder}
 use Rattle.demands.proofs.Logged.{Inv}
+use Rattle.demands.proofs.Dead.{Dead}
 
 -- a record that stands, as the invariant sees it
 standing : (x : ℕ) (t : List ℕ) (i : ℕ) → Stands x t i → placeAt placeCount t i .serial ≡ x
@@ -50,13 +51,15 @@ wiped-zero t held i low d = go (eqb (serialAt t i) 0) refl
         ∙ ap (λ (k : ℕ). replicate k 0) long
 
 -- what the invariant says
-pub inv-order : (log : List Event) (t : List ℕ) → Inv placeCount log t → InOrder log t
-inv-order log t inv = record {
+pub inv-order : (log : List Event) (t : List ℕ) → Inv placeCount log t → Dead log t → InOrder log t
+inv-order log t inv d = record {
   balance = λ x i z s. balanced log t inv x i z s .0;
   total = λ x i z s. balanced log t inv x i z s .1;
   within = λ x z. inv .within x z;
   once = λ x z. inv .once x z;
   known = λ x i z s. balanced log t inv x i z s .2;
   wiped = λ i low d. wiped-zero t (inv .held) i low d;
+  destroyed = d .states;
+  dead = d .silent;
   stays-sound = inv .held .right;
 }

@@ -17,7 +17,7 @@ use Rattle.payload.specs.declared.Target.{Target}
 use Rattle.payload.specs.declared.Command.{Command}
 use Rattle.payload.specs.declared.Command.the-variants.{Rekey, GetUsageAllocation}
 use Rattle.act.specs.Act.{Env, Did, envAt, createPlan, rekeyPlan, step}
-use Rattle.act.proofs.Went.{Moving, activating, revoking, destroying, Kind, fails, creates, rekeys, grants, moves, shows, step-kind}
+use Rattle.act.proofs.Went.{Moving, activating, revoking, destroying, Kind, fails, creates, rekeys, grants, moves, shows, gets, step-kind}
 use Rattle.answer.specs.Respond.{Answer}
 use Rattle.engine.specs.Batch.{Ran, answerTo, lastly, firstly, endsBatch, batch}
 use Rattle.engine.proofs.Commands.{Commanded, to-rekey, to-allocate, to-activate, to-revoke, to-destroy, commanded}
@@ -28,6 +28,7 @@ use Rattle.demands.specs.Demand3.{Tame, Path, arrived, went}
 use Rattle.demands.proofs.Counted.{kind-counts}
 use Rattle.demands.proofs.Logged.{Inv, inv-event}
 use Rattle.demands.proofs.Tame.{eventOf, step-tame}
+use Rattle.demands.proofs.Dead.{Dead, step-dead}
 use Rattle.demands.proofs.Ordered.{inv-order}
 
 -- ---- the placeholder
@@ -52,6 +53,7 @@ kind-holder env holder t a c did (rekeys target i e alive single room) m = ifb-t
 kind-holder env holder t a c did (grants target amount i e g) m = ifb-false (eqb (a .operation) rekey) _ holder (ne-eqb (a .operation) rekey (allocation-not m))
 kind-holder env holder t a c did (moves v i next e g) m = ifb-false (eqb (a .operation) rekey) _ holder (ne-eqb (a .operation) rekey (move-not v m))
 kind-holder env holder t a c did (shows target i e) m = refl
+kind-holder env holder t a c did (gets target i e live) m = refl
 
 -- ---- a batch
 
@@ -61,20 +63,25 @@ unfolding paired
 paired-end held [] = refl
 paired-end held (asked ∷ items) = refl
 
--- from a log and a table along events to a table: a path, and the invariant behind it
+-- what holds of the log and the table between any two items: the counts, and the dead
+pub record Books (log : List Event) (t : List ℕ) : Type 0 where
+  pub inv : Inv placeCount log t
+  pub dead : Dead log t
+
+-- from a log and a table along events to a table: a path, and what holds behind it
 pub record Travelled (log : List Event) (t : List ℕ) (events : List Event) (v : List ℕ) : Type 0 where
   pub path : Path log t events v
-  pub inv : Inv placeCount (onto events log) v
+  pub books : Books (onto events log) v
 
 -- nothing happened
-pub stood : {log : List Event} {t : List ℕ} → Inv placeCount log t → Travelled log t [] t
+pub stood : {log : List Event} {t : List ℕ} → Books log t → Travelled log t [] t
 unfolding onto
-stood inv = record { path = arrived; inv = inv }
+stood b = record { path = arrived; books = b }
 
 -- one item in front of the others
-onward : {log events : List Event} {t v : List ℕ} (ev : Event) (u : List ℕ) → Tame ev t u → Inv placeCount (ev ∷ log) u → Travelled (ev ∷ log) u events v → Travelled log t (ev ∷ events) v
+onward : {log events : List Event} {t v : List ℕ} (ev : Event) (u : List ℕ) → Tame ev t u → Books (ev ∷ log) u → Travelled (ev ∷ log) u events v → Travelled log t (ev ∷ events) v
 unfolding onto
-onward {log} ev u tame inv rest = record { path = went ev u tame (inv-order (ev ∷ log) u inv) (rest .path); inv = rest .inv }
+onward {log} ev u tame b rest = record { path = went ev u tame (inv-order (ev ∷ log) u (b .inv) (b .dead)) (rest .path); books = rest .books }
 
 module _ (clock : ℕ) (strip : List ℕ) (option : ℕ) (strip-bytes : Bytes strip) where
   -- one item keeps the invariant
@@ -87,27 +94,42 @@ module _ (clock : ℕ) (strip : List ℕ) (option : ℕ) (strip-bytes : Bytes st
       (kind-counts env holder t (inv .held) fresh _ _ (step-kind env holder t asked) (commanded (asked .operation) (asked .payload)))
       (step-held env holder t (inv .held) fresh (own-long placeCount clock strip option strip-bytes i l) asked)
 
+  -- and the dead stay so
+  step-books : (i holder : ℕ) (t : List ℕ) (asked : Asked) (log : List Event) → materialSize * i + materialSize ≤ length strip → Books log t
+      → Tame (eventOf holder asked (step (envAt placeCount clock strip i) holder t asked)) t (step (envAt placeCount clock strip i) holder t asked .table)
+      → Books (eventOf holder asked (step (envAt placeCount clock strip i) holder t asked) ∷ log) (step (envAt placeCount clock strip i) holder t asked .table)
+  step-books i holder t asked log l b tame =
+      let did = step (envAt placeCount clock strip i) holder t asked in
+      let after = step-inv i holder t asked log l (b .inv) in
+      record {
+        inv = after;
+        dead = step-dead log t (did .table) (eventOf holder asked did) tame (b .inv .held .right) (λ x j z s. inv-order log t (b .inv) (b .dead) .known x j z s) (after .once) (b .dead);
+      }
+
   -- what is shown of a batch, with the log and the table before it
   abbrev Claim : List Event → List ℕ → ℕ → List Asked → Ran → Type 0
   Claim log t holder items ran = Travelled log t (paired holder items (ran .answers)) (ran .table)
 
   -- a batch goes along its events
-  pub batch-travels : (items : List Asked) (i holder : ℕ) (t : List ℕ) (log : List Event) → materialSize * (i + length items) ≤ length strip → Inv placeCount log t
+  pub batch-travels : (items : List Asked) (i holder : ℕ) (t : List ℕ) (log : List Event) → materialSize * (i + length items) ≤ length strip → Books log t
       → Claim log t holder items (batch placeCount clock strip option i holder t items)
   unfolding batch paired
-  batch-travels [] i holder t log l inv = stood inv
-  batch-travels (asked ∷ later) i holder t log l inv =
+  batch-travels [] i holder t log l b = stood b
+  batch-travels (asked ∷ later) i holder t log l b =
       turn (step (envAt placeCount clock strip i) holder t asked)
-      (step-tame clock strip i holder t asked (inv .held) (own-bytes placeCount clock strip option strip-bytes i (omega arith)))
+      tame
       after
       (kind-holder (envAt placeCount clock strip i) holder t (answerTo asked (step (envAt placeCount clock strip i) holder t asked)) _ _ (step-kind (envAt placeCount clock strip i) holder t asked) (commanded (asked .operation) (asked .payload)))
       (batch-travels later (i + 1) (step (envAt placeCount clock strip i) holder t asked .holder) (step (envAt placeCount clock strip i) holder t asked .table)
       (eventOf holder asked (step (envAt placeCount clock strip i) holder t asked) ∷ log) (omega arith) after)
     where
-      after : Inv placeCount (eventOf holder asked (step (envAt placeCount clock strip i) holder t asked) ∷ log) (step (envAt placeCount clock strip i) holder t asked .table)
-      after = step-inv i holder t asked log (omega arith) inv
+      tame : Tame (eventOf holder asked (step (envAt placeCount clock strip i) holder t asked)) t (step (envAt placeCount clock strip i) holder t asked .table)
+      tame = step-tame clock strip i holder t asked (b .inv .held) (own-bytes placeCount clock strip option strip-bytes i (omega arith))
 
-      turn : (did : Did) → Tame (eventOf holder asked did) t (did .table) → Inv placeCount (eventOf holder asked did ∷ log) (did .table) → heldAfter holder (answerTo asked did) (did .outcome) ≡ did .holder
+      after : Books (eventOf holder asked (step (envAt placeCount clock strip i) holder t asked) ∷ log) (step (envAt placeCount clock strip i) holder t asked .table)
+      after = step-books i holder t asked log (omega arith) b tame
+
+      turn : (did : Did) → Tame (eventOf holder asked did) t (did .table) → Books (eventOf holder asked did ∷ log) (did .table) → heldAfter holder (answerTo asked did) (did .outcome) ≡ did .holder
           → Claim (eventOf holder asked did ∷ log) (did .table) (did .holder) later (batch placeCount clock strip option (i + 1) (did .holder) (did .table) later)
           → Claim log t holder (asked ∷ later)
           (ifb (endsBatch option did) (lastly (answerTo asked did) (did .table)) (firstly (answerTo asked did) (batch placeCount clock strip option (i + 1) (did .holder) (did .table) later)))

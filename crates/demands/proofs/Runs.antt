@@ -30,7 +30,8 @@ use Rattle.demands.specs.Demand3.{Run, begins, calls}
 use Rattle.demands.proofs.Ladder.{served, Accepted, ranBy, Told, away, accepted, told}
 use Rattle.demands.proofs.Meets.{count-facts, ran-leaves, ran-allowed, spelling, front-is}
 use Rattle.demands.proofs.Logged.{Inv}
-use Rattle.demands.proofs.Paired.{paired-end, Travelled, stood, batch-travels}
+use Rattle.demands.proofs.Dead.{none-dead}
+use Rattle.demands.proofs.Paired.{paired-end, Books, Travelled, stood, batch-travels}
 
 -- ---- the events of one call
 
@@ -77,11 +78,11 @@ module _ (c : Call) (lent : Lent c) (a : Accepted c) where
   strip-fits = omega (arith, count-facts c lent a .1, a .strip)
 
   -- so the call goes along them
-  accepted-travels : (log : List Event) → Inv placeCount log (c .table) → Travelled log (c .table) (eventsOf c (answered (c .clock) (c .output) (ranBy c a))) (ranBy c a .table)
+  accepted-travels : (log : List Event) → Books log (c .table) → Travelled log (c .table) (eventsOf c (answered (c .clock) (c .output) (ranBy c a))) (ranBy c a .table)
   unfolding running
-  accepted-travels log inv =
+  accepted-travels log books =
       subst (λ (events : List Event). Travelled log (c .table) events (ranBy c a .table)) (sym events-accepted)
-      (batch-travels (c .clock) (c .strip) (optionOf (a .frame .header .option)) (lent .strip) (a .frame .items) 0 0 (c .table) log strip-fits inv)
+      (batch-travels (c .clock) (c .strip) (optionOf (a .frame .header .option)) (lent .strip) (a .frame .items) 0 0 (c .table) log strip-fits books)
 
 -- ---- the blank table
 
@@ -95,12 +96,15 @@ blank-inv = record {
   later = λ x l. (refl, refl);
 }
 
+pub blank-books : Books [] (blank placeCount)
+blank-books = record { inv = blank-inv; dead = none-dead (blank placeCount) }
+
 -- ---- runs of a box whose outcome is that of the definitions
 
-told-travels : (c : Call) (e : Effect) → Lent c → Told c e → (log : List Event) → Inv placeCount log (c .table) → Travelled log (c .table) (eventsOf c e) (e .table)
+told-travels : (c : Call) (e : Effect) → Lent c → Told c e → (log : List Event) → Books log (c .table) → Travelled log (c .table) (eventsOf c e) (e .table)
 unfolding answered
-told-travels c e lent (away k) log inv = subst (λ (events : List Event). Travelled log (c .table) events (c .table)) (sym (events-away c (suc k))) (stood inv)
-told-travels c e lent (accepted a) log inv = accepted-travels c lent a log inv
+told-travels c e lent (away k) log books = subst (λ (events : List Event). Travelled log (c .table) events (c .table)) (sym (events-away c (suc k))) (stood books)
+told-travels c e lent (accepted a) log books = accepted-travels c lent a log books
 
 told-asked : (c : Call) (e : Effect) → Lent c → Told c e → length (answersGiven e) ≤ length (itemsAsked c)
 told-asked c e lent (away k) = asked-away c (suc k)
@@ -112,14 +116,14 @@ module _ (B : Box) (is : (c : Call) (e : Effect) → Lent c → B c e → e ≡ 
   call-asked c e lent b = subst (λ (x : Effect). length (answersGiven x) ≤ length (itemsAsked c)) (sym (is c e lent b)) (told-asked c (served c) lent (told c))
 
   -- each call goes along its events
-  pub call-travels : (c : Call) (e : Effect) → Lent c → B c e → (log : List Event) (t : List ℕ) → c .table ≡ t → Inv placeCount log t → Travelled log t (eventsOf c e) (e .table)
-  call-travels c e lent b log t same inv =
+  pub call-travels : (c : Call) (e : Effect) → Lent c → B c e → (log : List Event) (t : List ℕ) → c .table ≡ t → Books log t → Travelled log t (eventsOf c e) (e .table)
+  call-travels c e lent b log t same books =
       subst (λ (u : List ℕ). Travelled log u (eventsOf c e) (e .table)) same
       (subst (λ (x : Effect). Travelled log (c .table) (eventsOf c x) (x .table)) (sym (is c e lent b))
-      (told-travels c (served c) lent (told c) log (subst (Inv placeCount log) (sym same) inv)))
+      (told-travels c (served c) lent (told c) log (subst (Books log) (sym same) books)))
 
-  -- the invariant holds at every point of a run
-  pub run-inv : {log : List Event} {t : List ℕ} → Run B log t → Inv placeCount log t
+  -- the books are right at every point of a run
+  pub run-books : {log : List Event} {t : List ℕ} → Run B log t → Books log t
   unfolding logged
-  run-inv begins = blank-inv
-  run-inv (calls {log} {t} c e r same lent b) = call-travels c e lent b log t same (run-inv r) .inv
+  run-books begins = blank-books
+  run-books (calls {log} {t} c e r same lent b) = call-travels c e lent b log t same (run-books r) .books

@@ -31,12 +31,12 @@ use Rattle.frame.specs.Frame.{Asked}
 use Rattle.payload.specs.declared.Target.{Target}
 use Rattle.payload.specs.declared.Command.{Command}
 use Rattle.payload.specs.Payload.{command}
-use Rattle.act.specs.Act.{Env, Did, envAt, sought, createPlan, rekeyPlan, step, isFailed}
-use Rattle.act.proofs.Went.{Moving, activating, revoking, destroying, Kind, fails, creates, rekeys, grants, moves, shows, step-kind}
+use Rattle.act.specs.Act.{Env, Did, envAt, sought, createPlan, rekeyPlan, shownOf, keyOf, step, isFailed}
+use Rattle.act.proofs.Went.{Moving, activating, revoking, destroying, Kind, fails, creates, rekeys, grants, moves, shows, gets, step-kind}
 use Rattle.engine.specs.Batch.{answerTo}
 use Rattle.engine.proofs.Commands.{Commanded, to-activate, to-revoke, to-destroy, commanded}
-use Rattle.demands.specs.Log.{Event, issuedBy}
-use Rattle.demands.specs.Demand3.{namedBy, isUnderstood, movesState, codeOf, listed, Tame}
+use Rattle.demands.specs.Log.{Event, issuedBy, handedBy}
+use Rattle.demands.specs.Demand3.{namedBy, isUnderstood, movesState, asksKey, carries, codeOf, listed, Tame}
 use Rattle.demands.proofs.Counted.{create-allowed, no-issue, move-issues, Counts, kind-counts}
 
 -- ---- the listed transitions
@@ -173,6 +173,7 @@ module _ (env : Env) (holder : ℕ) (t : List ℕ) (held : Held (env .places) t)
   unfolding createPlan rekeyPlan newRecord heirOf linkedTo withCount movedTo inState namedBy movesState isFailed issuedBy
   kind-tame c did (fails reason) m = stayed i refl (none-taken n t c did i (no-issue c reason)) (λ a f z. true≢false f)
   kind-tame c did (shows target k e) m = stayed i refl refl (λ a f z. false≢true z)
+  kind-tame c did (gets target k e live) m = stayed i refl refl (λ a f z. false≢true z)
   kind-tame c did (creates wanted room) m =
       let b = born-leaves n t held room (env .fresh) fresh-bytes wanted (create-allowed m) in
       elim (ℕ-discrete i (b .place)) [
@@ -236,6 +237,53 @@ kind-stands env holder t held fresh-bytes c did (rekeys target k e alive single 
 kind-stands env holder t held fresh-bytes c did (grants target amount k e g) m h = absurd (h refl)
 kind-stands env holder t held fresh-bytes c did (moves v k next e g) m h = absurd (h (move-issues v (did .outcome)))
 kind-stands env holder t held fresh-bytes c did (shows target k e) m h = absurd (h refl)
+kind-stands env holder t held fresh-bytes c did (gets target k e live) m h = absurd (h refl)
+
+-- a success that issues nothing is about a record that stands, and carries its identifier
+module _ (env : Env) (holder : ℕ) (t : List ℕ) where
+  named-there : (c : Command) (did : Did) (x k : ℕ) → find (env .places) t x ≡ At k → namedBy holder c ≡ x → carries (did .outcome) ≡ placeAt (env .places) t k .serial
+      → (i : ℕ) × (i < env .places) × (isAt i (find (env .places) t (namedBy holder c)) ≡ true) × (carries (did .outcome) ≡ serialAt t i)
+  named-there c did x k e n s =
+      (k, find-below (env .places) t x k e, is-at k k _ (ap (find (env .places) t) n ∙ e) refl, s ∙ sym (serial-is (env .places) t k))
+
+  kind-about : {operation : ℕ} (c : Command) (did : Did) → Kind env holder t c did → Commanded operation c → isFailed (did .outcome) ≡ false → issuedBy c (did .outcome) ≡ 0
+      → (i : ℕ) × (i < env .places) × (isAt i (find (env .places) t (namedBy holder c)) ≡ true) × (carries (did .outcome) ≡ serialAt t i)
+  unfolding createPlan rekeyPlan withCount movedTo inState shownOf keyOf isFailed issuedBy namedBy carries
+  kind-about c did (fails reason) m f z = absurd (true≢false f)
+  kind-about c did (creates wanted room) m f z = absurd (let y : lastSerial t + 1 ≡ 0 = z in omega arith)
+  kind-about c did (rekeys target k e live single room) m f z = absurd (let y : lastSerial t + 1 ≡ 0 = z in omega arith)
+  kind-about c did (grants target amount k e g) m f z = named-there c did (sought holder target) k e refl refl
+  kind-about c did (moves {target = target} v k next e g) m f z = named-there c did (sought holder target) k e (move-code holder v m .2) refl
+  kind-about c did (shows target k e) m f z = named-there c did (sought holder target) k e refl refl
+  kind-about c did (gets target k e live) m f z = named-there c did (sought holder target) k e refl refl
+
+-- a key that is handed out is not destroyed
+moving-asks : {c : Command} {operation code : ℕ} {target : Target} → Moving c operation code target → asksKey c ≡ false
+unfolding asksKey
+moving-asks activating = refl
+moving-asks revoking = refl
+moving-asks destroying = refl
+
+kind-hands : (env : Env) (holder : ℕ) (t : List ℕ) (c : Command) (did : Did) → Kind env holder t c did → (handedBy (did .outcome) ≡ 0 → ⊥) → asksKey c ≡ true
+unfolding createPlan rekeyPlan handedBy asksKey
+kind-hands env holder t c did (fails reason) h = absurd (h refl)
+kind-hands env holder t c did (creates wanted room) h = absurd (h refl)
+kind-hands env holder t c did (rekeys target k e live single room) h = absurd (h refl)
+kind-hands env holder t c did (grants target amount k e g) h = absurd (h refl)
+kind-hands env holder t c did (moves v k next e g) h = absurd (h refl)
+kind-hands env holder t c did (shows target k e) h = absurd (h refl)
+kind-hands env holder t c did (gets target k e live) h = refl
+
+kind-alive : (env : Env) (holder : ℕ) (t : List ℕ) (c : Command) (did : Did) → Kind env holder t c did → (i : ℕ) → isAt i (find (env .places) t (namedBy holder c)) ≡ true → isFailed (did .outcome) ≡ false
+    → asksKey c ≡ true → isDestroyed (placeAt (env .places) t i .state) ≡ false
+unfolding createPlan rekeyPlan isFailed namedBy asksKey
+kind-alive env holder t c did (fails reason) i a f k = absurd (true≢false f)
+kind-alive env holder t c did (creates wanted room) i a f k = absurd (false≢true k)
+kind-alive env holder t c did (rekeys target j e live single room) i a f k = absurd (false≢true k)
+kind-alive env holder t c did (grants target amount j e g) i a f k = absurd (false≢true k)
+kind-alive env holder t c did (moves v j next e g) i a f k = absurd (true≢false (sym k ∙ moving-asks v))
+kind-alive env holder t c did (shows target j e) i a f k = absurd (false≢true k)
+kind-alive env holder t c did (gets target j e live) i a f k = ap (λ (l : ℕ). isDestroyed (placeAt (env .places) t l .state)) (at-is i j _ e a) ∙ live
 
 -- a failed item leaves the table
 kind-failed : (env : Env) (holder : ℕ) (t : List ℕ) (c : Command) (did : Did) → Kind env holder t c did → isFailed (did .outcome) ≡ true → did .table ≡ t
@@ -246,6 +294,7 @@ kind-failed env holder t c did (rekeys target k e alive single room) h = absurd 
 kind-failed env holder t c did (grants target amount k e g) h = absurd (false≢true h)
 kind-failed env holder t c did (moves v k next e g) h = absurd (false≢true h)
 kind-failed env holder t c did (shows target k e) h = refl
+kind-failed env holder t c did (gets target k e live) h = refl
 
 -- what was not understood fails
 moving-understood : {c : Command} {operation code : ℕ} {target : Target} → Moving c operation code target → isUnderstood c ≡ true
@@ -262,6 +311,7 @@ kind-understood env holder t c did (rekeys target k e alive single room) h = abs
 kind-understood env holder t c did (grants target amount k e g) h = absurd (true≢false h)
 kind-understood env holder t c did (moves v k next e g) h = absurd (true≢false (sym (moving-understood v) ∙ h))
 kind-understood env holder t c did (shows target k e) h = absurd (true≢false h)
+kind-understood env holder t c did (gets target k e live) h = absurd (true≢false h)
 
 -- ---- one item, as an event
 
@@ -292,6 +342,9 @@ module _ (clock : ℕ) (strip : List ℕ) (k holder : ℕ) (t : List ℕ) (asked
     obeys = λ i low a f m. at i low .obeys a f m;
     taken = λ i low y. (let w = at i low .taken y in record { was = w .0; serial = serial-is placeCount (did .table) i ∙ w .1; state = w .2 });
     stands = λ h. (let w = kind-stands own holder t held fresh-bytes c did went (commanded (asked .operation) (asked .payload)) h in (w .0, record { below = w .1; serial = serial-is placeCount (did .table) (w .0) ∙ w .2 }));
+    about = λ f z. (let w = kind-about own holder t c did went (commanded (asked .operation) (asked .payload)) f z in record { place = w .0; below = w .1; named = w .2; serial = w .3 });
+    hands = kind-hands own holder t c did went;
+    alive = λ i low a f k. kind-alive own holder t c did went i a f k;
     grants = λ x z away. ⊎-elim (λ none. none) (λ h. absurd (away (h .place) (record { below = h .below; serial = serial-is placeCount t (h .place) ∙ h .serial }))) (counts .counted .granted x);
   }
     where

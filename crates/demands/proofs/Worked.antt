@@ -24,16 +24,17 @@ use Rattle.rules.specs.declared.Reason.the-variants.{UsageLimitExceeded}
 use Rattle.frame.specs.Frame.{Asked}
 use Rattle.payload.specs.declared.Target.the-variants.{Placeholder, Serial}
 use Rattle.payload.specs.declared.Command.{Command}
-use Rattle.payload.specs.declared.Command.the-variants.{Unsupported, Invalid, Create, Rekey, GetUsageAllocation, Activate, Revoke, Destroy, GetAttributes}
+use Rattle.payload.specs.declared.Command.the-variants.{Unsupported, Invalid, Create, Rekey, GetUsageAllocation, Activate, Revoke, Destroy, GetAttributes, Get}
 use Rattle.payload.specs.Payload.{limitIn, limitFirst, wantedOf, limitsIn, maskedIn, attributesIn, createIn, targetOf, targetIn, aloneIn, allocationIn, revokeIn, orInvalid, command}
+use Rattle.act.specs.declared.Key.{Key}
 use Rattle.act.specs.declared.Outcome.{Outcome}
-use Rattle.act.specs.declared.Outcome.the-variants.{Failed, Created, Done, Showed}
+use Rattle.act.specs.declared.Outcome.the-variants.{Failed, Created, Done, Showed, Got}
 use Rattle.act.specs.Act.{sought, isFailed}
 use Rattle.answer.specs.Respond.{Answer}
 use Rattle.demands.specs.Box.{Call}
 use Rattle.demands.specs.Demand2.{Link, ofFrame, lowest, goesOn, linkAt, answerFor, answersFor}
-use Rattle.demands.specs.Log.{Event, heldAfter, paired, orNoItems, orNoAnswers, onto, issuedBy, issued, grantBy, granted, limitBy, limit}
-use Rattle.demands.specs.Demand3.{namedBy, isUnderstood, movesState, codeOf, names, takes, mayTake, bornState, listed, listedFor}
+use Rattle.demands.specs.Log.{Event, heldAfter, paired, orNoItems, orNoAnswers, onto, issuedBy, issued, grantBy, granted, limitBy, limit, handedBy, destroyedBy, wasDestroyed, handedDead}
+use Rattle.demands.specs.Demand3.{namedBy, isUnderstood, movesState, asksKey, carries, codeOf, names, takes, mayTake, bornState, listed, listedFor}
 
 -- ---- commands and outcomes
 
@@ -49,11 +50,16 @@ commands =
     ∷ Revoke (Serial 7) 5
     ∷ Destroy (Serial 7)
     ∷ GetAttributes (Serial 7)
+    ∷ Get (Serial 7)
     ∷ []
 
 -- by the placeholder
 heldCommands : List Command
-heldCommands = Rekey Placeholder ∷ GetUsageAllocation Placeholder 60 ∷ Activate Placeholder ∷ Revoke Placeholder 5 ∷ Destroy Placeholder ∷ GetAttributes Placeholder ∷ []
+heldCommands = Rekey Placeholder ∷ GetUsageAllocation Placeholder 60 ∷ Activate Placeholder ∷ Revoke Placeholder 5 ∷ Destroy Placeholder ∷ GetAttributes Placeholder ∷ Get Placeholder ∷ []
+
+-- a key of 128 bits
+key : ℕ → Key
+key serial = record { serial = serial; bits = 128; material = record { a = 1; b = 2; c = 0; d = 0 } }
 
 -- one of each outcome; those that carry an identifier carry 8
 outcomes : List Outcome
@@ -62,6 +68,7 @@ outcomes =
     ∷ Created 8
     ∷ Done 8
     ∷ Showed (record { serial = 8; bits = 128; mask = 4; state = 1; unit = 2; total = 100; count = 100; replaced = 0; replacement = 0 })
+    ∷ Got (key 8)
     ∷ []
 
 flag : Bool → ℕ
@@ -73,20 +80,27 @@ matrix f [] = []
 matrix f (c ∷ cs) = map (f c) outcomes ++ matrix f cs
 
 none-of : List ℕ
-none-of = 0 ∷ 0 ∷ 0 ∷ 0 ∷ []
+none-of = 0 ∷ 0 ∷ 0 ∷ 0 ∷ 0 ∷ []
 
 commandCases : List Bool
 commandCases =
-    same (map (namedBy 3) commands) (0 ∷ 0 ∷ 0 ∷ 7 ∷ 7 ∷ 7 ∷ 7 ∷ 7 ∷ 7 ∷ [])
-    ∷ same (map (namedBy 3) heldCommands) (3 ∷ 3 ∷ 3 ∷ 3 ∷ 3 ∷ 3 ∷ [])
-    ∷ same (map (λ c. flag (isUnderstood c)) commands) (0 ∷ 0 ∷ 1 ∷ 1 ∷ 1 ∷ 1 ∷ 1 ∷ 1 ∷ 1 ∷ [])
-    ∷ same (map (λ c. flag (movesState c)) commands) (0 ∷ 0 ∷ 0 ∷ 0 ∷ 0 ∷ 1 ∷ 1 ∷ 1 ∷ 0 ∷ [])
-    ∷ same (map codeOf commands) (0 ∷ 0 ∷ 0 ∷ 0 ∷ 0 ∷ 0 ∷ 5 ∷ 0 ∷ 0 ∷ [])
+    same (map (namedBy 3) commands) (0 ∷ 0 ∷ 0 ∷ 7 ∷ 7 ∷ 7 ∷ 7 ∷ 7 ∷ 7 ∷ 7 ∷ [])
+    ∷ same (map (namedBy 3) heldCommands) (3 ∷ 3 ∷ 3 ∷ 3 ∷ 3 ∷ 3 ∷ 3 ∷ [])
+    ∷ same (map (λ c. flag (isUnderstood c)) commands) (0 ∷ 0 ∷ 1 ∷ 1 ∷ 1 ∷ 1 ∷ 1 ∷ 1 ∷ 1 ∷ 1 ∷ [])
+    ∷ same (map (λ c. flag (movesState c)) commands) (0 ∷ 0 ∷ 0 ∷ 0 ∷ 0 ∷ 1 ∷ 1 ∷ 1 ∷ 0 ∷ 0 ∷ [])
+    ∷ same (map codeOf commands) (0 ∷ 0 ∷ 0 ∷ 0 ∷ 0 ∷ 0 ∷ 5 ∷ 0 ∷ 0 ∷ 0 ∷ [])
+    -- Get alone asks for the key itself
+    ∷ same (map (λ c. flag (asksKey c)) commands) (0 ∷ 0 ∷ 0 ∷ 0 ∷ 0 ∷ 0 ∷ 0 ∷ 0 ∷ 0 ∷ 1 ∷ [])
     -- Create issues by Created, Re-key by Done, and nothing else issues
-    ∷ same (matrix issuedBy commands) (none-of ++ (none-of ++ ((0 ∷ 8 ∷ 0 ∷ 0 ∷ []) ++ ((0 ∷ 0 ∷ 8 ∷ 0 ∷ []) ++ replicate 20 0))))
+    ∷ same (matrix issuedBy commands) (none-of ++ (none-of ++ ((0 ∷ 8 ∷ 0 ∷ 0 ∷ 0 ∷ []) ++ ((0 ∷ 0 ∷ 8 ∷ 0 ∷ 0 ∷ []) ++ replicate 30 0))))
     -- Get Usage Allocation grants by Done, to the identifier that is carried, and nothing else grants
-    ∷ same (matrix (grantBy 8) commands) (replicate 16 0 ++ ((0 ∷ 0 ∷ 60 ∷ 0 ∷ []) ++ replicate 16 0))
-    ∷ same (matrix (grantBy 7) commands) (replicate 36 0)
+    ∷ same (matrix (grantBy 8) commands) (replicate 20 0 ++ ((0 ∷ 0 ∷ 60 ∷ 0 ∷ 0 ∷ []) ++ replicate 25 0))
+    ∷ same (matrix (grantBy 7) commands) (replicate 50 0)
+    -- what an answer carries; a key is handed out by Got, and Destroy alone destroys, by Done
+    ∷ same (map carries outcomes) (0 ∷ 8 ∷ 8 ∷ 8 ∷ 8 ∷ [])
+    ∷ same (map handedBy outcomes) (0 ∷ 0 ∷ 0 ∷ 0 ∷ 8 ∷ [])
+    ∷ same (map (destroyedBy 0x14) outcomes) (0 ∷ 0 ∷ 8 ∷ 0 ∷ 0 ∷ [])
+    ∷ same (map (destroyedBy 0x13) outcomes) none-of
     ∷ []
 
 -- ---- states
@@ -108,7 +122,7 @@ waysFrom operation code (from ∷ later) = waysTo operation code from eight ++ w
 ways : ℕ → ℕ → List ℕ
 ways operation code = waysFrom operation code eight
 
--- "Activate", "Revoke" code by code, "Destroy"; Create, Re-key, Get Usage Allocation and Get Attributes move nothing
+-- "Activate", "Revoke" code by code, "Destroy"; Create, Re-key, Get Usage Allocation, Get Attributes and Get move nothing
 stateCases : List Bool
 stateCases =
     same (ways 0x12 0) (12 ∷ [])
@@ -124,6 +138,7 @@ stateCases =
     ∷ same (ways 0x04 0) []
     ∷ same (ways 0x11 0) []
     ∷ same (ways 0x0B 0) []
+    ∷ same (ways 0x0A 0) []
     ∷ []
 
 -- ---- a log
@@ -176,6 +191,16 @@ log = onto events []
 ofEach : (ℕ → List Event → ℕ) → List Event → List ℕ
 ofEach f l = map (λ x. f x l) (1 ∷ 2 ∷ 3 ∷ 4 ∷ [])
 
+of-none : List ℕ
+of-none = 0 ∷ 0 ∷ 0 ∷ 0 ∷ []
+
+destroyedIn : ℕ → List Event → ℕ
+destroyedIn x l = flag (wasDestroyed x l)
+
+-- a Get of 3 that is answered
+got : Event
+got = record { held = 0; asked = asking 0x0A (hex "42009407 00000008 30303030 30303033"); answer = answering 0x0A (Got (key 3)) }
+
 heldIn : List Event → List ℕ
 heldIn l = map (λ (ev : Event). ev .held) l
 
@@ -189,8 +214,8 @@ holding held = record { held = held; asked = asking 0 []; answer = answering 0 (
 logCases : List Bool
 logCases =
     -- Create and Re-key set the placeholder, a failed item empties it, others keep it
-    same (map (heldAfter 3 (answering 0x04 (Done 8))) outcomes) (0 ∷ 8 ∷ 8 ∷ 3 ∷ [])
-    ∷ same (map (heldAfter 3 (answering 0x12 (Done 8))) outcomes) (0 ∷ 8 ∷ 3 ∷ 3 ∷ [])
+    same (map (heldAfter 3 (answering 0x04 (Done 8))) outcomes) (0 ∷ 8 ∷ 8 ∷ 3 ∷ 3 ∷ [])
+    ∷ same (map (heldAfter 3 (answering 0x12 (Done 8))) outcomes) (0 ∷ 8 ∷ 3 ∷ 3 ∷ 3 ∷ [])
     ∷ same (heldIn events) (0 ∷ 1 ∷ 1 ∷ 1 ∷ 0 ∷ 2 ∷ 2 ∷ 2 ∷ 3 ∷ [])
     -- the latest first
     ∷ same (heldIn log) (3 ∷ 2 ∷ 2 ∷ 2 ∷ 0 ∷ 1 ∷ 1 ∷ 1 ∷ 0 ∷ [])
@@ -206,11 +231,20 @@ logCases =
     ∷ same (ofEach issued (onto events log)) (2 ∷ 2 ∷ 2 ∷ 0 ∷ [])
     ∷ same (ofEach granted log) (60 ∷ 10 ∷ 0 ∷ 0 ∷ [])
     ∷ same (ofEach limit log) (100 ∷ 100 ∷ 100 ∷ 0 ∷ [])
-    ∷ same (ofEach issued []) none-of
-    ∷ same (ofEach granted []) none-of
-    ∷ same (ofEach limit []) none-of
-    ∷ same (map (limitOf (holding 3)) commands) (0 ∷ 0 ∷ 100 ∷ 507 ∷ 0 ∷ 0 ∷ 0 ∷ 0 ∷ 0 ∷ [])
-    ∷ same (map (limitOf (holding 3)) heldCommands) (503 ∷ 0 ∷ 0 ∷ 0 ∷ 0 ∷ 0 ∷ [])
+    ∷ same (ofEach issued []) of-none
+    ∷ same (ofEach granted []) of-none
+    ∷ same (ofEach limit []) of-none
+    ∷ same (map (limitOf (holding 3)) commands) (0 ∷ 0 ∷ 100 ∷ 507 ∷ 0 ∷ 0 ∷ 0 ∷ 0 ∷ 0 ∷ 0 ∷ [])
+    ∷ same (map (limitOf (holding 3)) heldCommands) (503 ∷ 0 ∷ 0 ∷ 0 ∷ 0 ∷ 0 ∷ 0 ∷ [])
+    -- 3 was destroyed; what was handed out of it before does not count, and each time after does
+    ∷ same (ofEach destroyedIn log) (0 ∷ 0 ∷ 1 ∷ 0 ∷ [])
+    ∷ same (ofEach destroyedIn (got ∷ log)) (0 ∷ 0 ∷ 1 ∷ 0 ∷ [])
+    ∷ same (ofEach destroyedIn []) of-none
+    ∷ same (ofEach handedDead log) of-none
+    ∷ same (ofEach handedDead (onto events (got ∷ []))) of-none
+    ∷ same (ofEach handedDead (got ∷ log)) (0 ∷ 0 ∷ 1 ∷ 0 ∷ [])
+    ∷ same (ofEach handedDead (got ∷ got ∷ log)) (0 ∷ 0 ∷ 2 ∷ 0 ∷ [])
+    ∷ same (ofEach handedDead []) of-none
     ∷ []
 
 -- ---- places
@@ -264,8 +298,8 @@ callCases =
     same (lowest 1 [] ∷ lowest 1 (false ∷ false ∷ []) ∷ lowest 1 (false ∷ true ∷ true ∷ []) ∷ lowest 5 (true ∷ []) ∷ []) (0 ∷ 0 ∷ 2 ∷ 5 ∷ [])
     ∷ same (flag (ofFrame (λ f. true) none) ∷ []) (0 ∷ [])
     -- under Continue (1) a batch goes on behind each outcome, under Stop (2) not behind a failure
-    ∷ same (map (λ o. flag (goesOn 1 o)) outcomes) (1 ∷ 1 ∷ 1 ∷ 1 ∷ [])
-    ∷ same (map (λ o. flag (goesOn 2 o)) outcomes) (0 ∷ 1 ∷ 1 ∷ 1 ∷ [])
+    ∷ same (map (λ o. flag (goesOn 1 o)) outcomes) (1 ∷ 1 ∷ 1 ∷ 1 ∷ 1 ∷ [])
+    ∷ same (map (λ o. flag (goesOn 2 o)) outcomes) (0 ∷ 1 ∷ 1 ∷ 1 ∷ 1 ∷ [])
     -- item 1 takes bytes 32 to 63 of the strip, the clock that counts and the placeholder, and its answer has its operation and ID
     ∷ same (second .env .fresh) (replicate 32 8)
     ∷ same (second .env .clock ∷ second .holder ∷ []) (9 ∷ 5 ∷ [])
@@ -280,5 +314,5 @@ cases = commandCases ++ (stateCases ++ (logCases ++ (placeCases ++ callCases)))
 
 -- every case holds
 pub worked : all (λ b. b) cases ≡ true
-unfolding cases commandCases stateCases logCases placeCases callCases commands heldCommands outcomes flag matrix none-of eight waysTo waysFrom ways itemsRead asking items answering answers events log ofEach heldIn limitOf holding keyed activating rekeying ofPlaces call second goesOn isFailed answerFor namedBy isUnderstood movesState codeOf listed isAt heldAfter paired orNoItems orNoAnswers onto issuedBy issued grantBy granted limitBy limit ofFrame lowest sought ifb _>>=_ _>>_ isSome be fromBeAfter fromBe all same lengthOk text valueOk encode itemOk wellFormed ended headed firstOf putValue putGroup more walk parse startsWith bytesOf bodyOf numberOf optional digits identifier fromDigitsAfter serialOf limitIn limitFirst wantedOf limitsIn maskedIn attributesIn createIn targetOf targetIn aloneIn allocationIn revokeIn orInvalid command line body recordOf placeAt withPlace serialAt stateAt blank firstFrom orElse find freePlace destroyedPlace newPlace
+unfolding cases key of-none destroyedIn got asksKey carries handedBy destroyedBy wasDestroyed handedDead commandCases stateCases logCases placeCases callCases commands heldCommands outcomes flag matrix none-of eight waysTo waysFrom ways itemsRead asking items answering answers events log ofEach heldIn limitOf holding keyed activating rekeying ofPlaces call second goesOn isFailed answerFor namedBy isUnderstood movesState codeOf listed isAt heldAfter paired orNoItems orNoAnswers onto issuedBy issued grantBy granted limitBy limit ofFrame lowest sought ifb _>>=_ _>>_ isSome be fromBeAfter fromBe all same lengthOk text valueOk encode itemOk wellFormed ended headed firstOf putValue putGroup more walk parse startsWith bytesOf bodyOf numberOf optional digits identifier fromDigitsAfter serialOf limitIn limitFirst wantedOf limitsIn maskedIn attributesIn createIn targetOf targetIn aloneIn allocationIn revokeIn orInvalid command line body recordOf placeAt withPlace serialAt stateAt blank firstFrom orElse find freePlace destroyedPlace newPlace
 worked = refl

@@ -15,11 +15,13 @@ use Rattle.soundness.specs.Checked.{isAt}
 use Rattle.rules.specs.Numbers.{activate, revoke, destroy, preActive}
 use Rattle.rules.specs.States.{isCompromise}
 use Rattle.payload.specs.declared.Command.{Command}
-use Rattle.payload.specs.declared.Command.the-variants.{Unsupported, Invalid, Create, Rekey, GetUsageAllocation, Activate, Revoke, Destroy, GetAttributes}
+use Rattle.payload.specs.declared.Command.the-variants.{Unsupported, Invalid, Create, Rekey, GetUsageAllocation, Activate, Revoke, Destroy, GetAttributes, Get}
+use Rattle.act.specs.declared.Outcome.{Outcome}
+use Rattle.act.specs.declared.Outcome.the-variants.{Failed, Created, Done, Showed, Got}
 use Rattle.act.specs.Act.{sought, isFailed}
 use Rattle.engine.specs.Effects.{Effect}
 use Rattle.demands.specs.Box.{Call, Box, Lent, placesOf, recordIn}
-use Rattle.demands.specs.Log.{Event, commandOf, itemsAsked, answersGiven, eventsOf, logged, issuedBy, issued, grantBy, granted, limit}
+use Rattle.demands.specs.Log.{Event, commandOf, itemsAsked, answersGiven, eventsOf, logged, issuedBy, issued, grantBy, granted, limit, handedBy, wasDestroyed, handedDead}
 
 -- ---- runs
 
@@ -46,6 +48,7 @@ namedBy holder (Activate target) = sought holder target
 namedBy holder (Revoke target code) = sought holder target
 namedBy holder (Destroy target) = sought holder target
 namedBy holder (GetAttributes target) = sought holder target
+namedBy holder (Get target) = sought holder target
 
 -- whether the operation of an item is one that there is, and its payload reads as that of its operation
 unfoldable pub isUnderstood : Command → Bool
@@ -58,6 +61,7 @@ isUnderstood (Activate target) = true
 isUnderstood (Revoke target code) = true
 isUnderstood (Destroy target) = true
 isUnderstood (GetAttributes target) = true
+isUnderstood (Get target) = true
 
 -- whether a command is there to move a state
 unfoldable pub movesState : Command → Bool
@@ -70,6 +74,7 @@ movesState (Activate target) = true
 movesState (Revoke target code) = true
 movesState (Destroy target) = true
 movesState (GetAttributes target) = false
+movesState (Get target) = false
 
 -- the revocation code of a command
 unfoldable pub codeOf : Command → ℕ
@@ -82,6 +87,28 @@ codeOf (Activate target) = 0
 codeOf (Revoke target code) = code
 codeOf (Destroy target) = 0
 codeOf (GetAttributes target) = 0
+codeOf (Get target) = 0
+
+-- whether a command asks for the key itself
+unfoldable pub asksKey : Command → Bool
+asksKey Unsupported = false
+asksKey Invalid = false
+asksKey (Create wanted) = false
+asksKey (Rekey target) = false
+asksKey (GetUsageAllocation target amount) = false
+asksKey (Activate target) = false
+asksKey (Revoke target code) = false
+asksKey (Destroy target) = false
+asksKey (GetAttributes target) = false
+asksKey (Get target) = true
+
+-- the serial that an answer carries; 0 where it failed
+unfoldable pub carries : Outcome → ℕ
+carries (Failed reason) = 0
+carries (Created serial) = serial
+carries (Done serial) = serial
+carries (Showed shown) = shown .serial
+carries (Got key) = key .serial
 
 -- the record at place i is the one that the item names
 abbrev pub names : Event → List ℕ → ℕ → Bool
@@ -125,6 +152,13 @@ pub record Taken (ev : Event) (t u : List ℕ) (i : ℕ) : Type 0 where
   pub serial : serialAt u i ≡ issuedBy (commandOf ev) (ev .answer .outcome)
   pub state : recordIn u i .state ≡ bornState ev t
 
+-- a success is about the record that the item names, and carries its identifier
+pub record About (ev : Event) (t : List ℕ) : Type 0 where
+  pub place : ℕ
+  pub below : place < placesOf t
+  pub named : names ev t place ≡ true
+  pub serial : carries (ev .answer .outcome) ≡ serialAt t place
+
 pub record Tame (ev : Event) (t u : List ℕ) : Type 0 where
   -- the answer is the item's own, so that units and identifiers are counted as they were asked for: "Operation as given, the ID if given"
   pub operation : ev .answer .operation ≡ ev .asked .operation
@@ -145,6 +179,12 @@ pub record Tame (ev : Event) (t u : List ℕ) : Type 0 where
   pub taken : (i : ℕ) → i < placesOf t → takes ev t i ≡ true → Taken ev t u i
   -- an identifier that is issued has its record
   pub stands : (issuedBy (commandOf ev) (ev .answer .outcome) ≡ 0 → ⊥) → (i : ℕ) × Stands (issuedBy (commandOf ev) (ev .answer .outcome)) u i
+  -- a success that issues nothing "answers the identifier" of a record that stands
+  pub about : isFailed (ev .answer .outcome) ≡ false → issuedBy (commandOf ev) (ev .answer .outcome) ≡ 0 → About ev t
+  -- only Get hands out a key
+  pub hands : (handedBy (ev .answer .outcome) ≡ 0 → ⊥) → asksKey (commandOf ev) ≡ true
+  -- "once an identifier is in a destroyed state, no later Get for it succeeds": what is handed out is not destroyed
+  pub alive : (i : ℕ) → i < placesOf t → names ev t i ≡ true → isFailed (ev .answer .outcome) ≡ false → asksKey (commandOf ev) ≡ true → isDestroyed (recordIn t i .state) ≡ false
   -- "Once a newer object has taken the place, that identifier is granted nothing more": what does not stand is granted nothing
   pub grants : (x : ℕ) → (x ≡ 0 → ⊥) → ((i : ℕ) → Stands x t i → ⊥) → grantBy x (commandOf ev) (ev .answer .outcome) ≡ 0
 
@@ -163,6 +203,10 @@ pub record InOrder (log : List Event) (t : List ℕ) : Type 0 where
   pub known : (x i : ℕ) → (x ≡ 0 → ⊥) → Stands x t i → issued x log ≡ 1
   -- "a record in a destroyed state holds no key byte"
   pub wiped : (i : ℕ) → i < placesOf t → isDestroyed (recordIn t i .state) ≡ true → recordIn t i .material ≡ replicate materialSize 0
+  -- the log says which are destroyed, as long as the record stands
+  pub destroyed : (x i : ℕ) → (x ≡ 0 → ⊥) → Stands x t i → wasDestroyed x log ≡ true → isDestroyed (recordIn t i .state) ≡ true
+  -- "once an identifier is in a destroyed state, no later Get for it succeeds", whether or not its record still stands
+  pub dead : (x : ℕ) → (x ≡ 0 → ⊥) → handedDead x log ≡ 0
   -- the table stays sound, so that no call of a run is refused with 3
   pub stays-sound : sound (placesOf t) t ≡ true
 

@@ -1,7 +1,7 @@
 -- What was asked and answered, read from the bytes of requests and responses alone. No definition here reads a table.
 -- Assumes nothing.
 use Prim.Native.Nat.{ℕ, suc, _+_}
-use mathlib.Core.Bool.{Bool}
+use mathlib.Core.Bool.{Bool, false, _&&_, _||_}
 use mathlib.Core.Option.{Option, none, some}
 use mathlib.Core.List.{List, [], _∷_}
 use lib.ListN.{take}
@@ -9,13 +9,13 @@ use lib.Dec.{eqb}
 use Rattle.octets.specs.If.{ifb}
 use Rattle.octets.specs.Maybe.{_>>=_}
 use Rattle.ttlv.specs.Parse.{message}
-use Rattle.rules.specs.Numbers.{rekey}
+use Rattle.rules.specs.Numbers.{rekey, destroy}
 use Rattle.frame.specs.Frame.{Asked, Frame, frameIn}
 use Rattle.payload.specs.declared.Command.{Command}
-use Rattle.payload.specs.declared.Command.the-variants.{Unsupported, Invalid, Create, Rekey, GetUsageAllocation, Activate, Revoke, Destroy, GetAttributes}
+use Rattle.payload.specs.declared.Command.the-variants.{Unsupported, Invalid, Create, Rekey, GetUsageAllocation, Activate, Revoke, Destroy, GetAttributes, Get}
 use Rattle.payload.specs.Payload.{command}
 use Rattle.act.specs.declared.Outcome.{Outcome}
-use Rattle.act.specs.declared.Outcome.the-variants.{Failed, Created, Done, Showed}
+use Rattle.act.specs.declared.Outcome.the-variants.{Failed, Created, Done, Showed, Got}
 use Rattle.act.specs.Act.{sought}
 use Rattle.answer.specs.Respond.{Answer, Response}
 use Rattle.answer.specs.Read.{answersIn}
@@ -40,6 +40,7 @@ heldAfter held a (Failed reason) = 0
 heldAfter held a (Created serial) = serial
 heldAfter held a (Done serial) = ifb (eqb (a .operation) rekey) serial held
 heldAfter held a (Showed shown) = held
+heldAfter held a (Got key) = held
 
 -- item i with answer i, in order
 unfoldable pub paired : ℕ → List Asked → List Answer → List Event
@@ -83,10 +84,12 @@ issuedBy (Create wanted) (Created serial) = serial
 issuedBy (Create wanted) (Failed reason) = 0
 issuedBy (Create wanted) (Done serial) = 0
 issuedBy (Create wanted) (Showed shown) = 0
+issuedBy (Create wanted) (Got key) = 0
 issuedBy (Rekey target) (Done serial) = serial
 issuedBy (Rekey target) (Failed reason) = 0
 issuedBy (Rekey target) (Created serial) = 0
 issuedBy (Rekey target) (Showed shown) = 0
+issuedBy (Rekey target) (Got key) = 0
 issuedBy Unsupported outcome = 0
 issuedBy Invalid outcome = 0
 issuedBy (GetUsageAllocation target amount) outcome = 0
@@ -94,6 +97,7 @@ issuedBy (Activate target) outcome = 0
 issuedBy (Revoke target code) outcome = 0
 issuedBy (Destroy target) outcome = 0
 issuedBy (GetAttributes target) outcome = 0
+issuedBy (Get target) outcome = 0
 
 -- whether an event issued identifier x
 abbrev pub issues : ℕ → Event → Bool
@@ -110,6 +114,7 @@ grantBy x (GetUsageAllocation target amount) (Done serial) = ifb (eqb serial x) 
 grantBy x (GetUsageAllocation target amount) (Failed reason) = 0
 grantBy x (GetUsageAllocation target amount) (Created serial) = 0
 grantBy x (GetUsageAllocation target amount) (Showed shown) = 0
+grantBy x (GetUsageAllocation target amount) (Got key) = 0
 grantBy x Unsupported outcome = 0
 grantBy x Invalid outcome = 0
 grantBy x (Create wanted) outcome = 0
@@ -118,6 +123,7 @@ grantBy x (Activate target) outcome = 0
 grantBy x (Revoke target code) outcome = 0
 grantBy x (Destroy target) outcome = 0
 grantBy x (GetAttributes target) outcome = 0
+grantBy x (Get target) outcome = 0
 
 -- the units granted to x
 unfoldable pub granted : ℕ → List Event → ℕ
@@ -135,8 +141,35 @@ limitBy e (Activate target) before = 0
 limitBy e (Revoke target code) before = 0
 limitBy e (Destroy target) before = 0
 limitBy e (GetAttributes target) before = 0
+limitBy e (Get target) before = 0
 
 -- the total that x began with
 unfoldable pub limit : ℕ → List Event → ℕ
 limit x [] = 0
 limit x (e ∷ log) = let begun = limitBy e (commandOf e) (λ y. limit y log) in let before = limit x log in ifb (issues x e) begun before
+
+-- the serial of the key that an answer hands out; 0 where it hands out none
+unfoldable pub handedBy : Outcome → ℕ
+handedBy (Failed reason) = 0
+handedBy (Created serial) = 0
+handedBy (Done serial) = 0
+handedBy (Showed shown) = 0
+handedBy (Got key) = key .serial
+
+-- the serial that a successful answer to Destroy carries; 0 for every other answer
+unfoldable pub destroyedBy : ℕ → Outcome → ℕ
+destroyedBy operation (Failed reason) = 0
+destroyedBy operation (Created serial) = 0
+destroyedBy operation (Done serial) = ifb (eqb operation destroy) serial 0
+destroyedBy operation (Showed shown) = 0
+destroyedBy operation (Got key) = 0
+
+-- whether x was destroyed
+unfoldable pub wasDestroyed : ℕ → List Event → Bool
+wasDestroyed x [] = false
+wasDestroyed x (e ∷ log) = eqb (destroyedBy (e .answer .operation) (e .answer .outcome)) x || wasDestroyed x log
+
+-- how often the key x was handed out after it was destroyed
+unfoldable pub handedDead : ℕ → List Event → ℕ
+handedDead x [] = 0
+handedDead x (e ∷ log) = let before = handedDead x log in ifb (eqb (handedBy (e .answer .outcome)) x && wasDestroyed x log) (suc before) before

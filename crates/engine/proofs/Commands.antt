@@ -9,11 +9,11 @@ use native.Mathlib.Omega.{arith}
 use Rattle.ttlv.specs.Items.{Items}
 use Rattle.values.specs.Values.{bitsOk, maskOk, unitOk, totalOk}
 use Rattle.rules.specs.declared.Attributes.{Attributes}
-use Rattle.rules.specs.Numbers.{create, rekey, getAttributes, getUsageAllocation, activate, revoke, destroy}
+use Rattle.rules.specs.Numbers.{create, rekey, get, getAttributes, getUsageAllocation, activate, revoke, destroy}
 use Rattle.keeps.proofs.Begun.{Allowed}
 use Rattle.payload.specs.declared.Target.{Target}
 use Rattle.payload.specs.declared.Command.{Command}
-use Rattle.payload.specs.declared.Command.the-variants.{Unsupported, Invalid, Create, Rekey, GetUsageAllocation, Activate, Revoke, Destroy, GetAttributes}
+use Rattle.payload.specs.declared.Command.the-variants.{Unsupported, Invalid, Create, Rekey, GetUsageAllocation, Activate, Revoke, Destroy, GetAttributes, Get}
 use Rattle.tags.specs.Tags.{usageLimits}
 use Rattle.payload.specs.Payload.{Limit, limitIn, limitFirst, wantedOf, limitsIn, maskedIn, attributesIn, createIn, orInvalid, command}
 use Rattle.payload.specs.Reasons.{operationOf, reasonOf}
@@ -33,6 +33,7 @@ pub data Commanded (operation : ℕ) : Command → Type 0 where
   to-revoke : {target : Target} {code : ℕ} → operation ≡ revoke → Commanded operation (Revoke target code)
   to-destroy : {target : Target} → operation ≡ destroy → Commanded operation (Destroy target)
   to-show : {target : Target} → operation ≡ getAttributes → Commanded operation (GetAttributes target)
+  to-get : {target : Target} → operation ≡ get → Commanded operation (Get target)
 
 -- ---- Create
 
@@ -101,6 +102,7 @@ module _ (operation : ℕ) (t : Items) where
   by-command (Revoke target code) e = to-revoke (is e refl refl)
   by-command (Destroy target) e = to-destroy (is e refl refl)
   by-command (GetAttributes target) e = to-show (is e refl refl)
+  by-command (Get target) e = to-get (is e refl refl)
 
   pub commanded : Commanded operation (command operation t)
   commanded = by-command (command operation t) refl

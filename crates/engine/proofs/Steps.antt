@@ -1,16 +1,16 @@
 -- An item on a sound table leaves a sound table, and its answer is one that a response may have.
 -- Assumes nothing.
-use Prim.Native.Nat.{ℕ, _-_, _^_, _≤_, _<_}
+use Prim.Native.Nat.{ℕ, _-_, _/_, _^_, _≤_, _<_}
 use native.Mathlib.Omega.{arith}
 use mathlib.Core.Path.{_≡_, refl, sym, ap, _∙_}
 use mathlib.Core.Logic.{_⊎_, inl, inr}
 use mathlib.Core.Bool.{true, false, _&&_}
 use mathlib.Core.List.{List}
-use lib.ListN.{length}
+use lib.ListN.{length, drop}
 use lib.Dec.{leb, ltb, eqb}
 use borrow.Author.Tests.{le-leb, lt-ltb, eq-eqb, ne-eqb}
 use Rattle.octets.specs.If.{ifb}
-use Rattle.octets.specs.Octets.{Bytes}
+use Rattle.octets.specs.Octets.{Bytes, allZero}
 use Rattle.table.specs.declared.Record.{Record}
 use Rattle.search.specs.declared.Found.the-variants.{At}
 use Rattle.table.specs.Layout.{materialSize}
@@ -22,21 +22,23 @@ use Rattle.search.proofs.Finds.{find-below}
 use Rattle.values.specs.Values.{bitsOk, maskOk, unitOk, totalOk}
 use Rattle.octets.proofs.Bools.{and-i}
 use Rattle.record_rules.proofs.Fit.{Unlimited, Limited, Fit}
-use Rattle.rules.specs.Numbers.{create, getAttributes}
+use Rattle.rules.specs.Numbers.{create, get, getAttributes}
 use Rattle.changes.specs.Records.{inState, movedTo, withCount}
 use Rattle.changes.specs.Changes.{serialMost, nextSerial}
 use Rattle.rules.specs.declared.Attributes.{Attributes}
 use Rattle.keeps.proofs.Begun.{Allowed}
 use Rattle.keeps.proofs.Keeps.{Held, found-stands, range, fit, next-fits, keeps-moved, keeps-count, keeps-born, keeps-heir}
+use Rattle.words.specs.Words.{wordsOf, wordBytes, wordsOk}
+use Rattle.words.proofs.Laws.{words-back, words-fit}
 use Rattle.frame.specs.Frame.{Asked, idMost}
 use Rattle.payload.specs.declared.Target.{Target}
 use Rattle.payload.specs.declared.Command.{Command}
-use Rattle.payload.specs.declared.Command.the-variants.{Create, Rekey, GetUsageAllocation, GetAttributes}
-use Rattle.act.specs.Act.{Env, Did, sought, createPlan, rekeyPlan, shownOf, step}
-use Rattle.act.proofs.Went.{Moving, activating, revoking, destroying, Kind, fails, creates, rekeys, grants, moves, shows, step-kind}
-use Rattle.answer.specs.Read.{answersDone, serialOk, linkOk, shownOk, outcomeOk, answerOk}
+use Rattle.payload.specs.declared.Command.the-variants.{Create, Rekey, GetUsageAllocation, GetAttributes, Get}
+use Rattle.act.specs.Act.{Env, Did, sought, createPlan, rekeyPlan, shownOf, keyOf, step}
+use Rattle.act.proofs.Went.{Moving, activating, revoking, destroying, Kind, fails, creates, rekeys, grants, moves, shows, gets, step-kind}
+use Rattle.answer.specs.Read.{answersDone, serialOk, linkOk, shownOk, keyOk, outcomeOk, answerOk}
 use Rattle.engine.specs.Batch.{answerTo}
-use Rattle.engine.proofs.Commands.{Commanded, to-create, to-rekey, to-allocate, to-activate, to-revoke, to-destroy, to-show, commanded}
+use Rattle.engine.proofs.Commands.{Commanded, to-create, to-rekey, to-allocate, to-activate, to-revoke, to-destroy, to-show, to-get, commanded}
 
 -- ---- what a command's operation answers
 
@@ -56,6 +58,9 @@ move-done destroying (to-destroy e) = rw e
 
 show-operation : {operation : ℕ} {target : Target} → Commanded operation (GetAttributes target) → operation ≡ getAttributes
 show-operation (to-show o) = o
+
+get-operation : {operation : ℕ} {target : Target} → Commanded operation (Get target) → operation ≡ get
+get-operation (to-get o) = o
 
 -- ---- serials and records that may be answered
 
@@ -93,6 +98,16 @@ shown-ok last r z g f =
     (link-ok (r .replaced) (g .replaced)))
     (link-ok (r .replacement) (g .replacement))
 
+key-ok : (last : ℕ) (r : Record) → (r .serial ≡ 0 → ⊥) → InRange r → Fit last r → keyOk (keyOf r) ≡ true
+unfolding keyOk keyOf
+key-ok last r z g f =
+    let whole : wordBytes (wordsOf (r .material)) ≡ r .material = words-back (r .material) (g .long) (g .bytes) in
+    and-i _ _
+    (and-i _ (wordsOk (wordsOf (r .material)))
+    (and-i (serialOk (r .serial)) (bitsOk (r .bits)) (serial-ok (r .serial) z (g .serial)) (f .bits))
+    (words-fit (r .material) (g .long) (g .bytes)))
+    (ap (λ (v : List ℕ). allZero (drop (r .bits / 8) v)) whole ∙ f .tail)
+
 -- ---- items
 
 module _ (env : Env) (holder : ℕ) (t : List ℕ) (held : Held (env .places) t) (fresh-bytes : Bytes (env .fresh)) (long : materialSize ≤ length (env .fresh)) where
@@ -116,6 +131,7 @@ module _ (env : Env) (holder : ℕ) (t : List ℕ) (held : Held (env .places) t)
   kind-held c did (moves {operation} {code} {target} v i next e g) m =
       keeps-moved (env .places) t held i (find-below (env .places) t (sought holder target) i e) (found-stands (env .places) t (sought holder target) i e) operation code next g
   kind-held c did (shows target i e) m = held
+  kind-held c did (gets target i e alive) m = held
 
   kind-ok : {operation : ℕ} (c : Command) (did : Did) → Kind env holder t c did → Commanded operation c → outcomeOk operation (did .outcome) ≡ true
   unfolding outcomeOk createPlan rekeyPlan withCount movedTo inState
@@ -131,6 +147,11 @@ module _ (env : Env) (holder : ℕ) (t : List ℕ) (held : Held (env .places) t)
   kind-ok {operation} c did (shows target i e) m =
       and-i (eqb operation getAttributes) (shownOk (shownOf (placeAt (env .places) t i))) (eq-eqb operation getAttributes (show-operation m))
       (shown-ok (lastSerial t) (placeAt (env .places) t i) (found-serial (sought holder target) i e)
+      (range (env .places) t held i (find-below (env .places) t (sought holder target) i e) (found-stands (env .places) t (sought holder target) i e))
+      (fit (env .places) t held i (find-below (env .places) t (sought holder target) i e) (found-stands (env .places) t (sought holder target) i e)))
+  kind-ok {operation} c did (gets target i e alive) m =
+      and-i (eqb operation get) (keyOk (keyOf (placeAt (env .places) t i))) (eq-eqb operation get (get-operation m))
+      (key-ok (lastSerial t) (placeAt (env .places) t i) (found-serial (sought holder target) i e)
       (range (env .places) t held i (find-below (env .places) t (sought holder target) i e) (found-stands (env .places) t (sought holder target) i e))
       (fit (env .places) t held i (find-below (env .places) t (sought holder target) i e) (found-stands (env .places) t (sought holder target) i e)))
 

@@ -43,13 +43,18 @@ module _ (operation : ℕ) (t : Items) where
   unfolding command aloneOf ifb
   of-attributes e = ap (λ (n : ℕ). command n t) e ∙ sym (ap byAlone e)
 
-  pub of-none : (operation ≡ 0x01 → ⊥) → (operation ≡ 0x04 → ⊥) → (operation ≡ 0x11 → ⊥) → (operation ≡ 0x12 → ⊥) → (operation ≡ 0x13 → ⊥) → (operation ≡ 0x14 → ⊥) → (operation ≡ 0x0B → ⊥) → command operation t ≡ Unsupported
+  pub of-get : operation ≡ 0x0A → command operation t ≡ byAlone operation
+  unfolding command aloneOf ifb
+  of-get e = ap (λ (n : ℕ). command n t) e ∙ sym (ap byAlone e)
+
+  pub of-none : (operation ≡ 0x01 → ⊥) → (operation ≡ 0x04 → ⊥) → (operation ≡ 0x11 → ⊥) → (operation ≡ 0x12 → ⊥) → (operation ≡ 0x13 → ⊥) → (operation ≡ 0x14 → ⊥) → (operation ≡ 0x0B → ⊥) → (operation ≡ 0x0A → ⊥) → command operation t ≡ Unsupported
   unfolding command
-  of-none a b c d e f g =
+  of-none a b c d e f g h =
       ifb-false _ _ _ (ne-eqb operation 0x01 a)
       ∙ (ifb-false _ _ _ (ne-eqb operation 0x04 b)
       ∙ (ifb-false _ _ _ (ne-eqb operation 0x11 c)
       ∙ (ifb-false _ _ _ (ne-eqb operation 0x12 d)
       ∙ (ifb-false _ _ _ (ne-eqb operation 0x13 e)
       ∙ (ifb-false _ _ _ (ne-eqb operation 0x14 f)
-      ∙ ifb-false _ _ _ (ne-eqb operation 0x0B g))))))
+      ∙ (ifb-false _ _ _ (ne-eqb operation 0x0B g)
+      ∙ ifb-false _ _ _ (ne-eqb operation 0x0A h)))))))

@@ -12,14 +12,14 @@ use Rattle.octets.proofs.If.{on-if}
 use Rattle.octets.proofs.Maybe.{some-is, on-bind, on-test}
 use Rattle.ttlv.specs.Items.{Items}
 use Rattle.ttlv.specs.Tree.{isRun, treeOf}
-use Rattle.rules.specs.Numbers.{create, rekey, getAttributes, getUsageAllocation, activate, revoke, destroy}
+use Rattle.rules.specs.Numbers.{create, rekey, get, getAttributes, getUsageAllocation, activate, revoke, destroy}
 use Rattle.rules.specs.declared.Attributes.{Attributes}
 use Rattle.payload.specs.Payload.{Limit, createIn, targetIn, aloneIn, allocationIn, revokeIn, orInvalid, command}
 use Rattle.payload.specs.Readers.{targetAt, limitRead, limitsRead, attributesRead}
 use Rattle.payload.specs.Reasons.{operationOf, reasonOf, readReason, targetReason, limitReason, attributesReason}
 use Rattle.payload.specs.declared.Target.{Target}
 use Rattle.payload.specs.declared.Command.{Command}
-use Rattle.payload.specs.declared.Command.the-variants.{Rekey, Activate, Destroy, GetAttributes}
+use Rattle.payload.specs.declared.Command.the-variants.{Rekey, Activate, Destroy, GetAttributes, Get}
 use Rattle.payload.specs.declared.TargetRead.{TargetRead}
 use Rattle.payload.specs.declared.TargetRead.the-variants.{Is, InvalidField as InvalidTarget}
 use Rattle.payload.proofs.Targets.{target-is, target-none}
@@ -70,7 +70,8 @@ command-operation operation t =
     (λ _. on-if (Asked operation) (λ e. asked operation revoke _ e (revoke-of t))
     (λ _. on-if (Asked operation) (λ e. asked operation destroy _ e (alone-of Destroy (λ target. refl) t))
     (λ _. on-if (Asked operation) (λ e. asked operation getAttributes _ e (alone-of GetAttributes (λ target. refl) t))
-    (λ _ h. let z : _≡_ {A = ℕ} 0 1 = cc in absurd (omega arith))))))))
+    (λ _. on-if (Asked operation) (λ e. asked operation get _ e (alone-of Get (λ target. refl) t))
+    (λ _ h. let z : _≡_ {A = ℕ} 0 1 = cc in absurd (omega arith)))))))))
 
 -- ---- a part of a payload
 

@@ -8,7 +8,7 @@ use Rattle.hex.specs.Texts.{hex}
 use Rattle.ttlv.specs.Items.{Items, ended}
 use Rattle.payload.specs.declared.Target.the-variants.{Placeholder, Serial}
 use Rattle.payload.specs.declared.Command.{Command}
-use Rattle.payload.specs.declared.Command.the-variants.{Unsupported, Invalid, Create, Rekey, GetUsageAllocation, Revoke, Destroy, GetAttributes}
+use Rattle.payload.specs.declared.Command.the-variants.{Unsupported, Invalid, Create, Rekey, GetUsageAllocation, Revoke, Destroy, GetAttributes, Get}
 use Rattle.octets.specs.If.{ifb}
 use Rattle.octets.specs.Maybe.{_>>=_, _>>_, isSome}
 use Rattle.octets.specs.Octets.{be, fromBeAfter, fromBe, all, same}
@@ -67,6 +67,15 @@ shown-alone : commandOf 0x0B (parse 6 []) ≡ some (GetAttributes Placeholder)
 unfolding opened
 shown-alone = refl
 
-unknown : commandOf 0x0A (parse 6 []) ≡ some Unsupported
+get-named : commandOf 0x0A (parse 6 (hex "42009407 00000008 30303030 30303031")) ≡ some (Get (Serial 1))
+unfolding opened
+get-named = refl
+
+-- a Key Format Type may not be asked for
+get-more : commandOf 0x0A (parse 6 (hex "42009407 00000008 30303030 30303031 42004205 00000004 00000001 00000000")) ≡ some Invalid
+unfolding opened
+get-more = refl
+
+unknown : commandOf 0x0C (parse 6 []) ≡ some Unsupported
 unfolding opened
 unknown = refl

@@ -14,12 +14,12 @@ use Rattle.tags.specs.Tags.{attributes, cryptographicAlgorithm, cryptographicLe
 use Rattle.identifier.specs.Identifier.{serialOf}
 use Rattle.values.specs.Values.{bitsOk, maskOk, unitOk, totalOk}
 use Rattle.rules.specs.declared.Attributes.{Attributes}
-use Rattle.rules.specs.Numbers.{create, rekey, getAttributes, getUsageAllocation, activate, revoke, destroy}
+use Rattle.rules.specs.Numbers.{create, rekey, get, getAttributes, getUsageAllocation, activate, revoke, destroy}
 use Rattle.rules.specs.States.{codeOk}
 use Rattle.payload.specs.declared.Target.{Target}
 use Rattle.payload.specs.declared.Target.the-variants.{Placeholder, Serial}
 use Rattle.payload.specs.declared.Command.{Command}
-use Rattle.payload.specs.declared.Command.the-variants.{Unsupported, Invalid, Create, Rekey, GetUsageAllocation, Activate, Revoke, Destroy, GetAttributes}
+use Rattle.payload.specs.declared.Command.the-variants.{Unsupported, Invalid, Create, Rekey, GetUsageAllocation, Activate, Revoke, Destroy, GetAttributes, Get}
 
 -- ---- Create
 
@@ -104,7 +104,7 @@ targetIn t = do
   (given, rest) ← optional uniqueIdentifier (bytesOf uniqueIdentifier textString) t
   some (targetOf given, rest)
 
--- Re-key, Activate, Destroy, Get Attributes: nothing more in the request
+-- Re-key, Activate, Destroy, Get Attributes, Get: nothing more in the request
 unfoldable pub aloneIn : (Target → Command) → Items → Option Command
 aloneIn command t = do
   (target, r) ← targetIn t
@@ -151,4 +151,5 @@ command operation t =
     (ifb (eqb operation revoke) (orInvalid (revokeIn t))
     (ifb (eqb operation destroy) (orInvalid (aloneIn Destroy t))
     (ifb (eqb operation getAttributes) (orInvalid (aloneIn GetAttributes t))
-    Unsupported))))))
+    (ifb (eqb operation get) (orInvalid (aloneIn Get t))
+    Unsupported)))))))

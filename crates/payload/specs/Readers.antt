@@ -17,13 +17,13 @@ use Rattle.fields.specs.declared.BodyField.{BodyField}
 use Rattle.fields.specs.declared.BodyField.the-variants.{Body, NoBody}
 use Rattle.identifier.specs.Identifier.{serialOf}
 use Rattle.rules.specs.declared.Attributes.{Attributes}
-use Rattle.rules.specs.Numbers.{rekey, activate, destroy}
+use Rattle.rules.specs.Numbers.{rekey, get, activate, destroy}
 use Rattle.tags.specs.Tags.{uniqueIdentifier}
 use Rattle.payload.specs.Payload.{Limit}
 use Rattle.payload.specs.declared.Target.{Target}
 use Rattle.payload.specs.declared.Target.the-variants.{Placeholder, Serial}
 use Rattle.payload.specs.declared.Command.{Command}
-use Rattle.payload.specs.declared.Command.the-variants.{Rekey, Activate, Destroy, GetAttributes}
+use Rattle.payload.specs.declared.Command.the-variants.{Rekey, Activate, Destroy, GetAttributes, Get}
 use Rattle.payload.specs.declared.TargetRead.{TargetRead}
 use Rattle.payload.specs.declared.TargetRead.the-variants.{Is, InvalidField as InvalidTarget}
 use Rattle.payload.specs.declared.LimitRead.{LimitRead}
@@ -65,7 +65,8 @@ aloneOf operation target =
     ifb (eqb operation rekey) (Rekey target)
     (ifb (eqb operation activate) (Activate target)
     (ifb (eqb operation destroy) (Destroy target)
-    (GetAttributes target)))
+    (ifb (eqb operation get) (Get target)
+    (GetAttributes target))))
 
 -- ---- attributes
 

@@ -2,11 +2,11 @@
 -- Assumes nothing. The laws that tie these to the readers' promises stand in the proofs of the same name.
 use Prim.Native.Nat.{ℕ}
 use mathlib.Core.Option.{Option, none, some}
-use Rattle.rules.specs.Numbers.{create, rekey, getAttributes, getUsageAllocation, activate, revoke, destroy}
+use Rattle.rules.specs.Numbers.{create, rekey, get, getAttributes, getUsageAllocation, activate, revoke, destroy}
 use Rattle.rules.specs.declared.Reason.{Reason}
 use Rattle.rules.specs.declared.Reason.the-variants.{OperationNotSupported, InvalidField}
 use Rattle.payload.specs.declared.Command.{Command}
-use Rattle.payload.specs.declared.Command.the-variants.{Unsupported, Invalid, Create, Rekey, GetUsageAllocation, Activate, Revoke, Destroy, GetAttributes}
+use Rattle.payload.specs.declared.Command.the-variants.{Unsupported, Invalid, Create, Rekey, GetUsageAllocation, Activate, Revoke, Destroy, GetAttributes, Get}
 use Rattle.payload.specs.declared.TargetRead.{TargetRead}
 use Rattle.payload.specs.declared.TargetRead.the-variants.{Is, InvalidField as InvalidTarget}
 use Rattle.payload.specs.declared.LimitRead.{LimitRead}
@@ -27,6 +27,7 @@ operationOf (Activate target) = some activate
 operationOf (Revoke target code) = some revoke
 operationOf (Destroy target) = some destroy
 operationOf (GetAttributes target) = some getAttributes
+operationOf (Get target) = some get
 
 -- the reason with which it fails before any record is looked at
 unfoldable pub reasonOf : Command → Option Reason
@@ -39,6 +40,7 @@ reasonOf (Activate target) = none
 reasonOf (Revoke target code) = none
 reasonOf (Destroy target) = none
 reasonOf (GetAttributes target) = none
+reasonOf (Get target) = none
 
 -- ---- a part of a payload
 

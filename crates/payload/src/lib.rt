@@ -18,6 +18,8 @@ const CREATE: u32 = 0x01;
 
 const REKEY: u32 = 0x04;
 
+const GET: u32 = 0x0A;
+
 const GET_ATTRIBUTES: u32 = 0x0B;
 
 const GET_USAGE_ALLOCATION: u32 = 0x11;
@@ -47,6 +49,7 @@ pub enum Command {
     Revoke { target: Target, code: u32 },
     Destroy { target: Target },
     GetAttributes { target: Target },
+    Get { target: Target },
 }
 
 // The target at the front, with the rest of the run from next on. Or an identifier that is no Text
@@ -288,10 +291,13 @@ fn alone(operation: u32, target: Target) -> Command
     if operation == rules::DESTROY {
         return Command::Destroy { target };
     }
+    if operation == GET {
+        return Command::Get { target };
+    }
     Command::GetAttributes { target }
 }
 
-// The payload of Re-key, Activate, Destroy or Get Attributes.
+// The payload of Re-key, Activate, Destroy, Get or Get Attributes.
 fn read_alone(operation: u32, s: &[u8]) -> Command
     requires { ⌜ isRun (now s) ≡ true ⌝ }
     ensures { λ r. ⌜ r ≡ orInvalid (aloneIn (aloneOf operation) (treeOf (now (s .entry)))) ⌝ }
@@ -405,6 +411,9 @@ pub fn read_command(operation: u32, s: &[u8]) -> Command
         return read_alone(operation, s);
     }
     if operation == GET_ATTRIBUTES {
+        return read_alone(operation, s);
+    }
+    if operation == GET {
         return read_alone(operation, s);
     }
     Command::Unsupported

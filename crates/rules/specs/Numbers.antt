@@ -12,6 +12,9 @@ create = 0x01
 abbrev pub rekey : ℕ
 rekey = 0x04
 
+abbrev pub get : ℕ
+get = 0x0A
+
 abbrev pub getAttributes : ℕ
 getAttributes = 0x0B
 

@@ -32,6 +32,18 @@ cryptographicLength = 0x42002A
 abbrev pub cryptographicUsageMask : ℕ
 cryptographicUsageMask = 0x42002C
 
+abbrev pub keyBlock : ℕ
+keyBlock = 0x420040
+
+abbrev pub keyFormatType : ℕ
+keyFormatType = 0x420042
+
+abbrev pub keyMaterial : ℕ
+keyMaterial = 0x420043
+
+abbrev pub keyValue : ℕ
+keyValue = 0x420045
+
 abbrev pub link : ℕ
 link = 0x42004A
 
@@ -88,6 +100,10 @@ revocationReasonCode = 0x420082
 
 abbrev pub stateTag : ℕ
 stateTag = 0x42008D
+
+-- the object itself; `symmetricKey` is its Object Type
+abbrev pub symmetricKeyTag : ℕ
+symmetricKeyTag = 0x42008F
 
 abbrev pub timeStamp : ℕ
 timeStamp = 0x420092

@@ -19,6 +19,14 @@ pub const CRYPTOGRAPHIC_LENGTH: u32 = 0x42002A;
 
 pub const CRYPTOGRAPHIC_USAGE_MASK: u32 = 0x42002C;
 
+pub const KEY_BLOCK: u32 = 0x420040;
+
+pub const KEY_FORMAT_TYPE: u32 = 0x420042;
+
+pub const KEY_MATERIAL: u32 = 0x420043;
+
+pub const KEY_VALUE: u32 = 0x420045;
+
 pub const LINK: u32 = 0x42004A;
 
 pub const LINK_TYPE: u32 = 0x42004B;
@@ -56,6 +64,8 @@ pub const REVOCATION_REASON: u32 = 0x420081;
 pub const REVOCATION_REASON_CODE: u32 = 0x420082;
 
 pub const STATE: u32 = 0x42008D;
+
+pub const SYMMETRIC_KEY: u32 = 0x42008F;
 
 pub const TIME_STAMP: u32 = 0x420092;
 

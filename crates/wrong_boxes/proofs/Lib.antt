@@ -8,3 +8,4 @@ pub mod Filling
 pub mod Reaching
 pub mod Regranting
 pub mod Waking
+pub mod Handing

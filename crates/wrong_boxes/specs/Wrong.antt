@@ -6,20 +6,26 @@ use mathlib.Core.Path.{_≡_}
 use mathlib.Core.Bool.{Bool, true, not, _&&_}
 use mathlib.Core.Option.{Option, none, some}
 use mathlib.Core.List.{List, [], _∷_, _++_, map}
-use lib.ListN.{length, take}
+use lib.ListN.{length, take, replicate}
 use lib.Dec.{leb, eqb}
 use Rattle.octets.specs.If.{ifb}
 use Rattle.octets.specs.Octets.{over}
 use Rattle.table.specs.declared.Record.{Record}
 use Rattle.table.specs.Records.{stateAt, lastSerial, withPlace}
 use Rattle.search.specs.Search.{isNothing, find}
-use Rattle.rules.specs.declared.Reason.the-variants.{InvalidField}
-use Rattle.rules.specs.Numbers.{active, destroyed, getUsageAllocation}
+use Rattle.rules.specs.declared.Reason.the-variants.{InvalidField, ObjectDestroyed}
+use Rattle.rules.specs.Numbers.{active, destroyed, getUsageAllocation, reasonNumber}
 use Rattle.changes.specs.Records.{inState, withCount}
 use Rattle.ttlv.specs.Items.{encode}
 use Rattle.frame.specs.Frame.{Asked, Frame, optionOf, continue}
+use Rattle.words.specs.Words.{wordsSize, wordsOf}
+use Rattle.payload.specs.declared.Target.the-variants.{Placeholder, Serial}
+use Rattle.payload.specs.declared.Command.{Command}
+use Rattle.payload.specs.declared.Command.the-variants.{Unsupported, Invalid, Create, Rekey, GetUsageAllocation, Activate, Revoke, Destroy, GetAttributes, Get}
 use Rattle.payload.specs.Payload.{command}
-use Rattle.act.specs.declared.Outcome.the-variants.{Failed, Done}
+use Rattle.act.specs.declared.Key.{Key}
+use Rattle.act.specs.declared.Outcome.{Outcome}
+use Rattle.act.specs.declared.Outcome.the-variants.{Failed, Created, Done, Showed, Got}
 use Rattle.answer.specs.Respond.{Answer, respond}
 use Rattle.engine.specs.Effects.{Effect}
 use Rattle.engine.specs.Batch.{Ran, running}
@@ -165,6 +171,41 @@ regranting c ran = responding c (regranted (ran .table) (itemsAsked c) (ran .ans
 -- Units that are asked for an identifier that was issued, and whose record does not stand behind the batch, are granted
 abbrev pub Regrants : Box
 Regrants c e = e ≡ orRefused c (regranting c (ranUnder (λ option. option) c (frameOf c)))
+
+-- the key of identifier x, whatever its bytes
+abbrev pub someKey : ℕ → Key
+someKey x = record { serial = x; bits = 128; material = wordsOf (replicate wordsSize 0) }
+
+-- a Get by identifier that fails with Object Destroyed is answered with a key all the same
+unfoldable pub undeadFor : ℕ → Outcome → Outcome
+undeadFor x (Failed reason) = ifb (eqb (reasonNumber reason) (reasonNumber ObjectDestroyed)) (Got (someKey x)) (Failed reason)
+undeadFor x (Created serial) = Created serial
+undeadFor x (Done serial) = Done serial
+undeadFor x (Showed shown) = Showed shown
+undeadFor x (Got key) = Got key
+
+unfoldable pub undead : Command → Outcome → Outcome
+undead Unsupported o = o
+undead Invalid o = o
+undead (Create wanted) o = o
+undead (Rekey target) o = o
+undead (GetUsageAllocation target amount) o = o
+undead (Activate target) o = o
+undead (Revoke target code) o = o
+undead (Destroy target) o = o
+undead (GetAttributes target) o = o
+undead (Get Placeholder) o = o
+undead (Get (Serial x)) o = undeadFor x o
+
+unfoldable pub handingOut : List Asked → List Answer → List Answer
+handingOut [] answers = []
+handingOut (asked ∷ items) [] = []
+handingOut (asked ∷ items) (a ∷ answers) =
+    record { operation = a .operation; id = a .id; outcome = undead (command (asked .operation) (asked .payload)) (a .outcome) } ∷ handingOut items answers
+
+-- a box that "hands out a destroyed key": it runs as it should under Continue, and answers a Get of a destroyed key with a key
+abbrev pub HandsDead : Box
+HandsDead c e = e ≡ orRefused c (responding c (handingOut (itemsAsked c) (ranUnder (λ option. option) c (frameOf c) .answers)) (ranUnder (λ option. option) c (frameOf c) .table))
 
 -- the key at place 0 made Active
 unfoldable pub woken : List ℕ → List ℕ

@@ -1,6 +1,6 @@
 -- `act_at` meets its contract, deed by deed.
 -- Assumes nothing.
-use Rattle.act.proofs.Returns.{does-replace, does-allocate, does-move, does-show}
+use Rattle.act.proofs.Returns.{does-replace, does-allocate, does-move, does-show, does-give}
 use borrow.Author.Needs.{needs}
 use Rattle.act.proofs.act_at.Statement.{statement}
 use Rattle.act.proofs.act_at.Tie as tie
@@ -29,6 +29,12 @@ enum-told-2 c = search needs
 show-at-requires : tie.Need-show-at-requires
 show-at-requires c κs = search needs
 
+enum-told-3 : tie.Need-enum-told-3
+enum-told-3 c = search needs
+
+give-at-requires : tie.Need-give-at-requires
+give-at-requires c κs = search needs
+
 same-length : tie.Need-same-length
 same-length c = search needs
 
@@ -53,6 +59,12 @@ same-length-4 c = search needs
 returns-4 : tie.Need-returns-4
 returns-4 c = search does-show
 
+same-length-5 : tie.Need-same-length-5
+same-length-5 c = search needs
+
+returns-5 : tie.Need-returns-5
+returns-5 c = search does-give
+
 pub act-at-spec : {M : Type 1} → statement M
 act-at-spec =
     tie.close
@@ -65,6 +77,8 @@ act-at-spec =
     move-at-requires
     enum-told-2
     show-at-requires
+    enum-told-3
+    give-at-requires
     same-length
     returns
     same-length-2
@@ -72,4 +86,6 @@ act-at-spec =
     same-length-3
     returns-3
     same-length-4
-    returns-4)
+    returns-4
+    same-length-5
+    returns-5)

@@ -18,6 +18,9 @@ enum-told-3 c = search needs
 enum-told-4 : tie.Need-enum-told-4
 enum-told-4 c = search needs
 
+enum-told-5 : tie.Need-enum-told-5
+enum-told-5 c = search needs
+
 returns : tie.Need-returns
 unfolding isFailed
 returns c = sym (ap isFailed (c .enum-told .given .1))
@@ -34,5 +37,9 @@ returns-4 : tie.Need-returns-4
 unfolding isFailed
 returns-4 c = sym (ap isFailed (c .enum-told4 .given .1))
 
+returns-5 : tie.Need-returns-5
+unfolding isFailed
+returns-5 c = sym (ap isFailed (c .enum-told5 .given .1))
+
 pub is-failed-spec : {M : Type 1} → statement M
-is-failed-spec = tie.close (tie.spec enum-told enum-told-2 enum-told-3 enum-told-4 returns returns-2 returns-3 returns-4)
+is-failed-spec = tie.close (tie.spec enum-told enum-told-2 enum-told-3 enum-told-4 enum-told-5 returns returns-2 returns-3 returns-4 returns-5)

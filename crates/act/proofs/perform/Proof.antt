@@ -1,6 +1,6 @@
 -- `perform` meets its contract, command by command.
 -- Assumes nothing.
-use Rattle.act.proofs.Returns.{performs-unsupported, performs-invalid, performs-create, performs-rekey, performs-allocation, performs-activate, performs-revoke, performs-destroy, performs-show}
+use Rattle.act.proofs.Returns.{performs-unsupported, performs-invalid, performs-create, performs-rekey, performs-allocation, performs-activate, performs-revoke, performs-destroy, performs-show, performs-get}
 use borrow.Author.Needs.{needs}
 use Rattle.act.proofs.perform.Statement.{statement}
 use Rattle.act.proofs.perform.Tie as tie
@@ -59,6 +59,12 @@ enum-known-command-7 c = search needs
 act-on-requires-6 : tie.Need-act-on-requires-6
 act-on-requires-6 c κs = search needs
 
+enum-known-command-8 : tie.Need-enum-known-command-8
+enum-known-command-8 c = search needs
+
+act-on-requires-7 : tie.Need-act-on-requires-7
+act-on-requires-7 c κs = search needs
+
 returns : tie.Need-returns
 returns c = search performs-unsupported
 
@@ -107,6 +113,12 @@ same-length-7 c = search needs
 returns-9 : tie.Need-returns-9
 returns-9 c = search performs-show
 
+same-length-8 : tie.Need-same-length-8
+same-length-8 c = search needs
+
+returns-10 : tie.Need-returns-10
+returns-10 c = search performs-get
+
 pub perform-spec : {M : Type 1} → statement M
 perform-spec =
     tie.close
@@ -129,6 +141,8 @@ perform-spec =
     act-on-requires-5
     enum-known-command-7
     act-on-requires-6
+    enum-known-command-8
+    act-on-requires-7
     returns
     returns-2
     same-length
@@ -144,4 +158,6 @@ perform-spec =
     same-length-6
     returns-8
     same-length-7
-    returns-9)
+    returns-9
+    same-length-8
+    returns-10)

@@ -35,6 +35,12 @@ showed-arm c = c .before .before .before
 abbrev showed-room : tie.After-write-showed → List ℕ
 showed-room c = showed-arm c .before .before .before .args .out .now
 
+abbrev got-arm : tie.After-write-got → tie.After-outcome5
+got-arm c = c .before .before .before
+
+abbrev got-room : tie.After-write-got → List ℕ
+got-room c = got-arm c .before .before .before .args .out .now
+
 -- the payload of an arm that writes a name alone
 name : (c : tie.After-write-named) → Puts 16 (named uniqueIdentifier (name-arm c .outcome3 .given .0 .0) nil) (midOf 24 (length (name-room c) - 24) (name-room c)) (c .write-named .last .0) (c .write-named .result)
 name c = puts-name (name-room c) _ (c .write-named .ensures) (omega arith)
@@ -103,6 +109,25 @@ write-success-requires-3 : tie.Need-write-success-requires-3
 write-success-requires-3 c κs =
     opening-room (showed-room (c .before .before .before)) (c .before .before .before .write-showed .ensures) (omega arith) (omega arith)
 
+enum-known-outcome-5 : tie.Need-enum-known-outcome-5
+enum-known-outcome-5 c = search needs
+
+sub-write-got : tie.Need-sub-write-got
+sub-write-got c = search needs
+
+part-write-got-start : tie.Need-part-write-got-start
+part-write-got-start c = search needs
+
+part-write-got-end : tie.Need-part-write-got-end
+part-write-got-end c = search needs
+
+write-got-requires : tie.Need-write-got-requires
+write-got-requires c κs = search needs
+
+write-success-requires-4 : tie.Need-write-success-requires-4
+write-success-requires-4 c κs =
+    opening-room (got-room (c .before .before .before)) (c .before .before .before .write-got .ensures) (omega arith) (omega arith)
+
 same-length : tie.Need-same-length
 same-length c = search needs
 
@@ -140,6 +165,16 @@ returns-4 c =
     let written = opened .before .before .before .before in
     puts-outcome (showed-arm written .outcome4 .given .1) (puts-succeeded 248 (showed-room written) (written .write-showed .ensures) (opened .write-success3 .ensures) (omega arith) (omega arith))
 
+same-length-5 : tie.Need-same-length-5
+same-length-5 c = search needs
+
+returns-5 : tie.Need-returns-5
+unfolding outcomeItems
+returns-5 c =
+    let opened = c .before .before in
+    let written = opened .before .before .before .before in
+    puts-outcome (got-arm written .outcome5 .given .1) (puts-succeeded 248 (got-room written) (written .write-got .ensures) (opened .write-success4 .ensures) (omega arith) (omega arith))
+
 pub write-outcome-spec : {M : Type 1} → statement M
 write-outcome-spec =
     tie.close
@@ -164,6 +199,12 @@ write-outcome-spec =
     part-write-showed-end
     write-showed-requires
     write-success-requires-3
+    enum-known-outcome-5
+    sub-write-got
+    part-write-got-start
+    part-write-got-end
+    write-got-requires
+    write-success-requires-4
     same-length
     returns
     same-length-2
@@ -171,4 +212,6 @@ write-outcome-spec =
     same-length-3
     returns-3
     same-length-4
-    returns-4)
+    returns-4
+    same-length-5
+    returns-5)

@@ -1,7 +1,7 @@
 -- `payload::read_command`. By the number of the operation.
 -- Assumes nothing.
 use mathlib.Core.Path.{sym, _∙_}
-use Rattle.payload.proofs.Commands.{of-create, of-rekey, of-allocation, of-activate, of-revoke, of-destroy, of-attributes, of-none}
+use Rattle.payload.proofs.Commands.{of-create, of-rekey, of-allocation, of-activate, of-revoke, of-destroy, of-attributes, of-get, of-none}
 use borrow.Author.Needs.{needs}
 use Rattle.payload.proofs.read_command.Statement.{statement}
 use Rattle.payload.proofs.read_command.Tie as tie
@@ -48,10 +48,17 @@ read-alone-requires-4 c κs = search needs
 returns-7 : tie.Need-returns-7
 returns-7 c = c .read-alone4 .ensures ∙ sym (of-attributes _ _ (c .before .if7 .taken))
 
+read-alone-requires-5 : tie.Need-read-alone-requires-5
+read-alone-requires-5 c κs = search needs
+
 returns-8 : tie.Need-returns-8
-returns-8 c =
-    let at-4 = c .before .before .before in
-    sym (of-none _ _ (at-4 .before .before .before .if1 .left) (at-4 .before .before .if2 .left) (at-4 .before .if3 .left) (at-4 .if4 .left) (c .before .before .if5 .left) (c .before .if6 .left) (c .if7 .left))
+returns-8 c = c .read-alone5 .ensures ∙ sym (of-get _ _ (c .before .if8 .taken))
+
+returns-9 : tie.Need-returns-9
+returns-9 c =
+    let at-4 = c .before .before .before .before in
+    let at-6 = c .before .before in
+    sym (of-none _ _ (at-4 .before .before .before .if1 .left) (at-4 .before .before .if2 .left) (at-4 .before .if3 .left) (at-4 .if4 .left) (at-6 .before .if5 .left) (at-6 .if6 .left) (c .before .if7 .left) (c .if8 .left))
 
 pub read-command-spec : {M : Type 1} → statement M
 read-command-spec =
@@ -71,4 +78,6 @@ read-command-spec =
     returns-6
     read-alone-requires-4
     returns-7
-    returns-8)
+    read-alone-requires-5
+    returns-8
+    returns-9)

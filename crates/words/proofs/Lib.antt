@@ -1,0 +1,4 @@
+-- The laws of thirty-two bytes as four numbers.
+-- Assumes nothing.
+pub mod Laws
+pub mod Unique

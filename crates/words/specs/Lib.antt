@@ -1,0 +1,3 @@
+-- Thirty-two bytes as four numbers.
+-- Assumes nothing.
+pub mod Words
