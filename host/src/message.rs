@@ -105,7 +105,7 @@ pub fn create(length: i32, mask: i32, limit: Option<(i64, u32)>) -> Vec<Node> {
     vec![enumeration(0x420057, 2), structure(0x420125, attributes)]
 }
 
-/// The payload of Re-key, Activate, Destroy and Get Attributes: the identifier, or nothing.
+/// The payload of Re-key, Activate, Destroy, Get and Get Attributes: the identifier, or nothing.
 pub fn target(identifier: Option<&str>) -> Vec<Node> {
     identifier.map(|identifier| text(0x420094, identifier)).into_iter().collect()
 }

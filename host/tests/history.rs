@@ -3,13 +3,13 @@
 
 mod support;
 
-use junctionmoth::model::frame;
+use junctionmoth::model::frame::{self, BatchItem};
 use junctionmoth::model::payload::{self, Action, Order, Target};
 use junctionmoth::model::soundness;
 use junctionmoth::model::table::Table;
 use junctionmoth::model::tags::*;
 use junctionmoth::model::ttlv::{self, Item};
-use std::collections::BTreeMap;
+use std::collections::{BTreeMap, BTreeSet};
 use support::rng::Rng;
 use support::{engines, requests, Case, Effect};
 
@@ -23,7 +23,11 @@ struct Issued {
 #[derive(Default)]
 struct Ledger {
     issued: BTreeMap<u32, Issued>,
+    destroyed: BTreeSet<u32>,
     grants: u64,
+    handed_out: u64,
+    /// Items that asked for the key of a destroyed identifier; each failed.
+    asked_dead: u64,
 }
 
 impl Ledger {
@@ -36,12 +40,23 @@ impl Ledger {
         for (item, answer) in asked.items.iter().zip(answers) {
             let fields = answer.structure(BATCH_ITEM).expect("a Batch Item");
             let Some(payload) = fields.last().and_then(|last| last.structure(RESPONSE_PAYLOAD)) else {
+                self.enter_failure(item, placeholder);
                 placeholder = None;
                 continue;
             };
             let order = payload::read(item.operation, &item.payload).expect("a successful item has an order");
             self.enter_success(&order, named(payload), &mut placeholder);
         }
+    }
+
+    /// Counts a Get that failed on an identifier that was destroyed.
+    fn enter_failure(&mut self, item: &BatchItem, placeholder: Option<u32>) {
+        let named = match payload::read(item.operation, &item.payload) {
+            Ok(Order::Target(Target::Placeholder, Action::Get)) => placeholder,
+            Ok(Order::Target(Target::Identifier(text), Action::Get)) => u32::from_str_radix(&text, 16).ok(),
+            _ => None,
+        };
+        self.asked_dead += u64::from(named.is_some_and(|serial| self.destroyed.contains(&serial)));
     }
 
     fn enter_success(&mut self, order: &Order, answered: u32, placeholder: &mut Option<u32>) {
@@ -63,6 +78,13 @@ impl Ledger {
             Action::GetUsageAllocation(amount) => {
                 known.granted += amount;
                 self.grants += 1;
+            }
+            Action::Destroy => {
+                self.destroyed.insert(target);
+            }
+            Action::Get => {
+                assert!(!self.destroyed.contains(&target), "the key of a destroyed identifier was handed out");
+                self.handed_out += 1;
             }
             _ => {}
         }
@@ -144,6 +166,7 @@ fn step(rng: &mut Rng, table: &Table, ledger: &mut Ledger) -> Effect {
 #[test]
 fn grants_are_counted_and_destroyed_keys_stay_so() {
     let (mut grants, mut full, mut taken_over) = (0, 0, 0);
+    let (mut handed_out, mut asked_dead) = (0, 0);
     for seed in 0..200 {
         let mut rng = Rng::new(seed);
         let mut table = Table::blank();
@@ -153,9 +176,13 @@ fn grants_are_counted_and_destroyed_keys_stay_so() {
             table = Table::decode(&effect.table);
         }
         grants += ledger.grants;
+        handed_out += ledger.handed_out;
+        asked_dead += ledger.asked_dead;
         full += u32::from(table.standing().count() == 64);
         taken_over += u32::from(ledger.issued.len() > 64);
     }
     println!("{grants} grants; {full} of 200 runs ended with a full table, {taken_over} took over destroyed places");
+    println!("{handed_out} keys handed out, and {asked_dead} that were asked for after their Destroy were not");
     assert!(grants > 100 && full > 10 && taken_over > 10);
+    assert!(handed_out > 100 && asked_dead > 100);
 }

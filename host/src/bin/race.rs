@@ -86,6 +86,7 @@ fn operations(size: u32) -> Vec<(&'static str, Vec<Node>)> {
         ("Create", batch(&|_| item(0x01, Some(b"A1"), create(256, 4, Some((1000, 2)))))),
         ("Activate", batch(&|index| item(0x12, Some(b"A1"), target(Some(&pre_active(index)))))),
         ("Get Usage Allocation", batch(&|index| item(0x11, Some(b"A1"), allocation(Some(&active(index)), 5)))),
+        ("Get", batch(&|index| item(0x0A, Some(b"A1"), target(Some(&active(index)))))),
         ("Get Attributes", batch(&|index| item(0x0B, Some(b"A1"), target(Some(&active(index)))))),
     ]
 }

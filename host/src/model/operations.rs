@@ -1,4 +1,4 @@
-//! The seven operations on records.
+//! The eight operations on records.
 //! Starts from a sound table; a failed item leaves it as it was.
 
 use super::frame::BatchItem;
@@ -25,6 +25,7 @@ pub enum Success {
     Rekeyed(u32),
     Done(u32),
     Attributes(Record),
+    Key(Record),
 }
 
 /// The answer to an item.
@@ -55,7 +56,7 @@ impl<'a> KeyBox<'a> {
         let result = self.carry_out(item, fresh);
         match &result {
             Ok(Success::Created(serial) | Success::Rekeyed(serial)) => self.placeholder = Some(*serial),
-            Ok(Success::Done(_) | Success::Attributes(_)) => {}
+            Ok(Success::Done(_) | Success::Attributes(_) | Success::Key(_)) => {}
             Err(_) => {
                 self.table = before;
                 self.placeholder = None;
@@ -88,6 +89,8 @@ impl<'a> KeyBox<'a> {
         let record = self.record(serial);
         match action {
             Action::Rekey => return self.rekey(serial, fresh),
+            Action::Get if [5, 6].contains(&record.state) => return Err(Reason::ObjectDestroyed),
+            Action::Get => return Ok(Success::Key(record.clone())),
             Action::GetAttributes => return Ok(Success::Attributes(record.clone())),
             Action::GetUsageAllocation(amount) => allocate(record, amount)?,
             Action::Activate => record.state = activated(record.state)?,

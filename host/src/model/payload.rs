@@ -43,6 +43,7 @@ pub enum Action {
     Activate,
     Revoke(u32),
     Destroy,
+    Get,
     GetAttributes,
 }
 
@@ -50,7 +51,7 @@ pub enum Action {
 pub fn read(operation: u32, payload: &[Item]) -> Result<Order, Reason> {
     match operation {
         CREATE => read_create(payload).map(Order::Create).ok_or(Reason::InvalidField),
-        REKEY | GET_ATTRIBUTES | GET_USAGE_ALLOCATION | ACTIVATE | REVOKE | DESTROY => {
+        REKEY | GET | GET_ATTRIBUTES | GET_USAGE_ALLOCATION | ACTIVATE | REVOKE | DESTROY => {
             let (target, rest) = read_target(payload).ok_or(Reason::InvalidField)?;
             let action = read_action(operation, rest).ok_or(Reason::InvalidField)?;
             Ok(Order::Target(target, action))
@@ -73,6 +74,7 @@ fn read_target(payload: &[Item]) -> Option<(Target, &[Item])> {
 fn read_action(operation: u32, rest: &[Item]) -> Option<Action> {
     match (operation, rest) {
         (REKEY, []) => Some(Action::Rekey),
+        (GET, []) => Some(Action::Get),
         (GET_ATTRIBUTES, []) => Some(Action::GetAttributes),
         (ACTIVATE, []) => Some(Action::Activate),
         (DESTROY, []) => Some(Action::Destroy),

@@ -50,6 +50,14 @@ fn payload(success: &Success) -> Vec<Item> {
         Success::Attributes(record) => {
             vec![text(UNIQUE_IDENTIFIER, record.serial), structure(ATTRIBUTES, attributes(record))]
         }
+        Success::Key(record) => {
+            let block = structure(KEY_BLOCK, key_block(record));
+            vec![
+                enumeration(OBJECT_TYPE, 2),
+                text(UNIQUE_IDENTIFIER, record.serial),
+                structure(SYMMETRIC_KEY, vec![block]),
+            ]
+        }
     }
 }
 
@@ -76,6 +84,18 @@ fn attributes(record: &Record) -> Vec<Item> {
         }
     }
     fields
+}
+
+/// Key Format Type Raw, Key Value { Key Material }, algorithm, length
+fn key_block(record: &Record) -> Vec<Item> {
+    let material = record.material[..usize::from(record.length / 8)].to_vec();
+    let value = vec![Item { tag: KEY_MATERIAL, value: Value::Bytes(material) }];
+    vec![
+        enumeration(KEY_FORMAT_TYPE, 1),
+        structure(KEY_VALUE, value),
+        enumeration(CRYPTOGRAPHIC_ALGORITHM, 3),
+        integer(CRYPTOGRAPHIC_LENGTH, i32::from(record.length)),
+    ]
 }
 
 fn structure(tag: u32, items: Vec<Item>) -> Item {

@@ -1,4 +1,4 @@
-//! The seven operations on the stored table.
+//! The eight operations on the stored table.
 //! Starts from a sound table and writes only when an item succeeds.
 
 use super::request::{BatchItem, Order, Target, Unusable, Wanted};
@@ -22,6 +22,7 @@ pub enum Outcome {
     Created(u32),
     Named(u32),
     Described(Line, Usage),
+    HandedOut(Line, [u8; 32]),
     Failed(Reason),
 }
 
@@ -72,6 +73,13 @@ impl<'a> Session<'a> {
             Order::Revoke(target, 2 | 3) => self.change_state(target, &COMPROMISE),
             Order::Revoke(target, _) => self.change_state(target, &REVOKE),
             Order::Destroy(target) => self.change_state(target, &DESTROY),
+            Order::Key(target) => {
+                let (place, line) = self.find(target)?;
+                if matches!(line.state, 5 | 6) {
+                    return Err(Reason::ObjectDestroyed);
+                }
+                Ok(Outcome::HandedOut(line, self.table.material(place)))
+            }
             Order::Attributes(target) => {
                 let (place, line) = self.find(target)?;
                 Ok(Outcome::Described(line, self.table.usage(place)))

@@ -27,6 +27,7 @@ pub enum Order<'a> {
     Activate(Target<'a>),
     Revoke(Target<'a>, u32),
     Destroy(Target<'a>),
+    Key(Target<'a>),
     Attributes(Target<'a>),
 }
 
@@ -91,7 +92,7 @@ impl<'a> BatchItem<'a> {
 
     /// What the item asks for.
     pub fn order(&self) -> Result<Order<'a>, Unusable> {
-        if !matches!(self.operation, 0x01 | 0x04 | 0x0B | 0x11..=0x14) {
+        if !matches!(self.operation, 0x01 | 0x04 | 0x0A | 0x0B | 0x11..=0x14) {
             return Err(Unusable::Operation);
         }
         let mut payload = self.payload;
@@ -111,6 +112,7 @@ fn read_order<'a>(operation: u32, payload: &mut Fields<'a>) -> Option<Order<'a>>
     let target = read_target(payload)?;
     match operation {
         0x04 => Some(Order::Rekey(target)),
+        0x0A => Some(Order::Key(target)),
         0x0B => Some(Order::Attributes(target)),
         0x11 => read_amount(payload).map(|amount| Order::Allocate(target, amount)),
         0x12 => Some(Order::Activate(target)),

@@ -92,6 +92,12 @@ impl<'a> Table<'a> {
         Usage { total, count, mask: (mask >> 32) as u32 }
     }
 
+    pub fn material(&self, place: usize) -> [u8; 32] {
+        let mut material = [0; 32];
+        material.copy_from_slice(&self.bodies[place % PLACES][24..]);
+        material
+    }
+
     pub fn set_line(&mut self, place: usize, line: Line) {
         self.lines[place % PLACES] = line.bytes();
     }

@@ -116,6 +116,11 @@ impl<'a> Writer<'a> {
                 self.serial(0x42009407, line.serial);
                 self.attributes(line, usage);
             }
+            Outcome::HandedOut(line, material) => {
+                self.word(0x42005705, 2);
+                self.serial(0x42009407, line.serial);
+                self.key(line, material);
+            }
             Outcome::Failed(_) => {}
         }
         self.close(payload);
@@ -137,6 +142,20 @@ impl<'a> Writer<'a> {
         self.link(0x107, line.replaced);
         self.link(0x106, line.replacement);
         self.close(attributes);
+    }
+
+    /// A Symmetric Key with its Key Block, in the format Raw.
+    fn key(&mut self, line: &Line, material: &[u8; 32]) {
+        let key = self.open(0x42008F01);
+        let block = self.open(0x42004001);
+        self.word(0x42004205, 1);
+        let value = self.open(0x42004501);
+        self.byte_string(0x42004308, material.get(..usize::from(line.length / 8)).unwrap_or(material));
+        self.close(value);
+        self.word(0x42002805, 3);
+        self.word(0x42002A02, u32::from(line.length));
+        self.close(block);
+        self.close(key);
     }
 
     fn link(&mut self, link_type: u32, serial: u32) {

@@ -14,9 +14,10 @@ use junctionmoth::Refusal;
 use std::collections::BTreeMap;
 
 /// The reasons that can be given to each operation: these must occur, and no others.
-const REASONS: [(&str, Option<u32>, &[Reason]); 8] = [
+const REASONS: [(&str, Option<u32>, &[Reason]); 9] = [
     ("Create", Some(CREATE), &[InvalidField, ServerLimitExceeded]),
     ("Re-key", Some(REKEY), &[InvalidField, ObjectNotFound, ObjectDestroyed, PermissionDenied, ServerLimitExceeded]),
+    ("Get", Some(GET), &[InvalidField, ObjectNotFound, ObjectDestroyed]),
     ("Get Attributes", Some(GET_ATTRIBUTES), &[InvalidField, ObjectNotFound]),
     (
         "Get Usage Allocation",

@@ -5,7 +5,7 @@ use junctionmoth::message::*;
 use junctionmoth::model::operations::identifier;
 use junctionmoth::model::table::{Record, Table};
 
-const SUPPORTED: [u32; 7] = [0x01, 0x04, 0x0B, 0x11, 0x12, 0x13, 0x14];
+const SUPPORTED: [u32; 8] = [0x01, 0x04, 0x0A, 0x0B, 0x11, 0x12, 0x13, 0x14];
 
 /// A request with a right frame and right numbers; once in a long while an ID is too short or too long.
 pub fn accepted(rng: &mut Rng, table: &Table) -> Node {
@@ -29,7 +29,7 @@ pub fn batch_item(rng: &mut Rng, table: &Table) -> Node {
 
 fn unsupported(rng: &mut Rng) -> u32 {
     let any = rng.next() as u32;
-    rng.pick(&[0, 2, 3, 5, 8, 0x0A, 0x0C, 0x10, 0x15, 0x3B, 0x101, 0x8000_0001, u32::MAX, any])
+    rng.pick(&[0, 2, 3, 5, 8, 9, 0x0C, 0x10, 0x15, 0x3B, 0x101, 0x8000_0001, u32::MAX, any])
 }
 
 fn id(rng: &mut Rng) -> Option<Vec<u8>> {
@@ -62,6 +62,7 @@ fn payload(rng: &mut Rng, table: &Table, operation: u32) -> Vec<Node> {
 fn fitting(rng: &mut Rng, table: &Table, operation: u32) -> Option<u32> {
     let fits = |record: &&Record| match operation {
         0x04 => record.state < 5 && record.replacement == 0,
+        0x0A => record.state < 5,
         0x11 => record.state == 2 && record.unit != 0,
         0x12 => record.state == 1,
         0x13 => record.state < 4 || record.state == 5,
