@@ -73,7 +73,8 @@ static inline void junctionmoth_blank(uint8_t table[JUNCTIONMOTH_TABLE_SIZE])
  * clock
  *     POSIX seconds. Any value is taken and written as the response's Time Stamp.
  * out, out_len
- *     Room for the response, JUNCTIONMOTH_ROOM_LEAST bytes or more.
+ *     Room for the response, JUNCTIONMOTH_ROOM_LEAST bytes or more. A response to Get holds key bytes:
+ *     the host sends it over a channel that keeps them, and wipes out and its own copies afterwards.
  * response_len
  *     Set to the length of the response, or to 0. Never NULL.
  *
@@ -89,7 +90,7 @@ static inline void junctionmoth_blank(uint8_t table[JUNCTIONMOTH_TABLE_SIZE])
  * It always returns. It allocates nothing, needs memcpy and memset and nothing else of the C library,
  * and keeps nothing between calls, so threads may call it at the same time on different tables. It
  * takes less than 4 KB of stack and does not wipe what it used there: material of keys that were
- * looked at or made can be left on the stack, and is the host's to wipe.
+ * looked at, made or handed out can be left on the stack, and is the host's to wipe.
  */
 uint32_t junctionmoth_serve(const uint8_t *JUNCTIONMOTH_RESTRICT request, size_t request_len,
                             uint8_t *JUNCTIONMOTH_RESTRICT table, size_t table_len,
