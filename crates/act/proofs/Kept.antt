@@ -28,7 +28,8 @@ use Rattle.frame.specs.Frame.{Asked}
 use Rattle.payload.specs.declared.Command.{Command}
 use Rattle.payload.specs.declared.Command.the-variants.{Unsupported, Invalid, Create, Rekey, GetUsageAllocation, Activate, Revoke, Destroy, GetAttributes, Get}
 use Rattle.payload.specs.Payload.{command}
-use Rattle.act.specs.Act.{Env, Did, Plan, carried, sought, createPlan, rekeyPlan, allocationPlan, activatePlan, revokePlan, destroyPlan, showPlan, getPlan, onFound, plan, step, inPlaces, performing}
+use Rattle.plans.specs.Plans.{Env, Did, Plan, carried, createPlan, rekeyPlan, allocationPlan, activatePlan, revokePlan, destroyPlan, showPlan, getPlan, inPlaces}
+use Rattle.act.specs.Act.{sought, onFound, plan, step, performing}
 
 -- bytes, as many as before
 pub record Kept (t u : List ℕ) : Type 0 where

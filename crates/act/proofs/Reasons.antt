@@ -9,7 +9,8 @@ use Rattle.rules.specs.declared.Reason.{Reason}
 use Rattle.payload.specs.Reasons.{reasonOf}
 use Rattle.payload.specs.declared.Command.{Command}
 use Rattle.payload.specs.declared.Command.the-variants.{Unsupported, Invalid, Create, Rekey, GetUsageAllocation, Activate, Revoke, Destroy, GetAttributes, Get}
-use Rattle.act.specs.Act.{Env, refusal, plan}
+use Rattle.plans.specs.Plans.{Env, refusal}
+use Rattle.act.specs.Act.{plan}
 
 pub plan-reason : (env : Env) (holder : ℕ) (t : List ℕ) (c : Command) {reason : Reason} → reasonOf c ≡ some reason → plan env holder t c ≡ refusal t reason
 unfolding plan reasonOf

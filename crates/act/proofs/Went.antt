@@ -28,8 +28,9 @@ use Rattle.payload.specs.declared.Target.{Target}
 use Rattle.payload.specs.declared.Command.{Command}
 use Rattle.payload.specs.declared.Command.the-variants.{Unsupported, Invalid, Create, Rekey, GetUsageAllocation, Activate, Revoke, Destroy, GetAttributes, Get}
 use Rattle.payload.specs.Payload.{command}
-use Rattle.act.specs.declared.Outcome.the-variants.{Showed, Got}
-use Rattle.act.specs.Act.{Env, Did, Plan, sought, failing, carried, createPlan, rekeyPlan, changed, allocationPlan, activatePlan, revokePlan, destroyPlan, shownOf, keyOf, showPlan, getPlan, onFound, plan, step}
+use Rattle.plans.specs.declared.Outcome.the-variants.{Showed, Got}
+use Rattle.plans.specs.Plans.{Env, Did, Plan, failing, carried, createPlan, rekeyPlan, changed, allocationPlan, activatePlan, revokePlan, destroyPlan, shownOf, keyOf, showPlan, getPlan}
+use Rattle.act.specs.Act.{sought, onFound, plan, step}
 
 -- a command that moves a state: its operation, its revocation code, its target
 pub data Moving : Command → ℕ → ℕ → Target → Type 0 where

@@ -18,8 +18,8 @@ use Rattle.fields.specs.Fields.{startsWith, bytesOf, bodyOf, optional}
 use Rattle.octets.proofs.Bools.{both, and-i}
 use Rattle.tags.specs.Tags.{batchCount, batchItem, operationTag, protocolVersion, protocolVersionMajor, protocolVersionMinor, uniqueBatchItemId, responseHeader, responseMessage, timeStamp}
 use Rattle.frame.specs.Frame.{idMost, idOk, idBytes, batchMost}
-use Rattle.act.specs.declared.Outcome.{Outcome}
-use Rattle.act.specs.declared.Outcome.the-variants.{Failed, Created, Done, Showed, Got}
+use Rattle.plans.specs.declared.Outcome.{Outcome}
+use Rattle.plans.specs.declared.Outcome.the-variants.{Failed, Created, Done, Showed, Got}
 use Rattle.answer.specs.Respond.{Answer, Response, outcomeItems, idItems, answerItems, batchItems, versionItems, headerItems, respond}
 use Rattle.answer.specs.Read.{answerIn, answersOf, headIn, outcomeOk, answerOk, allowed, ifAllowed, answersIn}
 use Rattle.octets.proofs.Maybe.{not-some, some-is, on-bind, on-test}

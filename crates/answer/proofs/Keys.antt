@@ -21,10 +21,10 @@ use Rattle.table.specs.declared.Record.{Record}
 use Rattle.words.specs.declared.Words.{Words}
 use Rattle.words.specs.Words.{wordsOf, wordBytes, wordsOk, filled}
 use Rattle.words.proofs.Laws.{length-words, words-back, words-spell, filled-take}
-use Rattle.act.specs.declared.Key.{Key}
-use Rattle.act.specs.declared.Outcome.{Outcome}
-use Rattle.act.specs.declared.Outcome.the-variants.{Got}
-use Rattle.act.specs.Act.{keyOf}
+use Rattle.plans.specs.declared.Key.{Key}
+use Rattle.plans.specs.declared.Outcome.{Outcome}
+use Rattle.plans.specs.declared.Outcome.the-variants.{Got}
+use Rattle.plans.specs.Plans.{keyOf}
 use Rattle.answer.specs.Respond.{word, named, raw, materialOf, keyBlockItems, keyItems}
 use Rattle.answer.specs.Read.{keyRead, keyBlockIn, keyIn, gotIn, serialOk, keyOk}
 use Rattle.answer.proofs.Fields.{ended-is, bytes-back, body-back, bytes-spells, body-spells, spelled-back, spelled-spells, fixed-back, fixed-spells, serial-in-back, serial-in-spells}

@@ -16,7 +16,7 @@ use Rattle.fields.specs.Fields.{startsWith, bodyOf, optional}
 use Rattle.octets.proofs.Bools.{both}
 use Rattle.tags.specs.Tags.{usageLimits, usageLimitsCount, usageLimitsTotal, usageLimitsUnit}
 use Rattle.values.specs.Values.{unitOk, totalOk}
-use Rattle.act.specs.declared.Shown.{Shown}
+use Rattle.plans.specs.declared.Shown.{Shown}
 use Rattle.answer.specs.Respond.{word, long, limitItems}
 use Rattle.answer.specs.Read.{Limits, limitsFirst, orNoLimits}
 use Rattle.answer.proofs.Tests.{on-or}

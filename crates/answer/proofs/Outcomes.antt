@@ -19,8 +19,8 @@ use Rattle.tags.specs.Tags.{responsePayload, resultReason, resultStatus}
 use Rattle.rules.specs.declared.Reason.{Reason}
 use Rattle.rules.specs.declared.Reason.the-variants.{OperationNotSupported, InvalidField, ObjectNotFound, ObjectDestroyed, PermissionDenied, WrongKeyLifecycleState, UsageLimitExceeded, ServerLimitExceeded}
 use Rattle.rules.specs.Numbers.{reasonNumber, create, get, getAttributes, success, operationFailed}
-use Rattle.act.specs.declared.Outcome.{Outcome}
-use Rattle.act.specs.declared.Outcome.the-variants.{Failed, Created, Done, Showed, Got}
+use Rattle.plans.specs.declared.Outcome.{Outcome}
+use Rattle.plans.specs.declared.Outcome.the-variants.{Failed, Created, Done, Showed, Got}
 use Rattle.answer.specs.Respond.{word, succeeded, outcomeItems}
 use Rattle.answer.specs.Read.{doneIn, showedIn, gotIn, answersDone, payloadIn, reasons, reasonAmong, failureIn, successIn, outcomeIn, serialOk, shownOk, keyOk, outcomeOk}
 use Rattle.octets.proofs.Maybe.{not-some, some-is, on-bind, on-test}

@@ -16,9 +16,9 @@ use Rattle.octets.proofs.Bools.{both}
 use Rattle.tags.specs.Tags.{attributes, cryptographicAlgorithm, cryptographicLength, cryptographicUsageMask, objectType, uniqueIdentifier, usageLimits, stateTag}
 use Rattle.payload.specs.Payload.{symmetricKey, aes}
 use Rattle.values.specs.Values.{bitsOk, maskOk}
-use Rattle.act.specs.declared.Shown.{Shown}
-use Rattle.act.specs.declared.Outcome.{Outcome}
-use Rattle.act.specs.declared.Outcome.the-variants.{Created, Done, Showed}
+use Rattle.plans.specs.declared.Shown.{Shown}
+use Rattle.plans.specs.declared.Outcome.{Outcome}
+use Rattle.plans.specs.declared.Outcome.the-variants.{Created, Done, Showed}
 use Rattle.answer.specs.Respond.{word, named, limitItems, linkItems, attributeItems, replacedObjectLink, replacementObjectLink}
 use Rattle.answer.specs.Read.{linkFirst, shownIn, createdIn, doneIn, showedIn, linkOk, serialOk, shownOk}
 use Rattle.octets.proofs.Maybe.{some-is, on-bind, on-test}

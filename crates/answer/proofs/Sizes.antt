@@ -19,10 +19,10 @@ use Rattle.identifier.proofs.Texts.{length-identifier}
 use Rattle.tags.specs.Tags.{batchItem, keyMaterial}
 use Rattle.frame.specs.Frame.{idMost}
 use Rattle.words.proofs.Laws.{length-words}
-use Rattle.act.specs.declared.Shown.{Shown}
-use Rattle.act.specs.declared.Key.{Key}
-use Rattle.act.specs.declared.Outcome.{Outcome}
-use Rattle.act.specs.declared.Outcome.the-variants.{Failed, Created, Done, Showed, Got}
+use Rattle.plans.specs.declared.Shown.{Shown}
+use Rattle.plans.specs.declared.Key.{Key}
+use Rattle.plans.specs.declared.Outcome.{Outcome}
+use Rattle.plans.specs.declared.Outcome.the-variants.{Failed, Created, Done, Showed, Got}
 use Rattle.answer.specs.Respond.{Answer, word, long, named, limitItems, linkItems, attributeItems, materialOf, keyBlockItems, keyItems, outcomeItems, idItems, answerItems, batchItems, replacedObjectLink, replacementObjectLink}
 use Rattle.answer.specs.Read.{answerOk}
 use Rattle.answer.specs.Front.{longestItem}

@@ -23,10 +23,10 @@ use Rattle.identifier.specs.Identifier.{identifier}
 use Rattle.identifier.proofs.Texts.{length-identifier, identifier-text}
 use Rattle.frame.specs.Frame.{idMost}
 use Rattle.rules.specs.Numbers.{reasonNumber, success, operationFailed}
-use Rattle.act.specs.declared.Shown.{Shown}
-use Rattle.act.specs.declared.Key.{Key}
-use Rattle.act.specs.declared.Outcome.{Outcome}
-use Rattle.act.specs.declared.Outcome.the-variants.{Failed, Created, Done, Showed, Got}
+use Rattle.plans.specs.declared.Shown.{Shown}
+use Rattle.plans.specs.declared.Key.{Key}
+use Rattle.plans.specs.declared.Outcome.{Outcome}
+use Rattle.plans.specs.declared.Outcome.the-variants.{Failed, Created, Done, Showed, Got}
 use Rattle.answer.specs.Respond.{Answer, Response, word, long, named, limitItems, linkItems, attributeItems, raw, materialOf, keyValueItems, keyItems, succeeded, outcomeItems, idItems, answerItems, batchItems, versionItems, headerItems, respond, replacedObjectLink, replacementObjectLink}
 use Rattle.answer.specs.Read.{Limits, answerOk, allowed}
 use Rattle.answer.specs.Front.{responseMost}

@@ -9,8 +9,8 @@ use lib.ListN.{length, replicate}
 use Rattle.hex.specs.Texts.{hex}
 use Rattle.words.specs.Words.{wordsOf, wordBytes, wordsOk, filled}
 use Rattle.rules.specs.declared.Reason.the-variants.{OperationNotSupported}
-use Rattle.act.specs.declared.Outcome.the-variants.{Failed, Done, Showed, Got}
-use Rattle.answer.specs.Respond.{Answer, Response}
+use Rattle.plans.specs.declared.Outcome.the-variants.{Failed, Done, Showed, Got}
+use Rattle.answer.specs.Respond.{Answer, Response, limitItems, linkItems, attributeItems, materialOf, keyItems, outcomeItems, idItems, answerItems, batchItems, versionItems, headerItems, respond}
 use Rattle.octets.specs.If.{ifb}
 use Rattle.octets.specs.Maybe.{_>>=_, _>>_, isSome}
 use Rattle.octets.specs.Octets.{be, fromBeAfter, fromBe, all, same}
@@ -21,7 +21,6 @@ use Rattle.ttlv.specs.Parse.{headed, firstOf, putValue, putGroup, more, walk, p
 use Rattle.fields.specs.Fields.{startsWith, bytesOf, bodyOf, numberOf, optional}
 use Rattle.identifier.specs.Identifier.{digits, identifier, fromDigitsAfter, serialOf}
 use Rattle.frame.specs.Frame.{versionIn, headerIn, idOk, idBytes, itemIn, itemsIn, frameIn, optionOf, framing, framed}
-use Rattle.answer.specs.Respond.{limitItems, linkItems, attributeItems, materialOf, keyItems, outcomeItems, idItems, answerItems, batchItems, versionItems, headerItems, respond}
 use Rattle.answer.specs.Read.{spelled, fixed, serialIn, limitsFirst, orNoLimits, linkFirst, orNoLink, linkIn, shownIn, createdIn, doneIn, showedIn, keyRead, keyBlockIn, keyIn, gotIn, payloadIn, reasonAmong, failureIn, successIn, outcomeIn, answerIn, answersOf, headIn, shownOk, keyOk, outcomeOk, answerOk, allowed, ifAllowed, answersIn}
 
 -- 01's card: "Activate of the Pre-Active "00000001", alone, no Unique Batch Item ID, clock 0, whole response of 152 bytes"

@@ -21,10 +21,10 @@ use Rattle.rules.specs.declared.Reason.the-variants.{OperationNotSupported, Inv
 use Rattle.rules.specs.Numbers.{reasonNumber, create, rekey, get, getAttributes, getUsageAllocation, activate, revoke, destroy, success, operationFailed}
 use Rattle.changes.specs.Changes.{serialMost}
 use Rattle.words.specs.Words.{wordsOf, wordBytes, wordsOk, filled}
-use Rattle.act.specs.declared.Shown.{Shown}
-use Rattle.act.specs.declared.Key.{Key}
-use Rattle.act.specs.declared.Outcome.{Outcome}
-use Rattle.act.specs.declared.Outcome.the-variants.{Failed, Created, Done, Showed, Got}
+use Rattle.plans.specs.declared.Shown.{Shown}
+use Rattle.plans.specs.declared.Key.{Key}
+use Rattle.plans.specs.declared.Outcome.{Outcome}
+use Rattle.plans.specs.declared.Outcome.the-variants.{Failed, Created, Done, Showed, Got}
 use Rattle.frame.specs.Frame.{idMost, idOk, idBytes, batchMost}
 use Rattle.answer.specs.Respond.{Answer, Response, raw, materialOf, replacedObjectLink, replacementObjectLink}
 

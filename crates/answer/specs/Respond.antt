@@ -13,10 +13,10 @@ use Rattle.payload.specs.Payload.{symmetricKey, aes}
 use Rattle.identifier.specs.Identifier.{identifier}
 use Rattle.rules.specs.Numbers.{success, operationFailed, reasonNumber}
 use Rattle.words.specs.Words.{wordBytes}
-use Rattle.act.specs.declared.Shown.{Shown}
-use Rattle.act.specs.declared.Key.{Key}
-use Rattle.act.specs.declared.Outcome.{Outcome}
-use Rattle.act.specs.declared.Outcome.the-variants.{Failed, Created, Done, Showed, Got}
+use Rattle.plans.specs.declared.Shown.{Shown}
+use Rattle.plans.specs.declared.Key.{Key}
+use Rattle.plans.specs.declared.Outcome.{Outcome}
+use Rattle.plans.specs.declared.Outcome.the-variants.{Failed, Created, Done, Showed, Got}
 
 -- ---- what a response says
 

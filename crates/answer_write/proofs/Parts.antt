@@ -10,7 +10,7 @@ use Rattle.ttlv_types.specs.Types.{byteString}
 use Rattle.ttlv.specs.Items.{Items, nil, value}
 use Rattle.ttlv_put.specs.Write.{join, WroteValue}
 use Rattle.tags.specs.Tags.{uniqueBatchItemId}
-use Rattle.act.specs.declared.Outcome.{Outcome}
+use Rattle.plans.specs.declared.Outcome.{Outcome}
 use Rattle.answer.specs.Respond.{idItems, outcomeItems}
 use Rattle.attributes_write.specs.Puts.{Puts}
 use Rattle.attributes_write.proofs.Compose.{puts-nil, puts-value}

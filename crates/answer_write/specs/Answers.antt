@@ -6,7 +6,7 @@ use lib.ListN.{take}
 use Rattle.ttlv_types.specs.Types.{structure, enumeration}
 use Rattle.ttlv.specs.Items.{nil, head, encode}
 use Rattle.frame.specs.declared.ItemId.{ItemId}
-use Rattle.act.specs.declared.Outcome.{Outcome}
+use Rattle.plans.specs.declared.Outcome.{Outcome}
 use Rattle.tags.specs.Tags.{resultStatus, responsePayload}
 use Rattle.rules.specs.Numbers.{success}
 use Rattle.answer.specs.Respond.{Answer, word}

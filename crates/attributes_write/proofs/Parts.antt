@@ -13,7 +13,7 @@ use Rattle.ttlv_put.specs.Write.{join, WroteValue}
 use Rattle.identifier.specs.Identifier.{identifier}
 use Rattle.identifier.proofs.Texts.{length-identifier, identifier-text}
 use Rattle.tags.specs.Tags.{tagOk, usageLimits, usageLimitsCount, usageLimitsTotal, usageLimitsUnit, link, linkType, linkedObjectIdentifier}
-use Rattle.act.specs.declared.Shown.{Shown}
+use Rattle.plans.specs.declared.Shown.{Shown}
 use Rattle.answer.specs.Respond.{word, long, named, limitItems, linkItems}
 use Rattle.attributes_write.specs.Puts.{Puts}
 use Rattle.attributes_write.proofs.Compose.{puts-value, join-if}

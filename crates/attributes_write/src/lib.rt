@@ -12,7 +12,7 @@ ghost use Rattle.payload.specs.Payload.{aes};
 ghost use Rattle.identifier.specs.Identifier.{identifier};
 ghost use Rattle.answer.specs.Respond.{word, long, named, limitItems, linkItems, attributeItems, replacedObjectLink, replacementObjectLink};
 ghost use Rattle.attributes_write.specs.Puts.{Puts};
-use act::Shown;
+use plans::Shown;
 
 // Values of Enumerations.
 const AES: u32 = 3;

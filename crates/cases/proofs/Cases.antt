@@ -21,7 +21,8 @@ use Rattle.rules.specs.Tests.{due}
 use Rattle.frame.specs.Frame.{versionIn, headerIn, idOk, idBytes, itemIn, itemsIn, frameIn, optionOf, framing, framed}
 use Rattle.payload.specs.Payload.{limitIn, limitFirst, wantedOf, limitsIn, maskedIn, attributesIn, createIn, targetOf, targetIn, aloneIn, allocationIn, revokeIn, orInvalid, command}
 use Rattle.words.specs.Words.{wordsOf, wordBytes, wordsOk, filled}
-use Rattle.act.specs.Act.{sought, carried, shownOf, createPlan, rekeyPlan, allocationPlan, activatePlan, revokePlan, destroyPlan, showPlan, onFound, plan, step, isFailed, keyOf, getPlan}
+use Rattle.act.specs.Act.{sought, onFound, plan, step}
+use Rattle.plans.specs.Plans.{carried, shownOf, createPlan, rekeyPlan, allocationPlan, activatePlan, revokePlan, destroyPlan, showPlan, isFailed, keyOf, getPlan}
 use Rattle.answer.specs.Read.{spelled, fixed, serialIn, limitsFirst, orNoLimits, linkFirst, orNoLink, linkIn, shownIn, createdIn, doneIn, showedIn, payloadIn, reasonAmong, failureIn, successIn, outcomeIn, answerIn, answersOf, headIn, shownOk, outcomeOk, answerOk, allowed, ifAllowed, answersIn, keyRead, keyBlockIn, keyIn, gotIn, keyOk}
 use Rattle.answer.specs.Respond.{limitItems, linkItems, attributeItems, outcomeItems, idItems, answerItems, batchItems, versionItems, headerItems, respond, materialOf, keyItems}
 use Rattle.engine.specs.Batch.{endsBatch, batch, running}

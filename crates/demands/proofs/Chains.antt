@@ -12,7 +12,8 @@ use Rattle.octets.proofs.If.{on-if}
 use Rattle.rules.specs.declared.Reason.{Reason}
 use Rattle.rules.specs.Tests.{due}
 use Rattle.frame.specs.Frame.{Asked, continue}
-use Rattle.act.specs.Act.{Env, Did, envAt, carried, step, isFailed}
+use Rattle.plans.specs.Plans.{Env, Did, envAt, carried, isFailed}
+use Rattle.act.specs.Act.{step}
 use Rattle.answer.specs.Respond.{Answer}
 use Rattle.engine.specs.Batch.{Ran, answerTo, lastly, firstly, endsBatch, batch}
 use Rattle.demands.specs.Demand2.{Link, Due, planOf, answerFor, goesOn, linkAt, Chain, none-left, stops, goes-on}

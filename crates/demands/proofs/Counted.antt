@@ -32,9 +32,10 @@ use Rattle.keeps.proofs.Leaves.{Born, Replaced, moved-leaves, count-leaves, bor
 use Rattle.payload.specs.declared.Target.{Target}
 use Rattle.payload.specs.declared.Command.{Command}
 use Rattle.payload.specs.declared.Command.the-variants.{Unsupported, Invalid, Create, Rekey, GetUsageAllocation, Activate, Revoke, Destroy, GetAttributes, Get}
-use Rattle.act.specs.declared.Outcome.{Outcome}
-use Rattle.act.specs.declared.Outcome.the-variants.{Failed, Showed, Got}
-use Rattle.act.specs.Act.{Env, Did, sought, failing, createPlan, rekeyPlan, changed, shownOf, keyOf}
+use Rattle.plans.specs.declared.Outcome.{Outcome}
+use Rattle.plans.specs.declared.Outcome.the-variants.{Failed, Showed, Got}
+use Rattle.plans.specs.Plans.{Env, Did, failing, createPlan, rekeyPlan, changed, shownOf, keyOf}
+use Rattle.act.specs.Act.{sought}
 use Rattle.act.proofs.Went.{Moving, activating, revoking, destroying, Kind, fails, creates, rekeys, grants, moves, shows, gets}
 use Rattle.engine.proofs.Commands.{Commanded, to-create}
 use Rattle.keeps.proofs.Begun.{Allowed}

@@ -19,10 +19,10 @@ use Rattle.rules.specs.Numbers.{create, rekey, get, getAttributes, getUsageAllo
 use Rattle.rules.specs.States.{isCompromise}
 use Rattle.payload.specs.declared.Command.{Command}
 use Rattle.payload.specs.declared.Command.the-variants.{Unsupported, Invalid, Create, Rekey, GetUsageAllocation, Activate, Revoke, Destroy, GetAttributes, Get}
-use Rattle.act.specs.declared.Key.{Key}
-use Rattle.act.specs.declared.Outcome.{Outcome}
-use Rattle.act.specs.declared.Outcome.the-variants.{Failed, Created, Done, Showed, Got}
-use Rattle.act.specs.Act.{isFailed}
+use Rattle.plans.specs.declared.Key.{Key}
+use Rattle.plans.specs.declared.Outcome.{Outcome}
+use Rattle.plans.specs.declared.Outcome.the-variants.{Failed, Created, Done, Showed, Got}
+use Rattle.plans.specs.Plans.{isFailed}
 use Rattle.answer.proofs.Tests.{on-or}
 use Rattle.engine.proofs.Commands.{Commanded, not-supported, not-valid, to-create, to-rekey, to-allocate, to-activate, to-revoke, to-destroy, to-show, to-get, commanded}
 use Rattle.demands.specs.Box.{placesOf, recordIn}

@@ -18,8 +18,9 @@ use Rattle.search.proofs.Finds.{find-below, find-serial, find-nonzero}
 use Rattle.keeps.proofs.Keeps.{Held, facts}
 use Rattle.payload.specs.declared.Command.{Command}
 use Rattle.payload.specs.declared.Command.the-variants.{Unsupported, Invalid, Create, Rekey, GetUsageAllocation, Activate, Revoke, Destroy, GetAttributes, Get}
-use Rattle.act.specs.declared.Outcome.{Outcome}
-use Rattle.act.specs.Act.{Did, sought}
+use Rattle.plans.specs.declared.Outcome.{Outcome}
+use Rattle.plans.specs.Plans.{Did}
+use Rattle.act.specs.Act.{sought}
 use Rattle.demands.specs.Log.{Event, commandOf, issuedBy, issues, issued, grantBy, granted, limitBy, limit}
 use Rattle.demands.proofs.Counted.{Old, New, Counted, beginsWith, Counts}
 

@@ -16,7 +16,8 @@ use Rattle.frame.specs.Frame.{Asked}
 use Rattle.payload.specs.declared.Target.{Target}
 use Rattle.payload.specs.declared.Command.{Command}
 use Rattle.payload.specs.declared.Command.the-variants.{Rekey, GetUsageAllocation}
-use Rattle.act.specs.Act.{Env, Did, envAt, createPlan, rekeyPlan, step}
+use Rattle.plans.specs.Plans.{Env, Did, envAt, createPlan, rekeyPlan}
+use Rattle.act.specs.Act.{step}
 use Rattle.act.proofs.Went.{Moving, activating, revoking, destroying, Kind, fails, creates, rekeys, grants, moves, shows, gets, step-kind}
 use Rattle.answer.specs.Respond.{Answer}
 use Rattle.engine.specs.Batch.{Ran, answerTo, lastly, firstly, endsBatch, batch}

@@ -31,7 +31,8 @@ use Rattle.frame.specs.Frame.{Asked}
 use Rattle.payload.specs.declared.Target.{Target}
 use Rattle.payload.specs.declared.Command.{Command}
 use Rattle.payload.specs.Payload.{command}
-use Rattle.act.specs.Act.{Env, Did, envAt, sought, createPlan, rekeyPlan, shownOf, keyOf, step, isFailed}
+use Rattle.plans.specs.Plans.{Env, Did, envAt, createPlan, rekeyPlan, shownOf, keyOf, isFailed}
+use Rattle.act.specs.Act.{sought, step}
 use Rattle.act.proofs.Went.{Moving, activating, revoking, destroying, Kind, fails, creates, rekeys, grants, moves, shows, gets, step-kind}
 use Rattle.engine.specs.Batch.{answerTo}
 use Rattle.engine.proofs.Commands.{Commanded, to-activate, to-revoke, to-destroy, commanded}

@@ -17,9 +17,10 @@ use Rattle.rules.specs.declared.Reason.{Reason}
 use Rattle.rules.specs.Tests.{due}
 use Rattle.frame.specs.Frame.{Asked, Frame, frameIn, versionOk, countOk, optionOf, optionOk, continue}
 use Rattle.payload.specs.Payload.{command}
-use Rattle.act.specs.declared.Outcome.{Outcome}
-use Rattle.act.specs.declared.Outcome.the-variants.{Failed}
-use Rattle.act.specs.Act.{Env, Did, Plan, envAt, plan, isFailed}
+use Rattle.plans.specs.declared.Outcome.{Outcome}
+use Rattle.plans.specs.declared.Outcome.the-variants.{Failed}
+use Rattle.plans.specs.Plans.{Env, Did, Plan, envAt, isFailed}
+use Rattle.act.specs.Act.{plan}
 use Rattle.answer.specs.Respond.{Answer, Response, respond}
 use Rattle.answer.specs.Read.{answersIn, allowed}
 use Rattle.engine.specs.Effects.{Effect}

@@ -16,9 +16,10 @@ use Rattle.rules.specs.Numbers.{activate, revoke, destroy, preActive}
 use Rattle.rules.specs.States.{isCompromise}
 use Rattle.payload.specs.declared.Command.{Command}
 use Rattle.payload.specs.declared.Command.the-variants.{Unsupported, Invalid, Create, Rekey, GetUsageAllocation, Activate, Revoke, Destroy, GetAttributes, Get}
-use Rattle.act.specs.declared.Outcome.{Outcome}
-use Rattle.act.specs.declared.Outcome.the-variants.{Failed, Created, Done, Showed, Got}
-use Rattle.act.specs.Act.{sought, isFailed}
+use Rattle.plans.specs.declared.Outcome.{Outcome}
+use Rattle.plans.specs.declared.Outcome.the-variants.{Failed, Created, Done, Showed, Got}
+use Rattle.act.specs.Act.{sought}
+use Rattle.plans.specs.Plans.{isFailed}
 use Rattle.engine.specs.Effects.{Effect}
 use Rattle.demands.specs.Box.{Call, Box, Lent, placesOf, recordIn}
 use Rattle.demands.specs.Log.{Event, commandOf, itemsAsked, answersGiven, eventsOf, logged, issuedBy, issued, grantBy, granted, limit, handedBy, wasDestroyed, handedDead}

@@ -14,8 +14,8 @@ use Rattle.frame.specs.Frame.{Asked, Frame, frameIn}
 use Rattle.payload.specs.declared.Command.{Command}
 use Rattle.payload.specs.declared.Command.the-variants.{Unsupported, Invalid, Create, Rekey, GetUsageAllocation, Activate, Revoke, Destroy, GetAttributes, Get}
 use Rattle.payload.specs.Payload.{command}
-use Rattle.act.specs.declared.Outcome.{Outcome}
-use Rattle.act.specs.declared.Outcome.the-variants.{Failed, Created, Done, Showed, Got}
+use Rattle.plans.specs.declared.Outcome.{Outcome}
+use Rattle.plans.specs.declared.Outcome.the-variants.{Failed, Created, Done, Showed, Got}
 use Rattle.act.specs.Act.{sought}
 use Rattle.answer.specs.Respond.{Answer, Response}
 use Rattle.answer.specs.Read.{answersIn}

@@ -16,7 +16,8 @@ use Rattle.octets.proofs.Bools.{and-i}
 use Rattle.keeps.proofs.Keeps.{Held}
 use Rattle.frame.specs.Frame.{Asked}
 use Rattle.frame.proofs.Bounds.{AllBounded}
-use Rattle.act.specs.Act.{Did, envAt, step}
+use Rattle.plans.specs.Plans.{Did, envAt}
+use Rattle.act.specs.Act.{step}
 use Rattle.answer.specs.Read.{answerOk}
 use Rattle.engine.specs.Batch.{Ran, answerTo, lastly, firstly, endsBatch, batch}
 use Rattle.engine.proofs.Steps.{step-held, step-ok}

@@ -22,9 +22,10 @@ use Rattle.frame.specs.Readers.{idOf, partsOf}
 use Rattle.frame.proofs.Item.{PartsShape, parts-shape}
 use Rattle.payload.specs.declared.Command.{Command}
 use Rattle.payload.specs.Payload.{command}
-use Rattle.act.specs.declared.Outcome.{Outcome}
-use Rattle.act.specs.declared.Performed.{Performed}
-use Rattle.act.specs.Act.{Did, performing, leaves, isFailed}
+use Rattle.plans.specs.declared.Outcome.{Outcome}
+use Rattle.plans.specs.declared.Performed.{Performed}
+use Rattle.plans.specs.Plans.{Did, leaves, isFailed}
+use Rattle.act.specs.Act.{performing}
 use Rattle.answer.specs.Respond.{Answer, answerItems}
 use Rattle.answer.specs.Front.{longestItem}
 use Rattle.attributes_write.specs.Puts.{Puts}

@@ -27,7 +27,8 @@ use Rattle.frame.specs.declared.Framing.{Framing}
 use Rattle.frame.specs.Frame.{Asked, Frame, Framed, Request, refused, asked, frameIn, framing, framed, itemsIn, batchMost}
 use Rattle.frame.specs.Readers.{itemsAt, framingIn, framingOf}
 use Rattle.frame.proofs.Frame.{BatchShape, batch-shape}
-use Rattle.act.specs.Act.{Did, noClock, emptyHolder, envAt, step}
+use Rattle.plans.specs.Plans.{Did, noClock, emptyHolder, envAt}
+use Rattle.act.specs.Act.{step}
 use Rattle.act.proofs.Plans.{step-performs}
 use Rattle.answer.specs.Respond.{respond, batchItems}
 use Rattle.answer.specs.Front.{longestItem, frameSize, front}

@@ -34,7 +34,8 @@ use Rattle.frame.specs.Frame.{Asked, idMost}
 use Rattle.payload.specs.declared.Target.{Target}
 use Rattle.payload.specs.declared.Command.{Command}
 use Rattle.payload.specs.declared.Command.the-variants.{Create, Rekey, GetUsageAllocation, GetAttributes, Get}
-use Rattle.act.specs.Act.{Env, Did, sought, createPlan, rekeyPlan, shownOf, keyOf, step}
+use Rattle.plans.specs.Plans.{Env, Did, createPlan, rekeyPlan, shownOf, keyOf}
+use Rattle.act.specs.Act.{sought, step}
 use Rattle.act.proofs.Went.{Moving, activating, revoking, destroying, Kind, fails, creates, rekeys, grants, moves, shows, gets, step-kind}
 use Rattle.answer.specs.Read.{answersDone, serialOk, linkOk, shownOk, keyOk, outcomeOk, answerOk}
 use Rattle.engine.specs.Batch.{answerTo}

@@ -27,7 +27,7 @@ use Rattle.table.specs.Layout.{placeCount, Table, materialSize}
 use Rattle.tags.specs.Tags.{batchItem}
 use Rattle.frame.specs.Frame.{Asked, itemIn, itemsIn, batchMost, continue}
 use Rattle.frame.proofs.Items.{step, none-left}
-use Rattle.act.specs.Act.{Did, noClock, emptyHolder, envAt}
+use Rattle.plans.specs.Plans.{Did, noClock, emptyHolder, envAt}
 use Rattle.act.proofs.Plans.{step-performs}
 use Rattle.answer.specs.Respond.{Answer, batchItems}
 use Rattle.answer.specs.Front.{longestItem}

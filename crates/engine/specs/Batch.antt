@@ -6,7 +6,8 @@ use mathlib.Core.List.{List, [], _∷_}
 use lib.Dec.{eqb}
 use Rattle.octets.specs.If.{ifb}
 use Rattle.frame.specs.Frame.{Asked, Request, continue}
-use Rattle.act.specs.Act.{Did, emptyHolder, envAt, step, isFailed}
+use Rattle.plans.specs.Plans.{Did, emptyHolder, envAt, isFailed}
+use Rattle.act.specs.Act.{step}
 use Rattle.answer.specs.Respond.{Answer}
 
 -- the answers in order, and the table behind them

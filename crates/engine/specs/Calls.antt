@@ -14,7 +14,8 @@ use Rattle.table.specs.Layout.{placeCount, Table}
 use Rattle.tags.specs.Tags.{batchItem}
 use Rattle.frame.specs.Frame.{Asked, itemIn, itemsIn, batchMost}
 use Rattle.payload.specs.Payload.{command}
-use Rattle.act.specs.Act.{Did, noClock, emptyHolder, performing, isFailed}
+use Rattle.plans.specs.Plans.{Did, noClock, emptyHolder, isFailed}
+use Rattle.act.specs.Act.{performing}
 use Rattle.answer.specs.Respond.{Answer, answerItems, batchItems}
 use Rattle.answer.specs.Front.{longestItem}
 use Rattle.engine.specs.declared.Served.{Served}

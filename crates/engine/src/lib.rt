@@ -79,7 +79,7 @@ fn one_item(body: &[u8], table: &mut [u8], fresh: &[u8], holder: u32, out: &mut 
     let command = payload::read_command(operation, &body[start..]);
     let performed = act::perform(table, Layout::PLACES, holder, command, fresh);
     let outcome = performed.outcome;
-    let failed = act::is_failed(outcome);
+    let failed = plans::is_failed(outcome);
     let id = parts.id;
     let used = answer_write::write_answer(out, operation, id, outcome);
     ItemDone {

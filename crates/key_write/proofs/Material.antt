@@ -6,7 +6,7 @@ use lib.ListN.{length, take, length-take}
 use Rattle.octets.proofs.Stores.{take-there}
 use Rattle.words.specs.Words.{wordBytes}
 use Rattle.words.proofs.Laws.{length-words}
-use Rattle.act.specs.declared.Key.{Key}
+use Rattle.plans.specs.declared.Key.{Key}
 use Rattle.answer.specs.Respond.{materialOf}
 
 pub material-taken : (k : Key) → take (min (k .bits / 8) 32) (wordBytes (k .material)) ≡ materialOf k

@@ -9,7 +9,7 @@ ghost use Rattle.tags.specs.Tags.{cryptographicAlgorithm, cryptographicLength, 
 ghost use Rattle.payload.specs.Payload.{aes};
 ghost use Rattle.answer.specs.Respond.{word, materialOf, keyValueItems, keyBlockItems, keyItems};
 ghost use Rattle.attributes_write.specs.Puts.{Puts};
-use act::Key;
+use plans::Key;
 
 // Values of Enumerations.
 const RAW: u32 = 1;

@@ -26,7 +26,7 @@ use Rattle.keeps.proofs.Begun.{Allowed}
 use Rattle.keeps.proofs.Stores.{other, other-serial, here-serial}
 use Rattle.keeps.proofs.Keeps.{Held, held-blank, keeps-born}
 use Rattle.keeps.proofs.Leaves.{Born, born-leaves}
-use Rattle.act.specs.Act.{Env, envAt}
+use Rattle.plans.specs.Plans.{Env, envAt}
 use Rattle.engine.proofs.Batches.{own-bytes, own-long}
 use Rattle.cases.proofs.Cases.{opened}
 use Rattle.wrong_boxes.proofs.Calling.{isByte, bytes-test}

@@ -15,7 +15,7 @@ use Rattle.soundness.specs.Checked.{isAt}
 use Rattle.soundness.proofs.SoundIs.{sound-is}
 use Rattle.payload.specs.declared.Command.{Command}
 use Rattle.payload.specs.declared.Command.the-variants.{Unsupported, Invalid, Create, Rekey, GetUsageAllocation, Activate, Revoke, Destroy, GetAttributes, Get}
-use Rattle.act.specs.declared.Outcome.{Outcome}
+use Rattle.plans.specs.declared.Outcome.{Outcome}
 use Rattle.engine.specs.Effects.{Effect}
 use Rattle.demands.specs.Box.{Call, Box}
 use Rattle.demands.specs.Log.{Event, commandOf, heldAfter, paired, orNoItems, orNoAnswers, eventsOf, onto, logged, issuedBy, issued, grantBy, granted, limitBy, limit}

@@ -28,8 +28,9 @@ use Rattle.payload.specs.declared.Target.the-variants.{Serial}
 use Rattle.payload.specs.declared.Command.{Command}
 use Rattle.payload.specs.declared.Command.the-variants.{Create, GetUsageAllocation, Destroy}
 use Rattle.payload.specs.Payload.{command}
-use Rattle.act.specs.declared.Outcome.the-variants.{Created}
-use Rattle.act.specs.Act.{Did, Plan, carried, createPlan, plan, step, isFailed}
+use Rattle.plans.specs.declared.Outcome.the-variants.{Created}
+use Rattle.plans.specs.Plans.{Did, Plan, carried, createPlan, isFailed}
+use Rattle.act.specs.Act.{plan, step}
 use Rattle.engine.specs.Effects.{Effect}
 use Rattle.engine.specs.Batch.{Ran, answerTo, lastly, firstly, endsBatch, batch, running}
 use Rattle.demands.specs.Box.{Call}

@@ -35,9 +35,10 @@ use Rattle.payload.specs.declared.Target.the-variants.{Serial}
 use Rattle.payload.specs.declared.Command.{Command}
 use Rattle.payload.specs.declared.Command.the-variants.{Create, GetUsageAllocation, Destroy}
 use Rattle.payload.specs.Payload.{command}
-use Rattle.act.specs.declared.Outcome.{Outcome}
-use Rattle.act.specs.declared.Outcome.the-variants.{Failed, Created, Done}
-use Rattle.act.specs.Act.{Did, sought, failing, destroyPlan, allocationPlan, onFound, step, isFailed}
+use Rattle.plans.specs.declared.Outcome.{Outcome}
+use Rattle.plans.specs.declared.Outcome.the-variants.{Failed, Created, Done}
+use Rattle.plans.specs.Plans.{Did, failing, destroyPlan, allocationPlan, isFailed}
+use Rattle.act.specs.Act.{sought, onFound, step}
 use Rattle.answer.specs.Respond.{Answer}
 use Rattle.engine.specs.Effects.{Effect}
 use Rattle.engine.specs.Batch.{Ran, answerTo, firstly, batch, running}

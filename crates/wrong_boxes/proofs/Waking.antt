@@ -16,8 +16,8 @@ use Rattle.search.proofs.Finds.{find-is}
 use Rattle.soundness.specs.Checked.{isAt}
 use Rattle.rules.specs.Numbers.{revoke, destroy}
 use Rattle.ttlv.specs.Items.{nil}
-use Rattle.act.specs.declared.Outcome.the-variants.{Done}
-use Rattle.act.specs.Act.{isFailed}
+use Rattle.plans.specs.declared.Outcome.the-variants.{Done}
+use Rattle.plans.specs.Plans.{isFailed}
 use Rattle.engine.specs.Effects.{Effect}
 use Rattle.demands.specs.Box.{Call, Lent, recordIn}
 use Rattle.demands.specs.Demand2.{frameOf, ofFrame, refusalConditions, lowest}

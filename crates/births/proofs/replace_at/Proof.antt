@@ -1,0 +1,62 @@
+-- `replace_at` meets its contract: the heir in the place that is due, or nowhere to put one.
+-- Assumes nothing.
+use mathlib.Core.Path.{_≡_}
+use native.Mathlib.Omega.{arith}
+use Rattle.changes.specs.Changes.{serialMost}
+use Rattle.births.proofs.Returns.{new-serial, heir-place, replace-full, replaces}
+use borrow.Author.Needs.{needs}
+use Rattle.births.proofs.replace_at.Statement.{statement}
+use Rattle.births.proofs.replace_at.Tie as tie
+
+place-for-new-requires : tie.Need-place-for-new-requires
+place-for-new-requires c κs = search needs
+
+enum-known-place : tie.Need-enum-known-place
+enum-known-place c = search needs
+
+last-serial-requires : tie.Need-last-serial-requires
+last-serial-requires c κs = search needs
+
+add-serial : tie.Need-add-serial
+add-serial c = let unissued : c .last-serial .result ≡ serialMost → ⊥ = search new-serial in omega arith
+
+heir-of-requires : tie.Need-heir-of-requires
+heir-of-requires c κs = search needs
+
+put-heir-requires : tie.Need-put-heir-requires
+put-heir-requires c κs = search heir-place
+
+enum-told : tie.Need-enum-told
+enum-told c = search needs
+
+fail-requires : tie.Need-fail-requires
+fail-requires c κs = search needs
+
+same-length : tie.Need-same-length
+same-length c = search needs
+
+returns : tie.Need-returns
+returns c = search replaces
+
+same-length-2 : tie.Need-same-length-2
+same-length-2 c = search needs
+
+returns-2 : tie.Need-returns-2
+returns-2 c = search replace-full
+
+pub replace-at-spec : {M : Type 1} → statement M
+replace-at-spec =
+    tie.close
+    (tie.spec
+    place-for-new-requires
+    enum-known-place
+    last-serial-requires
+    add-serial
+    heir-of-requires
+    put-heir-requires
+    enum-told
+    fail-requires
+    same-length
+    returns
+    same-length-2
+    returns-2)

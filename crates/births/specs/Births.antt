@@ -1,0 +1,37 @@
+-- For the private functions: where a new object goes, and what storing it leaves. Nothing here has to be believed.
+-- Assumes nothing.
+use Prim.Native.Nat.{ℕ, _<_}
+use mathlib.Core.List.{List}
+use lib.Dec.{eqb}
+use Rattle.octets.specs.If.{ifb}
+use Rattle.table.specs.declared.Record.{Record}
+use Rattle.search.specs.declared.Found.{Found}
+use Rattle.search.specs.declared.Found.the-variants.{At, Nothing}
+use Rattle.table.specs.Layout.{Place}
+use Rattle.table.specs.Records.{placeAt, withPlace, lastSerial}
+use Rattle.search.specs.Search.{newPlace}
+use Rattle.rules.specs.declared.Reason.the-variants.{ServerLimitExceeded}
+use Rattle.changes.specs.Records.{heirOf, linkedTo}
+use Rattle.changes.specs.Changes.{serialMost, nextSerial, bornAt}
+use Rattle.plans.specs.declared.Outcome.the-variants.{Done}
+use Rattle.plans.specs.Plans.{Did, failing}
+
+-- where a new object goes: nowhere if every serial is issued
+unfoldable pub placeForNew : ℕ → List ℕ → Found
+placeForNew n t = ifb (eqb (lastSerial t) serialMost) Nothing (newPlace n t)
+
+-- what storing an heir asks: the old record's place, and another one of the table's
+pub record TwoPlaces (n : ℕ) (t : List ℕ) (i place : ℕ) : Type 0 where
+  pub old : Place n t i
+  pub below : place < n
+
+-- the table in which the record at place i names its replacement
+unfoldable pub linkedAt : ℕ → List ℕ → ℕ → Record → List ℕ
+linkedAt n t i heir = withPlace n t i (linkedTo (heir .serial) (placeAt n t i))
+
+-- Re-key of a record that may be replaced, by where the new object goes
+unfoldable pub replacing : ℕ → List ℕ → List ℕ → ℕ → Record → Found → Did
+replacing n fresh t i old (At place) =
+    let heir = heirOf (nextSerial t) old fresh in
+    record { outcome = Done (nextSerial t); table = bornAt n (linkedAt n t i heir) heir (At place); holder = nextSerial t }
+replacing n fresh t i old Nothing = failing t ServerLimitExceeded

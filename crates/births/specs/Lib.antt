@@ -1,0 +1,3 @@
+-- New objects in the table, by parts.
+-- Assumes nothing.
+pub mod Births

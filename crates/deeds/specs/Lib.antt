@@ -1,0 +1,3 @@
+-- What is asked of the record at a place.
+-- Assumes nothing.
+pub mod Deeds

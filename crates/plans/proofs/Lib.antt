@@ -1,0 +1,4 @@
+-- The laws of plans.
+-- Assumes nothing.
+pub mod Plans
+pub mod Unique
