@@ -15,7 +15,7 @@ use Rattle.rules.specs.declared.Reason.{Reason}
 use Rattle.rules.specs.Tests.{Test, _⇒_, due}
 use Rattle.changes.specs.Changes.{serialMost, isFull}
 use Rattle.rules.proofs.Tests.{due-first, due-later, due-end}
-use Rattle.frame.specs.Frame.{Asked}
+use Rattle.batch_item.specs.Item.{Asked}
 use Rattle.payload.specs.declared.Command.{Command}
 use Rattle.payload.specs.declared.Command.the-variants.{Unsupported, Invalid, Create, Rekey, GetUsageAllocation, Activate, Revoke, Destroy, GetAttributes, Get}
 use Rattle.payload.specs.Payload.{command}

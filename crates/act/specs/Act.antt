@@ -20,7 +20,7 @@ use Rattle.rules.specs.Tests.{Test, _⇒_, due}
 use Rattle.rules.specs.States.{activateTests, revokeTests, destroyTests, grantTests, movedState}
 use Rattle.changes.specs.Records.{newRecord, heirOf, movedTo, withCount}
 use Rattle.changes.specs.Changes.{isFull, nextSerial, withBorn, withHeir}
-use Rattle.frame.specs.Frame.{Asked}
+use Rattle.batch_item.specs.Item.{Asked}
 use Rattle.payload.specs.declared.Target.{Target}
 use Rattle.payload.specs.declared.Target.the-variants.{Placeholder, Serial}
 use Rattle.payload.specs.declared.Command.{Command}

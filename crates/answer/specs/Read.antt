@@ -25,7 +25,8 @@ use Rattle.act.specs.declared.Shown.{Shown}
 use Rattle.act.specs.declared.Key.{Key}
 use Rattle.act.specs.declared.Outcome.{Outcome}
 use Rattle.act.specs.declared.Outcome.the-variants.{Failed, Created, Done, Showed, Got}
-use Rattle.frame.specs.Frame.{idMost, idOk, idBytes, batchMost}
+use Rattle.batch_item.specs.Item.{idMost, idOk, idBytes}
+use Rattle.frame.specs.Frame.{batchMost}
 use Rattle.answer.specs.Respond.{Answer, Response, raw, materialOf, replacedObjectLink, replacementObjectLink}
 
 -- ---- fields, in their one spelling

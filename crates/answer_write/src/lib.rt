@@ -10,7 +10,8 @@ ghost use Rattle.ttlv.specs.Items.{nil, group};
 ghost use Rattle.ttlv_put.specs.Write.{Holds};
 ghost use Rattle.tags.specs.Tags.{batchItem, protocolVersionMajor, protocolVersionMinor, attributes, objectType, uniqueIdentifier, responseHeader};
 ghost use Rattle.payload.specs.Payload.{symmetricKey};
-ghost use Rattle.frame.specs.Frame.{idMost, batchMost};
+ghost use Rattle.batch_item.specs.Item.{idMost};
+ghost use Rattle.frame.specs.Frame.{batchMost};
 ghost use Rattle.act.specs.declared.Outcome.the-variants.{Failed};
 ghost use Rattle.answer.specs.Respond.{word, named, attributeItems, keyItems, outcomeItems, idItems, answerItems, versionItems, headerItems};
 ghost use Rattle.answer.specs.Front.{headerSize, frameSize, longestItem, front};
@@ -19,7 +20,7 @@ ghost use Rattle.answer_write.specs.Answers.{opening, answerOf};
 use act::Key;
 use act::Outcome;
 use act::Shown;
-use frame::ItemId;
+use batch_item::ItemId;
 use rules::Reason;
 
 // Values of Enumerations.
