@@ -24,7 +24,7 @@ use Rattle.changes.specs.Records.{newRecord, heirOf, linkedTo, inState, movedTo
 use Rattle.changes.specs.Changes.{nextSerial, bornAt, withBorn, withHeir}
 use Rattle.changes.proofs.Material.{bytes-material}
 use Rattle.octets.proofs.Zeros.{bytes-zeros}
-use Rattle.frame.specs.Frame.{Asked}
+use Rattle.batch_item.specs.Item.{Asked}
 use Rattle.payload.specs.declared.Command.{Command}
 use Rattle.payload.specs.declared.Command.the-variants.{Unsupported, Invalid, Create, Rekey, GetUsageAllocation, Activate, Revoke, Destroy, GetAttributes, Get}
 use Rattle.payload.specs.Payload.{command}

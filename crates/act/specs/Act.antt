@@ -8,7 +8,7 @@ use Rattle.search.specs.declared.Found.the-variants.{At, Nothing}
 use Rattle.table.specs.Records.{placeAt}
 use Rattle.search.specs.Search.{find}
 use Rattle.rules.specs.declared.Reason.the-variants.{OperationNotSupported, InvalidField, ObjectNotFound}
-use Rattle.frame.specs.Frame.{Asked}
+use Rattle.batch_item.specs.Item.{Asked}
 use Rattle.payload.specs.declared.Target.{Target}
 use Rattle.payload.specs.declared.Target.the-variants.{Placeholder, Serial}
 use Rattle.payload.specs.declared.Command.{Command}

@@ -17,7 +17,8 @@ use Rattle.ttlv.specs.Items.{Items, nil, value, group, ended}
 use Rattle.fields.specs.Fields.{startsWith, bytesOf, bodyOf, optional}
 use Rattle.octets.proofs.Bools.{both, and-i}
 use Rattle.tags.specs.Tags.{batchCount, batchItem, operationTag, protocolVersion, protocolVersionMajor, protocolVersionMinor, uniqueBatchItemId, responseHeader, responseMessage, timeStamp}
-use Rattle.frame.specs.Frame.{idMost, idOk, idBytes, batchMost}
+use Rattle.batch_item.specs.Item.{idMost, idOk, idBytes}
+use Rattle.frame.specs.Frame.{batchMost}
 use Rattle.plans.specs.declared.Outcome.{Outcome}
 use Rattle.plans.specs.declared.Outcome.the-variants.{Failed, Created, Done, Showed, Got}
 use Rattle.answer.specs.Respond.{Answer, Response, outcomeItems, idItems, answerItems, batchItems, versionItems, headerItems, respond}

@@ -17,7 +17,7 @@ use Rattle.octets.proofs.Bools.{both}
 use Rattle.identifier.specs.Identifier.{identifier}
 use Rattle.identifier.proofs.Texts.{length-identifier}
 use Rattle.tags.specs.Tags.{batchItem, keyMaterial}
-use Rattle.frame.specs.Frame.{idMost}
+use Rattle.batch_item.specs.Item.{idMost}
 use Rattle.words.proofs.Laws.{length-words}
 use Rattle.plans.specs.declared.Shown.{Shown}
 use Rattle.plans.specs.declared.Key.{Key}

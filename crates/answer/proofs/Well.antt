@@ -21,7 +21,7 @@ use Rattle.octets.proofs.Bools.{both, and-i}
 use Rattle.ttlv.proofs.Fine.{group-well}
 use Rattle.identifier.specs.Identifier.{identifier}
 use Rattle.identifier.proofs.Texts.{length-identifier, identifier-text}
-use Rattle.frame.specs.Frame.{idMost}
+use Rattle.batch_item.specs.Item.{idMost}
 use Rattle.rules.specs.Numbers.{reasonNumber, success, operationFailed}
 use Rattle.plans.specs.declared.Shown.{Shown}
 use Rattle.plans.specs.declared.Key.{Key}

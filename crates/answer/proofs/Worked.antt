@@ -20,7 +20,8 @@ use Rattle.tags.specs.Tags.{batchItem}
 use Rattle.ttlv.specs.Parse.{headed, firstOf, putValue, putGroup, more, walk, parse, isOne, message}
 use Rattle.fields.specs.Fields.{startsWith, bytesOf, bodyOf, numberOf, optional}
 use Rattle.identifier.specs.Identifier.{digits, identifier, fromDigitsAfter, serialOf}
-use Rattle.frame.specs.Frame.{versionIn, headerIn, idOk, idBytes, itemIn, itemsIn, frameIn, optionOf, framing, framed}
+use Rattle.frame.specs.Frame.{versionIn, headerIn, frameIn, optionOf, framing, framed}
+use Rattle.batch_item.specs.Item.{idOk, idBytes, itemIn, itemsIn}
 use Rattle.answer.specs.Read.{spelled, fixed, serialIn, limitsFirst, orNoLimits, linkFirst, orNoLink, linkIn, shownIn, createdIn, doneIn, showedIn, keyRead, keyBlockIn, keyIn, gotIn, payloadIn, reasonAmong, failureIn, successIn, outcomeIn, answerIn, answersOf, headIn, shownOk, keyOk, outcomeOk, answerOk, allowed, ifAllowed, answersIn}
 
 -- 01's card: "Activate of the Pre-Active "00000001", alone, no Unique Batch Item ID, clock 0, whole response of 152 bytes"

@@ -25,7 +25,8 @@ use Rattle.plans.specs.declared.Shown.{Shown}
 use Rattle.plans.specs.declared.Key.{Key}
 use Rattle.plans.specs.declared.Outcome.{Outcome}
 use Rattle.plans.specs.declared.Outcome.the-variants.{Failed, Created, Done, Showed, Got}
-use Rattle.frame.specs.Frame.{idMost, idOk, idBytes, batchMost}
+use Rattle.batch_item.specs.Item.{idMost, idOk, idBytes}
+use Rattle.frame.specs.Frame.{batchMost}
 use Rattle.answer.specs.Respond.{Answer, Response, raw, materialOf, replacedObjectLink, replacementObjectLink}
 
 -- ---- fields, in their one spelling

@@ -5,7 +5,7 @@ use mathlib.Core.List.{List, _++_}
 use lib.ListN.{take}
 use Rattle.ttlv_types.specs.Types.{structure, enumeration}
 use Rattle.ttlv.specs.Items.{nil, head, encode}
-use Rattle.frame.specs.declared.ItemId.{ItemId}
+use Rattle.batch_item.specs.declared.ItemId.{ItemId}
 use Rattle.plans.specs.declared.Outcome.{Outcome}
 use Rattle.tags.specs.Tags.{resultStatus, responsePayload}
 use Rattle.rules.specs.Numbers.{success}

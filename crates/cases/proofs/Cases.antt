@@ -18,7 +18,8 @@ use Rattle.changes.specs.Changes.{isFull, bornAt, withBorn, withHeir}
 use Rattle.changes.specs.Records.{materialFrom, newRecord, heirOf, linkedTo, inState, movedTo, withCount}
 use Rattle.rules.specs.States.{canRevoke, canDestroy, activateTests, revokeTests, destroyTests, moveTests, revokedState, destroyedState, movedState, nextUnless, nextState, grantTests, leftUnless, granting}
 use Rattle.rules.specs.Tests.{due}
-use Rattle.frame.specs.Frame.{versionIn, headerIn, idOk, idBytes, itemIn, itemsIn, frameIn, optionOf, framing, framed}
+use Rattle.batch_item.specs.Item.{idOk, idBytes, itemIn, itemsIn}
+use Rattle.frame.specs.Frame.{versionIn, headerIn, frameIn, optionOf, framing, framed}
 use Rattle.payload.specs.Payload.{limitIn, limitFirst, wantedOf, limitsIn, maskedIn, attributesIn, createIn, targetOf, targetIn, aloneIn, allocationIn, revokeIn, orInvalid, command}
 use Rattle.words.specs.Words.{wordsOf, wordBytes, wordsOk, filled}
 use Rattle.act.specs.Act.{sought, onFound, plan, step}

@@ -11,7 +11,8 @@ use Rattle.octets.specs.If.{ifb}
 use Rattle.octets.proofs.If.{on-if}
 use Rattle.rules.specs.declared.Reason.{Reason}
 use Rattle.rules.specs.Tests.{due}
-use Rattle.frame.specs.Frame.{Asked, continue}
+use Rattle.batch_item.specs.Item.{Asked}
+use Rattle.frame.specs.Frame.{continue}
 use Rattle.plans.specs.Plans.{Env, Did, envAt, carried, isFailed}
 use Rattle.act.specs.Act.{step}
 use Rattle.answer.specs.Respond.{Answer}

@@ -18,7 +18,8 @@ use Rattle.ttlv.proofs.Message.{message-spells}
 use Rattle.table.specs.Layout.{placeCount}
 use Rattle.octets.proofs.Bools.{and-l, and-r, and-i}
 use Rattle.frame.specs.Frame.{framing, framed, optionOf, batchMost}
-use Rattle.frame.proofs.Bounds.{AllBounded, request-bounded}
+use Rattle.batch_item.proofs.Bounds.{AllBounded}
+use Rattle.frame.proofs.Bounds.{request-bounded}
 use Rattle.answer.specs.Respond.{Answer, Response, respond}
 use Rattle.answer.specs.Read.{answerOk, allowed}
 use Rattle.answer.proofs.Front.{response-size}

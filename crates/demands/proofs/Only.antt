@@ -12,7 +12,8 @@ use Rattle.octets.specs.Octets.{over}
 use Rattle.octets.proofs.If.{ifb-true, ifb-false}
 use Rattle.octets.proofs.Maybe.{some-is}
 use Rattle.ttlv.specs.Items.{encode}
-use Rattle.frame.specs.Frame.{Asked, Frame, frameIn, optionOf}
+use Rattle.batch_item.specs.Item.{Asked}
+use Rattle.frame.specs.Frame.{Frame, frameIn, optionOf}
 use Rattle.plans.specs.Plans.{Did}
 use Rattle.answer.specs.Respond.{Response, respond}
 use Rattle.engine.specs.Batch.{Ran, answerTo, lastly, firstly, endsBatch, batch, running}

@@ -12,7 +12,7 @@ use Rattle.octets.specs.Octets.{Bytes}
 use Rattle.octets.proofs.If.{ifb-true, ifb-false, on-if}
 use Rattle.table.specs.Layout.{placeCount, materialSize}
 use Rattle.rules.specs.Numbers.{rekey, getUsageAllocation, activate, revoke, destroy}
-use Rattle.frame.specs.Frame.{Asked}
+use Rattle.batch_item.specs.Item.{Asked}
 use Rattle.payload.specs.declared.Target.{Target}
 use Rattle.payload.specs.declared.Command.{Command}
 use Rattle.payload.specs.declared.Command.the-variants.{Rekey, GetUsageAllocation}

@@ -17,7 +17,8 @@ use Rattle.table.specs.Records.{blank}
 use Rattle.table.proofs.Places.{serial-is}
 use Rattle.table.proofs.Blank.{serial-blank}
 use Rattle.keeps.proofs.Keeps.{held-blank}
-use Rattle.frame.specs.Frame.{Asked, frameIn, optionOf}
+use Rattle.batch_item.specs.Item.{Asked}
+use Rattle.frame.specs.Frame.{frameIn, optionOf}
 use Rattle.answer.specs.Respond.{Answer, Response}
 use Rattle.answer.specs.Read.{answersIn}
 use Rattle.answer.proofs.One.{response-back}

@@ -27,7 +27,7 @@ use Rattle.rules.proofs.Moves.{Move, activates, compromises, compromises-destro
 use Rattle.keeps.proofs.Stores.{other}
 use Rattle.keeps.proofs.Keeps.{Held, found-stands}
 use Rattle.keeps.proofs.Leaves.{moved-leaves, count-leaves, born-leaves, heir-leaves}
-use Rattle.frame.specs.Frame.{Asked}
+use Rattle.batch_item.specs.Item.{Asked}
 use Rattle.payload.specs.declared.Target.{Target}
 use Rattle.payload.specs.declared.Command.{Command}
 use Rattle.payload.specs.Payload.{command}

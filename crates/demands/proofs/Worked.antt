@@ -21,7 +21,7 @@ use Rattle.search.specs.declared.Found.the-variants.{At, Nothing}
 use Rattle.search.specs.Search.{firstFrom, orElse, find, freePlace, destroyedPlace, newPlace}
 use Rattle.soundness.specs.Checked.{isAt}
 use Rattle.rules.specs.declared.Reason.the-variants.{UsageLimitExceeded}
-use Rattle.frame.specs.Frame.{Asked}
+use Rattle.batch_item.specs.Item.{Asked}
 use Rattle.payload.specs.declared.Target.the-variants.{Placeholder, Serial}
 use Rattle.payload.specs.declared.Command.{Command}
 use Rattle.payload.specs.declared.Command.the-variants.{Unsupported, Invalid, Create, Rekey, GetUsageAllocation, Activate, Revoke, Destroy, GetAttributes, Get}

@@ -15,7 +15,8 @@ use Rattle.ttlv.specs.Parse.{message}
 use Rattle.soundness.specs.Sound.{sound}
 use Rattle.rules.specs.declared.Reason.{Reason}
 use Rattle.rules.specs.Tests.{due}
-use Rattle.frame.specs.Frame.{Asked, Frame, frameIn, versionOk, countOk, optionOf, optionOk, continue}
+use Rattle.batch_item.specs.Item.{Asked}
+use Rattle.frame.specs.Frame.{Frame, frameIn, versionOk, countOk, optionOf, optionOk, continue}
 use Rattle.payload.specs.Payload.{command}
 use Rattle.plans.specs.declared.Outcome.{Outcome}
 use Rattle.plans.specs.declared.Outcome.the-variants.{Failed}

@@ -10,7 +10,8 @@ use Rattle.octets.specs.If.{ifb}
 use Rattle.octets.specs.Maybe.{_>>=_}
 use Rattle.ttlv.specs.Parse.{message}
 use Rattle.rules.specs.Numbers.{rekey, destroy}
-use Rattle.frame.specs.Frame.{Asked, Frame, frameIn}
+use Rattle.batch_item.specs.Item.{Asked}
+use Rattle.frame.specs.Frame.{Frame, frameIn}
 use Rattle.payload.specs.declared.Command.{Command}
 use Rattle.payload.specs.declared.Command.the-variants.{Unsupported, Invalid, Create, Rekey, GetUsageAllocation, Activate, Revoke, Destroy, GetAttributes, Get}
 use Rattle.payload.specs.Payload.{command}

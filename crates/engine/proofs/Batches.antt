@@ -14,8 +14,8 @@ use Rattle.octets.proofs.Stores.{length-part}
 use Rattle.table.specs.Layout.{materialSize}
 use Rattle.octets.proofs.Bools.{and-i}
 use Rattle.keeps.proofs.Keeps.{Held}
-use Rattle.frame.specs.Frame.{Asked}
-use Rattle.frame.proofs.Bounds.{AllBounded}
+use Rattle.batch_item.specs.Item.{Asked}
+use Rattle.batch_item.proofs.Bounds.{AllBounded}
 use Rattle.plans.specs.Plans.{Did, envAt}
 use Rattle.act.specs.Act.{step}
 use Rattle.answer.specs.Read.{answerOk}

@@ -14,12 +14,12 @@ use Rattle.ttlv.specs.Tree.{isRun, treeOf}
 use Rattle.fields.proofs.Lift.{cut-tree}
 use Rattle.ttlv_put.specs.Write.{Holds}
 use Rattle.table.specs.Layout.{placeCount}
-use Rattle.frame.specs.declared.ItemId.{ItemId}
-use Rattle.frame.specs.declared.ItemParts.{ItemParts}
+use Rattle.batch_item.specs.declared.ItemId.{ItemId}
+use Rattle.batch_item.specs.declared.ItemParts.{ItemParts}
 use Rattle.tags.specs.Tags.{batchItem}
-use Rattle.frame.specs.Frame.{Asked, itemIn}
-use Rattle.frame.specs.Readers.{idOf, partsOf}
-use Rattle.frame.proofs.Item.{PartsShape, parts-shape}
+use Rattle.batch_item.specs.Item.{Asked, itemIn}
+use Rattle.batch_item.specs.Readers.{idOf, partsOf}
+use Rattle.batch_item.proofs.Item.{PartsShape, parts-shape}
 use Rattle.payload.specs.declared.Command.{Command}
 use Rattle.payload.specs.Payload.{command}
 use Rattle.plans.specs.declared.Outcome.{Outcome}

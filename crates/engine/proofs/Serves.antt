@@ -24,7 +24,8 @@ use Rattle.ttlv.proofs.Message.{message-tree}
 use Rattle.table.specs.Layout.{placeCount}
 use Rattle.soundness.proofs.SoundIs.{sound-is}
 use Rattle.frame.specs.declared.Framing.{Framing}
-use Rattle.frame.specs.Frame.{Asked, Frame, Framed, Request, refused, asked, frameIn, framing, framed, itemsIn, batchMost}
+use Rattle.batch_item.specs.Item.{Asked, itemsIn}
+use Rattle.frame.specs.Frame.{Frame, Framed, Request, refused, asked, frameIn, framing, framed, batchMost}
 use Rattle.frame.specs.Readers.{itemsAt, framingIn, framingOf}
 use Rattle.frame.proofs.Frame.{BatchShape, batch-shape}
 use Rattle.plans.specs.Plans.{Did, noClock, emptyHolder, envAt}

@@ -25,8 +25,9 @@ use Rattle.ttlv_put.specs.Write.{Holds}
 use Rattle.ttlv_put.proofs.Holds.{holds-none, holds-then}
 use Rattle.table.specs.Layout.{placeCount, Table, materialSize}
 use Rattle.tags.specs.Tags.{batchItem}
-use Rattle.frame.specs.Frame.{Asked, itemIn, itemsIn, batchMost, continue}
-use Rattle.frame.proofs.Items.{step, none-left}
+use Rattle.batch_item.specs.Item.{Asked, itemIn, itemsIn}
+use Rattle.frame.specs.Frame.{batchMost, continue}
+use Rattle.batch_item.proofs.Items.{step, none-left}
 use Rattle.plans.specs.Plans.{Did, noClock, emptyHolder, envAt}
 use Rattle.act.proofs.Plans.{step-performs}
 use Rattle.answer.specs.Respond.{Answer, batchItems}

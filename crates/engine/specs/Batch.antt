@@ -5,7 +5,8 @@ use mathlib.Core.Bool.{Bool, not, _&&_}
 use mathlib.Core.List.{List, [], _∷_}
 use lib.Dec.{eqb}
 use Rattle.octets.specs.If.{ifb}
-use Rattle.frame.specs.Frame.{Asked, Request, continue}
+use Rattle.batch_item.specs.Item.{Asked}
+use Rattle.frame.specs.Frame.{Request, continue}
 use Rattle.plans.specs.Plans.{Did, emptyHolder, envAt, isFailed}
 use Rattle.act.specs.Act.{step}
 use Rattle.answer.specs.Respond.{Answer}

@@ -12,7 +12,8 @@ use Rattle.ttlv.specs.Tree.{isRun, treeOf}
 use Rattle.ttlv_put.specs.Write.{Holds}
 use Rattle.table.specs.Layout.{placeCount, Table}
 use Rattle.tags.specs.Tags.{batchItem}
-use Rattle.frame.specs.Frame.{Asked, itemIn, itemsIn, batchMost}
+use Rattle.batch_item.specs.Item.{Asked, itemIn, itemsIn}
+use Rattle.frame.specs.Frame.{batchMost}
 use Rattle.payload.specs.Payload.{command}
 use Rattle.plans.specs.Plans.{Did, noClock, emptyHolder, isFailed}
 use Rattle.act.specs.Act.{performing}

@@ -73,7 +73,7 @@ fn one_item(body: &[u8], table: &mut [u8], fresh: &[u8], holder: u32, out: &mut 
     requires { ⌜ RunsOne (now body) (now table) (now out) ⌝ }
     ensures { λ r. ⌜ ItemIs (askedIn (now (body .entry))) (now (table .entry)) (now (fresh .entry)) holder (now (out .entry)) r (now (table .exit)) (now (out .exit)) ⌝ }
 {
-    let parts = frame::read_item(body);
+    let parts = batch_item::read_item(body);
     let start = parts.payload;
     let operation = parts.operation;
     let command = payload::read_command(operation, &body[start..]);

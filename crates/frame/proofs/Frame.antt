@@ -28,13 +28,15 @@ use Rattle.ttlv.proofs.Message.{message-tree}
 use Rattle.fields.proofs.Lift.{ended-lifts, body-rest, body-is-run}
 use Rattle.frame.specs.declared.HeaderRead.{HeaderRead}
 use Rattle.frame.specs.declared.HeaderRead.the-variants.{Read, NoHeader}
-use Rattle.frame.specs.declared.ItemsRead.the-variants.{Items as Counted, NoItems}
+use Rattle.batch_item.specs.declared.ItemsRead.the-variants.{Items as Counted, NoItems}
+use Rattle.batch_item.specs.Item.{Asked, itemsIn}
+use Rattle.batch_item.specs.Readers.{itemsRead}
+use Rattle.batch_item.proofs.Items.{none-left}
 use Rattle.frame.specs.declared.Framing.{Framing}
 use Rattle.frame.specs.declared.FrameRead.the-variants.{Parts, NoFrame}
 use Rattle.tags.specs.Tags.{requestHeader, requestMessage}
-use Rattle.frame.specs.Frame.{Asked, Header, Frame, Request, Framed, refused, asked, headerIn, itemsIn, frameIn, frameWrong, isVersion, versionOk, batchMost, isCount, countOk, optionOf, optionOk, framing, framed}
-use Rattle.frame.specs.Readers.{headerRead, itemsRead, bodyEnd, itemsAt, frameRead, framingIn, framingOf}
-use Rattle.frame.proofs.Items.{none-left}
+use Rattle.frame.specs.Frame.{Header, Frame, Request, Framed, refused, asked, headerIn, frameIn, frameWrong, isVersion, versionOk, batchMost, isCount, countOk, optionOf, optionOk, framing, framed}
+use Rattle.frame.specs.Readers.{headerRead, bodyEnd, itemsAt, frameRead, framingIn, framingOf}
 use Rattle.octets.proofs.Maybe.{not-some, some-is}
 use Rattle.fields.proofs.Runs.{tail, length-tail, run-behind, ended-yes, body-some, body-none}
 

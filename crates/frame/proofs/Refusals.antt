@@ -6,8 +6,10 @@ use mathlib.Core.Option.{Option, none, some}
 use mathlib.Core.List.{List}
 use native.Mathlib.Omega.{arith}
 use Rattle.octets.proofs.If.{on-bool}
-use Rattle.frame.specs.Frame.{Asked, Header, Frame, Request, refused, asked, frameWrong, versionOk, countOk, optionOf, optionOk, framing}
-use Rattle.frame.specs.Readers.{versionRead, headerRead, itemRead, itemsRead, frameRead}
+use Rattle.batch_item.specs.Item.{Asked}
+use Rattle.batch_item.specs.Readers.{itemRead, itemsRead}
+use Rattle.frame.specs.Frame.{Header, Frame, Request, refused, asked, frameWrong, versionOk, countOk, optionOf, optionOk, framing}
+use Rattle.frame.specs.Readers.{versionRead, headerRead, frameRead}
 use Rattle.frame.specs.Refusals.{readRefusal, versionRefusal, headerRefusal, itemRefusal, itemsRefusal, frameRefusal}
 use Rattle.frame.proofs.Frame.{other-version, other-count, other-option, accepted}
 

@@ -3,10 +3,6 @@
 use mathlib.Core.Path.{sym, _∙_}
 use Rattle.outcomes.specs.Outcomes.{OneAnswer}
 use Rattle.frame.proofs.read_frame.Reads as read-frame-reads
-use Rattle.frame.proofs.read_item.Reads as read-item-reads
 
 pub read-frame-unique : OneAnswer read-frame-reads.Post
 read-frame-unique κs a x y s t p q = p ∙ sym q
-
-pub read-item-unique : OneAnswer read-item-reads.Post
-read-item-unique κs a x y s t p q = p ∙ sym q

@@ -13,7 +13,8 @@ use Rattle.ttlv_types.specs.Types.{lengthOk, text, valueOk}
 use Rattle.ttlv.specs.Items.{encode, itemOk, wellFormed}
 use Rattle.ttlv.specs.Parse.{headed, firstOf, putValue, putGroup, more, walk, parse, isOne, message}
 use Rattle.fields.specs.Fields.{startsWith, bytesOf, bodyOf, numberOf, optional}
-use Rattle.frame.specs.Frame.{versionIn, headerIn, idOk, idBytes, itemIn, itemsIn, frameIn, optionOf, framing, framed}
+use Rattle.batch_item.specs.Item.{idOk, idBytes, itemIn, itemsIn}
+use Rattle.frame.specs.Frame.{versionIn, headerIn, frameIn, optionOf, framing, framed}
 
 -- what bytes say as a frame; 5 where they are no item
 framedBytes : Option Items → Framed

@@ -1,25 +1,20 @@
 -- 01, "Message frame" of a request, and refusals 6 to 9 of "Turning a request away".
 -- Assumes nothing. "Fields stand in the order given, brackets mean optional, nothing else may appear."
 use Prim.Native.Nat.{ℕ}
-use mathlib.Core.Bool.{Bool, true, not, _&&_, _||_}
+use mathlib.Core.Bool.{Bool, not, _&&_, _||_}
 use mathlib.Core.Option.{Option, none, some}
-use mathlib.Core.List.{List, [], _∷_}
+use mathlib.Core.List.{List}
 use lib.ListN.{length}
 use lib.Dec.{leb, eqb}
 use Rattle.octets.specs.If.{ifb}
 use Rattle.octets.specs.Maybe.{_>>=_, _>>_}
-use Rattle.ttlv_types.specs.Types.{integer, enumeration, byteString}
-use Rattle.ttlv.specs.Items.{Items, nil, value, group, ended}
-use Rattle.fields.specs.Fields.{bytesOf, bodyOf, numberOf, optional}
-use Rattle.tags.specs.Tags.{batchCount, batchErrorContinuationOption, batchItem, operationTag, protocolVersion, protocolVersionMajor, protocolVersionMinor, requestHeader, requestMessage, requestPayload, uniqueBatchItemId}
+use Rattle.ttlv_types.specs.Types.{integer, enumeration}
+use Rattle.ttlv.specs.Items.{Items, ended}
+use Rattle.fields.specs.Fields.{bodyOf, numberOf, optional}
+use Rattle.tags.specs.Tags.{batchCount, batchErrorContinuationOption, protocolVersion, protocolVersionMajor, protocolVersionMinor, requestHeader, requestMessage}
+use Rattle.batch_item.specs.Item.{Asked, itemsIn}
 
 -- ---- what a frame says
-
--- a batch item: its operation, its Unique Batch Item ID (no bytes where none was given), its payload
-pub record Asked : Type 0 where
-  pub operation : ℕ
-  pub id : List ℕ
-  pub payload : Items
 
 -- a header: version, option if given, count
 pub record Header : Type 0 where
@@ -51,42 +46,6 @@ headerIn t = do
   (count, u) ← numberOf batchCount integer s
   ended u
   some (record { major = major; minor = minor; option = option; count = count })
-
-abbrev pub idMost : ℕ
-idMost = 16
-
--- "A Unique Batch Item ID has 1 to 16 bytes"
-abbrev pub idLengthOk : ℕ → Bool
-idLengthOk n = leb 1 n && leb n idMost
-
-unfoldable pub idOk : Option (List ℕ) → Bool
-idOk none = true
-idOk (some v) = idLengthOk (length v)
-
--- the ID's bytes, none where it is absent
-unfoldable pub idBytes : Option (List ℕ) → List ℕ
-idBytes none = []
-idBytes (some v) = v
-
--- "Batch Item { Operation, Enumeration, [Unique Batch Item ID, Byte String], Request Payload }"
-unfoldable pub itemIn : Items → Option Asked
-itemIn t = do
-  (operation, r) ← numberOf operationTag enumeration t
-  (id, s) ← optional uniqueBatchItemId (bytesOf uniqueBatchItemId byteString) r
-  idOk id
-  (payload, u) ← bodyOf requestPayload s
-  ended u
-  some (record { operation = operation; id = idBytes id; payload = payload })
-
--- a run of batch items and nothing else
-unfoldable pub itemsIn : Items → Option (List Asked)
-itemsIn nil = some []
-itemsIn (value tag kind v rest) = none
-itemsIn (group tag body rest) = do
-  eqb tag batchItem
-  item ← itemIn body
-  items ← itemsIn rest
-  some (item ∷ items)
 
 -- "Request Message { Request Header, one or more Batch Item }"
 unfoldable pub frameIn : Items → Option Frame

@@ -6,10 +6,10 @@ use Rattle.frame.specs.declared.VersionRead.{VersionRead}
 use Rattle.frame.specs.declared.VersionRead.the-variants.{Version, NoVersion}
 use Rattle.frame.specs.declared.HeaderRead.{HeaderRead}
 use Rattle.frame.specs.declared.HeaderRead.the-variants.{Read, NoHeader}
-use Rattle.frame.specs.declared.ItemRead.{ItemRead}
-use Rattle.frame.specs.declared.ItemRead.the-variants.{Item, NoItem}
-use Rattle.frame.specs.declared.ItemsRead.{ItemsRead}
-use Rattle.frame.specs.declared.ItemsRead.the-variants.{Items as Counted, NoItems}
+use Rattle.batch_item.specs.declared.ItemRead.{ItemRead}
+use Rattle.batch_item.specs.declared.ItemRead.the-variants.{Item, NoItem}
+use Rattle.batch_item.specs.declared.ItemsRead.{ItemsRead}
+use Rattle.batch_item.specs.declared.ItemsRead.the-variants.{Items as Counted, NoItems}
 use Rattle.frame.specs.declared.FrameRead.{FrameRead}
 use Rattle.frame.specs.declared.FrameRead.the-variants.{Parts, NoFrame}
 use Rattle.frame.specs.Frame.{frameWrong}

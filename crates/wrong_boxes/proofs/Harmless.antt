@@ -16,8 +16,9 @@ use Rattle.octets.proofs.Over.{length-over}
 use Rattle.octets.proofs.Bools.{and-l, and-i}
 use Rattle.octets.proofs.If.{on-if}
 use Rattle.ttlv.specs.Items.{Items, encode}
-use Rattle.frame.specs.Frame.{Asked, Frame, frameIn, idMost, batchMost}
-use Rattle.frame.proofs.Bounds.{AllBounded}
+use Rattle.batch_item.specs.Item.{Asked, idMost}
+use Rattle.frame.specs.Frame.{Frame, frameIn, batchMost}
+use Rattle.batch_item.proofs.Bounds.{AllBounded}
 use Rattle.answer.specs.Respond.{Answer, respond}
 use Rattle.answer.specs.Read.{outcomeOk, answerOk, allowed}
 use Rattle.answer.proofs.Front.{response-size}

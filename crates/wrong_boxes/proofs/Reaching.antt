@@ -23,7 +23,8 @@ use Rattle.rules.specs.declared.Reason.the-variants.{ServerLimitExceeded}
 use Rattle.rules.specs.Tests.{due}
 use Rattle.changes.specs.Changes.{isFull, nextSerial}
 use Rattle.keeps.proofs.Keeps.{Held}
-use Rattle.frame.specs.Frame.{Asked, Frame, frameIn, optionOf}
+use Rattle.batch_item.specs.Item.{Asked}
+use Rattle.frame.specs.Frame.{Frame, frameIn, optionOf}
 use Rattle.payload.specs.declared.Target.the-variants.{Serial}
 use Rattle.payload.specs.declared.Command.{Command}
 use Rattle.payload.specs.declared.Command.the-variants.{Create, GetUsageAllocation, Destroy}

@@ -17,7 +17,8 @@ use Rattle.rules.specs.declared.Reason.the-variants.{InvalidField, ObjectDestro
 use Rattle.rules.specs.Numbers.{active, destroyed, getUsageAllocation, reasonNumber}
 use Rattle.changes.specs.Records.{inState, withCount}
 use Rattle.ttlv.specs.Items.{encode}
-use Rattle.frame.specs.Frame.{Asked, Frame, optionOf, continue}
+use Rattle.batch_item.specs.Item.{Asked}
+use Rattle.frame.specs.Frame.{Frame, optionOf, continue}
 use Rattle.words.specs.Words.{wordsSize, wordsOf}
 use Rattle.payload.specs.declared.Target.the-variants.{Placeholder, Serial}
 use Rattle.payload.specs.declared.Command.{Command}

@@ -31,12 +31,12 @@ use Rattle.ttlv.proofs.Step.{rest}
 use Rattle.fields.proofs.Found.{bytes-ends}
 use Rattle.ttlv.proofs.Tree.{Rest}
 use Rattle.fields.proofs.Lift.{bytes-rest, number-rest, body-rest, body-is-run, word-below}
-use Rattle.frame.specs.declared.ItemId.{ItemId}
-use Rattle.frame.specs.declared.ItemParts.{ItemParts}
-use Rattle.frame.specs.declared.ItemRead.the-variants.{Item, NoItem}
+use Rattle.batch_item.specs.declared.ItemId.{ItemId}
+use Rattle.batch_item.specs.declared.ItemParts.{ItemParts}
+use Rattle.batch_item.specs.declared.ItemRead.the-variants.{Item, NoItem}
 use Rattle.tags.specs.Tags.{operationTag, requestPayload, uniqueBatchItemId}
-use Rattle.frame.specs.Frame.{Asked, idMost, idLengthOk, idOk, idBytes, itemIn}
-use Rattle.frame.specs.Readers.{numberEnd, bytesEnd, idSpan, idAt, operationEnd, payloadAt, itemRead, idOf, partsIn, partsOf}
+use Rattle.batch_item.specs.Item.{Asked, idMost, idLengthOk, idOk, idBytes, itemIn}
+use Rattle.batch_item.specs.Readers.{numberEnd, bytesEnd, idSpan, idAt, operationEnd, payloadAt, itemRead, idOf, partsIn, partsOf}
 use Rattle.octets.proofs.Maybe.{not-some, some-is}
 use Rattle.octets.proofs.Zeros.{drop-zeros}
 use Rattle.fields.proofs.Runs.{tail, tail-none, length-tail, run-behind, ended-yes, ended-not, number-some, number-none, bytes-some, bytes-none, body-some, body-none, optional-there, optional-absent}

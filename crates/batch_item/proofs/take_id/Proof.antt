@@ -1,9 +1,9 @@
--- `frame::take_id`. The bytes stored over sixteen zeros.
+-- `batch_item::take_id`. The bytes stored over sixteen zeros.
 -- Assumes nothing.
-use Rattle.frame.proofs.Item.{id-filled}
+use Rattle.batch_item.proofs.Item.{id-filled}
 use borrow.Author.Needs.{needs}
-use Rattle.frame.proofs.take_id.Statement.{statement}
-use Rattle.frame.proofs.take_id.Tie as tie
+use Rattle.batch_item.proofs.take_id.Statement.{statement}
+use Rattle.batch_item.proofs.take_id.Tie as tie
 
 slice-aggregate-put-all : tie.Need-slice-aggregate-put-all
 slice-aggregate-put-all c = search needs

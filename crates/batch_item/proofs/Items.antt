@@ -25,11 +25,11 @@ use Rattle.ttlv.proofs.View.{empty, first-end}
 use Rattle.fields.proofs.Found.{body-first}
 use Rattle.ttlv.proofs.Tree.{Tree, t-end, t-value, t-group, tree, tree-end, tree-group}
 use Rattle.fields.proofs.Lift.{body-rest, body-is-run}
-use Rattle.frame.specs.declared.ItemsRead.{ItemsRead}
-use Rattle.frame.specs.declared.ItemsRead.the-variants.{Items as Counted, NoItems}
+use Rattle.batch_item.specs.declared.ItemsRead.{ItemsRead}
+use Rattle.batch_item.specs.declared.ItemsRead.the-variants.{Items as Counted, NoItems}
 use Rattle.tags.specs.Tags.{batchItem}
-use Rattle.frame.specs.Frame.{Asked, itemIn, itemsIn}
-use Rattle.frame.specs.Readers.{itemsRead}
+use Rattle.batch_item.specs.Item.{Asked, itemIn, itemsIn}
+use Rattle.batch_item.specs.Readers.{itemsRead}
 use Rattle.octets.proofs.Maybe.{not-some}
 use Rattle.fields.proofs.Runs.{tail}
 

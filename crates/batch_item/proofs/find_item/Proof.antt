@@ -1,4 +1,4 @@
--- `frame::find_item`. Each way through by its law.
+-- `batch_item::find_item`. Each way through by its law.
 -- Assumes nothing.
 use mathlib.Core.Path.{_≡_, refl, sym, ap, _∙_}
 use Prim.Native.Nat.{ℕ, _+_, _-_, _≤_}
@@ -17,11 +17,11 @@ use Rattle.fields.proofs.Found.{number-ends}
 use Rattle.fields.proofs.Lift.{word-below}
 use Rattle.fields.proofs.Runs.{tail}
 use Rattle.tags.specs.Tags.{operationTag, requestPayload}
-use Rattle.frame.specs.Readers.{idAt, itemRead}
-use Rattle.frame.proofs.Item.{item-no-operation, item-id, item-bad-id, item-no-payload, item-room, item-more, item-reads}
+use Rattle.batch_item.specs.Readers.{idAt, itemRead}
+use Rattle.batch_item.proofs.Item.{item-no-operation, item-id, item-bad-id, item-no-payload, item-room, item-more, item-reads}
 use borrow.Author.Needs.{needs}
-use Rattle.frame.proofs.find_item.Statement.{statement}
-use Rattle.frame.proofs.find_item.Tie as tie
+use Rattle.batch_item.proofs.find_item.Statement.{statement}
+use Rattle.batch_item.proofs.find_item.Tie as tie
 
 number-field-requires : tie.Need-number-field-requires
 number-field-requires c κs = search needs

@@ -1,4 +1,4 @@
--- `frame::read_id`. What was read stands at the front, and by its length; where nothing was read, by whether the tag stands there.
+-- `batch_item::read_id`. What was read stands at the front, and by its length; where nothing was read, by whether the tag stands there.
 -- Assumes nothing.
 use mathlib.Core.Path.{_≡_, sym, ap, _∙_}
 use Prim.Native.Nat.{ℕ}
@@ -11,11 +11,11 @@ use Rattle.ttlv_types.specs.Types.{byteString}
 use Rattle.fields.specs.declared.BytesField.the-variants.{Span}
 use Rattle.fields.proofs.Found.{bytes-starts}
 use Rattle.tags.specs.Tags.{uniqueBatchItemId}
-use Rattle.frame.specs.Frame.{idMost}
-use Rattle.frame.specs.Readers.{idSpan, idAt}
+use Rattle.batch_item.specs.Item.{idMost}
+use Rattle.batch_item.specs.Readers.{idSpan, idAt}
 use borrow.Author.Needs.{needs}
-use Rattle.frame.proofs.read_id.Statement.{statement}
-use Rattle.frame.proofs.read_id.Tie as tie
+use Rattle.batch_item.proofs.read_id.Statement.{statement}
+use Rattle.batch_item.proofs.read_id.Tie as tie
 
 bytes-field-requires : tie.Need-bytes-field-requires
 bytes-field-requires c κs = search needs

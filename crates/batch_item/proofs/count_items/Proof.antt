@@ -1,4 +1,4 @@
--- `frame::count_items`. What is counted and what is left decide; the rest of the run is shorter.
+-- `batch_item::count_items`. What is counted and what is left decide; the rest of the run is shorter.
 -- Assumes nothing.
 use mathlib.Core.Path.{_≡_, sym, ap, _∙_}
 use Prim.Native.Nat.{ℕ, _+_, _-_, _≤_}
@@ -12,15 +12,15 @@ use Rattle.fields.specs.Found.{bodyAt}
 use Rattle.fields.specs.declared.BodyField.the-variants.{Body}
 use Rattle.fields.proofs.Lift.{body-rest, body-is-run}
 use Rattle.fields.proofs.Runs.{run-behind}
-use Rattle.frame.specs.declared.ItemsRead.the-variants.{Items as Counted}
+use Rattle.batch_item.specs.declared.ItemsRead.the-variants.{Items as Counted}
 use Rattle.tags.specs.Tags.{batchItem}
-use Rattle.frame.specs.Frame.{itemsIn}
-use Rattle.frame.specs.Readers.{itemsRead}
-use Rattle.frame.proofs.Item.{item-absent, told-item}
-use Rattle.frame.proofs.Items.{counted, counted-none, items-end, items-other, items-bad, items-more}
+use Rattle.batch_item.specs.Item.{itemsIn}
+use Rattle.batch_item.specs.Readers.{itemsRead}
+use Rattle.batch_item.proofs.Item.{item-absent, told-item}
+use Rattle.batch_item.proofs.Items.{counted, counted-none, items-end, items-other, items-bad, items-more}
 use borrow.Author.Needs.{needs}
-use Rattle.frame.proofs.count_items.Statement.{statement}
-use Rattle.frame.proofs.count_items.Tie as tie
+use Rattle.batch_item.proofs.count_items.Statement.{statement}
+use Rattle.batch_item.proofs.count_items.Tie as tie
 
 abbrev Inv-loop : tie.InvT-loop
 Inv-loop s t₀ count₀ t count = (isRun t ≡ true) × (itemsRead (itemsIn (treeOf s)) ≡ counted count (itemsIn (treeOf t))) × (count + length t ≤ length s)

@@ -1,4 +1,4 @@
--- `frame::read_item`. The parts that the item reader tells, with the ID carried by its struct.
+-- `batch_item::read_item`. The parts that the item reader tells, with the ID carried by its struct.
 -- Assumes nothing.
 use mathlib.Core.Path.{_≡_, sym, _∙_}
 use Prim.Native.Nat.{ℕ, _+_, _-_, _≤_}
@@ -7,13 +7,13 @@ use mathlib.Core.Bool.{true}
 use mathlib.Core.List.{List}
 use lib.ListN.{length}
 use Rattle.ttlv.specs.Tree.{isRun, treeOf}
-use Rattle.frame.specs.declared.ItemRead.the-variants.{Item}
-use Rattle.frame.specs.Frame.{idMost, itemIn}
-use Rattle.frame.specs.Readers.{itemRead}
-use Rattle.frame.proofs.Item.{no-item, told-room, id-fits, parts-are}
+use Rattle.batch_item.specs.declared.ItemRead.the-variants.{Item}
+use Rattle.batch_item.specs.Item.{idMost, itemIn}
+use Rattle.batch_item.specs.Readers.{itemRead}
+use Rattle.batch_item.proofs.Item.{no-item, told-room, id-fits, parts-are}
 use borrow.Author.Needs.{needs}
-use Rattle.frame.proofs.read_item.Statement.{statement}
-use Rattle.frame.proofs.read_item.Tie as tie
+use Rattle.batch_item.proofs.read_item.Statement.{statement}
+use Rattle.batch_item.proofs.read_item.Tie as tie
 
 find-item-requires : tie.Need-find-item-requires
 find-item-requires c κs = c .before .pre .0
