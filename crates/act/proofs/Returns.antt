@@ -28,7 +28,7 @@ use Rattle.rules.specs.Tests.{due}
 use Rattle.rules.specs.States.{moveTests, movedState, nextUnless, nextState, grantTests, leftUnless, granting}
 use Rattle.changes.specs.Records.{newRecord, heirOf, linkedTo, movedTo, withCount}
 use Rattle.changes.specs.Changes.{serialMost, nextSerial, bornAt, withBorn, withHeir}
-use Rattle.payload.specs.declared.Target.{Target}
+use Rattle.target_read.specs.declared.Target.{Target}
 use Rattle.payload.specs.declared.Command.{Command}
 use Rattle.payload.specs.declared.Command.the-variants.{Unsupported, Invalid, Create, Rekey, GetUsageAllocation, Activate, Revoke, Destroy, GetAttributes, Get}
 use Rattle.act.specs.declared.Outcome.the-variants.{Created, Done, Got}

@@ -21,8 +21,8 @@ use Rattle.rules.specs.States.{activateTests, revokeTests, destroyTests, grantT
 use Rattle.changes.specs.Records.{newRecord, heirOf, movedTo, withCount}
 use Rattle.changes.specs.Changes.{isFull, nextSerial, withBorn, withHeir}
 use Rattle.frame.specs.Frame.{Asked}
-use Rattle.payload.specs.declared.Target.{Target}
-use Rattle.payload.specs.declared.Target.the-variants.{Placeholder, Serial}
+use Rattle.target_read.specs.declared.Target.{Target}
+use Rattle.target_read.specs.declared.Target.the-variants.{Placeholder, Serial}
 use Rattle.payload.specs.declared.Command.{Command}
 use Rattle.payload.specs.declared.Command.the-variants.{Unsupported, Invalid, Create, Rekey, GetUsageAllocation, Activate, Revoke, Destroy, GetAttributes, Get}
 use Rattle.payload.specs.Payload.{command}

@@ -15,7 +15,7 @@ use Rattle.rules.specs.declared.Reason.the-variants.{ObjectDestroyed, ServerLim
 use Rattle.rules.specs.States.{moveTests}
 use Rattle.changes.specs.Records.{heirOf, linkedTo}
 use Rattle.changes.specs.Changes.{serialMost, nextSerial, bornAt}
-use Rattle.payload.specs.declared.Target.{Target}
+use Rattle.target_read.specs.declared.Target.{Target}
 use Rattle.act.specs.declared.Outcome.the-variants.{Failed, Done, Showed, Got}
 use Rattle.act.specs.declared.Performed.{Performed}
 use Rattle.act.specs.declared.Deed.{Deed}

@@ -8,13 +8,13 @@ ghost use Rattle.changes.specs.Changes.{bornAt};
 ghost use Rattle.act.specs.Act.{emptyHolder, sought, createPlan, rekeyPlan, allocationPlan, carriedOut, inPlaces, performing, leaves, isFailed};
 ghost use Rattle.act.specs.Perform.{TwoPlaces, failed, showing, giving, storing, placeForNew, linkedAt, replacing, movePlan, deedPlan, aboutPlan};
 use payload::Command;
-use payload::Target;
 use rules::Attributes;
 use rules::Granted;
 use rules::Next;
 use rules::Reason;
 use search::Found;
 use table::Record;
+use target_read::Target;
 use words::Words;
 
 // What Get Attributes shows of a record. Unit 0 is no usage limit; a link serial 0 is no link.

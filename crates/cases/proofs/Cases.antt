@@ -19,7 +19,9 @@ use Rattle.changes.specs.Records.{materialFrom, newRecord, heirOf, linkedTo, in
 use Rattle.rules.specs.States.{canRevoke, canDestroy, activateTests, revokeTests, destroyTests, moveTests, revokedState, destroyedState, movedState, nextUnless, nextState, grantTests, leftUnless, granting}
 use Rattle.rules.specs.Tests.{due}
 use Rattle.frame.specs.Frame.{versionIn, headerIn, idOk, idBytes, itemIn, itemsIn, frameIn, optionOf, framing, framed}
-use Rattle.payload.specs.Payload.{limitIn, limitFirst, wantedOf, limitsIn, maskedIn, attributesIn, createIn, targetOf, targetIn, aloneIn, allocationIn, revokeIn, orInvalid, command}
+use Rattle.attributes_read.specs.Attributes.{limitIn, limitFirst, wantedOf, limitsIn, maskedIn, attributesIn}
+use Rattle.target_read.specs.Target.{targetOf, targetIn}
+use Rattle.payload.specs.Payload.{createIn, aloneIn, allocationIn, revokeIn, orInvalid, command}
 use Rattle.words.specs.Words.{wordsOf, wordBytes, wordsOk, filled}
 use Rattle.act.specs.Act.{sought, carried, shownOf, createPlan, rekeyPlan, allocationPlan, activatePlan, revokePlan, destroyPlan, showPlan, onFound, plan, step, isFailed, keyOf, getPlan}
 use Rattle.answer.specs.Read.{spelled, fixed, serialIn, limitsFirst, orNoLimits, linkFirst, orNoLink, linkIn, shownIn, createdIn, doneIn, showedIn, payloadIn, reasonAmong, failureIn, successIn, outcomeIn, answerIn, answersOf, headIn, shownOk, outcomeOk, answerOk, allowed, ifAllowed, answersIn, keyRead, keyBlockIn, keyIn, gotIn, keyOk}

@@ -28,7 +28,7 @@ use Rattle.keeps.proofs.Stores.{other}
 use Rattle.keeps.proofs.Keeps.{Held, found-stands}
 use Rattle.keeps.proofs.Leaves.{moved-leaves, count-leaves, born-leaves, heir-leaves}
 use Rattle.frame.specs.Frame.{Asked}
-use Rattle.payload.specs.declared.Target.{Target}
+use Rattle.target_read.specs.declared.Target.{Target}
 use Rattle.payload.specs.declared.Command.{Command}
 use Rattle.payload.specs.Payload.{command}
 use Rattle.act.specs.Act.{Env, Did, envAt, sought, createPlan, rekeyPlan, shownOf, keyOf, step, isFailed}

@@ -22,10 +22,12 @@ use Rattle.search.specs.Search.{firstFrom, orElse, find, freePlace, destroyedPl
 use Rattle.soundness.specs.Checked.{isAt}
 use Rattle.rules.specs.declared.Reason.the-variants.{UsageLimitExceeded}
 use Rattle.frame.specs.Frame.{Asked}
-use Rattle.payload.specs.declared.Target.the-variants.{Placeholder, Serial}
+use Rattle.target_read.specs.declared.Target.the-variants.{Placeholder, Serial}
 use Rattle.payload.specs.declared.Command.{Command}
 use Rattle.payload.specs.declared.Command.the-variants.{Unsupported, Invalid, Create, Rekey, GetUsageAllocation, Activate, Revoke, Destroy, GetAttributes, Get}
-use Rattle.payload.specs.Payload.{limitIn, limitFirst, wantedOf, limitsIn, maskedIn, attributesIn, createIn, targetOf, targetIn, aloneIn, allocationIn, revokeIn, orInvalid, command}
+use Rattle.attributes_read.specs.Attributes.{limitIn, limitFirst, wantedOf, limitsIn, maskedIn, attributesIn}
+use Rattle.target_read.specs.Target.{targetOf, targetIn}
+use Rattle.payload.specs.Payload.{createIn, aloneIn, allocationIn, revokeIn, orInvalid, command}
 use Rattle.act.specs.declared.Key.{Key}
 use Rattle.act.specs.declared.Outcome.{Outcome}
 use Rattle.act.specs.declared.Outcome.the-variants.{Failed, Created, Done, Showed, Got}

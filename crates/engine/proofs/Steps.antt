@@ -31,7 +31,7 @@ use Rattle.keeps.proofs.Keeps.{Held, found-stands, range, fit, next-fits, keeps
 use Rattle.words.specs.Words.{wordsOf, wordBytes, wordsOk}
 use Rattle.words.proofs.Laws.{words-back, words-fit}
 use Rattle.frame.specs.Frame.{Asked, idMost}
-use Rattle.payload.specs.declared.Target.{Target}
+use Rattle.target_read.specs.declared.Target.{Target}
 use Rattle.payload.specs.declared.Command.{Command}
 use Rattle.payload.specs.declared.Command.the-variants.{Create, Rekey, GetUsageAllocation, GetAttributes, Get}
 use Rattle.act.specs.Act.{Env, Did, sought, createPlan, rekeyPlan, shownOf, keyOf, step}

@@ -24,7 +24,7 @@ use Rattle.rules.specs.Tests.{due}
 use Rattle.changes.specs.Changes.{isFull, nextSerial}
 use Rattle.keeps.proofs.Keeps.{Held}
 use Rattle.frame.specs.Frame.{Asked, Frame, frameIn, optionOf}
-use Rattle.payload.specs.declared.Target.the-variants.{Serial}
+use Rattle.target_read.specs.declared.Target.the-variants.{Serial}
 use Rattle.payload.specs.declared.Command.{Command}
 use Rattle.payload.specs.declared.Command.the-variants.{Create, GetUsageAllocation, Destroy}
 use Rattle.payload.specs.Payload.{command}
