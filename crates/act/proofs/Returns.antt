@@ -14,7 +14,7 @@ use Rattle.rules.specs.declared.Reason.the-variants.{OperationNotSupported, Inv
 use Rattle.rules.specs.declared.Attributes.{Attributes}
 use Rattle.rules.specs.Numbers.{activate, revoke, destroy}
 use Rattle.rules.specs.States.{moveTests}
-use Rattle.payload.specs.declared.Target.{Target}
+use Rattle.target_read.specs.declared.Target.{Target}
 use Rattle.payload.specs.declared.Command.{Command}
 use Rattle.payload.specs.declared.Command.the-variants.{Unsupported, Invalid, Create, Rekey, GetUsageAllocation, Activate, Revoke, Destroy, GetAttributes, Get}
 use Rattle.plans.specs.declared.Performed.{Performed}

@@ -24,7 +24,7 @@ use Rattle.rules.specs.States.{activateTests, revokeTests, destroyTests, moveTe
 use Rattle.changes.specs.Records.{movedTo, withCount}
 use Rattle.changes.specs.Changes.{isFull}
 use Rattle.batch_item.specs.Item.{Asked}
-use Rattle.payload.specs.declared.Target.{Target}
+use Rattle.target_read.specs.declared.Target.{Target}
 use Rattle.payload.specs.declared.Command.{Command}
 use Rattle.payload.specs.declared.Command.the-variants.{Unsupported, Invalid, Create, Rekey, GetUsageAllocation, Activate, Revoke, Destroy, GetAttributes, Get}
 use Rattle.payload.specs.Payload.{command}

@@ -9,8 +9,8 @@ use Rattle.table.specs.Records.{placeAt}
 use Rattle.search.specs.Search.{find}
 use Rattle.rules.specs.declared.Reason.the-variants.{OperationNotSupported, InvalidField, ObjectNotFound}
 use Rattle.batch_item.specs.Item.{Asked}
-use Rattle.payload.specs.declared.Target.{Target}
-use Rattle.payload.specs.declared.Target.the-variants.{Placeholder, Serial}
+use Rattle.target_read.specs.declared.Target.{Target}
+use Rattle.target_read.specs.declared.Target.the-variants.{Placeholder, Serial}
 use Rattle.payload.specs.declared.Command.{Command}
 use Rattle.payload.specs.declared.Command.the-variants.{Unsupported, Invalid, Create, Rekey, GetUsageAllocation, Activate, Revoke, Destroy, GetAttributes, Get}
 use Rattle.payload.specs.Payload.{command}

@@ -7,10 +7,10 @@ ghost use Rattle.act.specs.Act.{sought, performing};
 ghost use Rattle.act.specs.Perform.{aboutPlan};
 use deeds::Deed;
 use payload::Command;
-use payload::Target;
 use plans::Performed;
 use rules::Reason;
 use search::Found;
+use target_read::Target;
 
 // The serial of the record that an item is about, 0 for none.
 fn sought(holder: u32, target: Target) -> u32

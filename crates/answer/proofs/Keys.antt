@@ -15,7 +15,8 @@ use Rattle.octets.proofs.Maybe.{some-is, on-bind, on-test}
 use Rattle.ttlv_types.specs.Types.{integer, enumeration, byteString}
 use Rattle.ttlv.specs.Items.{Items, nil, value, group, ended}
 use Rattle.tags.specs.Tags.{cryptographicAlgorithm, cryptographicLength, keyBlock, keyFormatType, keyMaterial, keyValue, objectType, symmetricKeyTag, uniqueIdentifier}
-use Rattle.payload.specs.Payload.{symmetricKey, aes}
+use Rattle.attributes_read.specs.Attributes.{aes}
+use Rattle.payload.specs.Payload.{symmetricKey}
 use Rattle.values.specs.Values.{bitsOk}
 use Rattle.table.specs.declared.Record.{Record}
 use Rattle.words.specs.declared.Words.{Words}

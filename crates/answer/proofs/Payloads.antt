@@ -14,7 +14,8 @@ use Rattle.ttlv.specs.Items.{Items, nil, group, ended}
 use Rattle.fields.specs.Fields.{startsWith, bodyOf}
 use Rattle.octets.proofs.Bools.{both}
 use Rattle.tags.specs.Tags.{attributes, cryptographicAlgorithm, cryptographicLength, cryptographicUsageMask, objectType, uniqueIdentifier, usageLimits, stateTag}
-use Rattle.payload.specs.Payload.{symmetricKey, aes}
+use Rattle.attributes_read.specs.Attributes.{aes}
+use Rattle.payload.specs.Payload.{symmetricKey}
 use Rattle.values.specs.Values.{bitsOk, maskOk}
 use Rattle.plans.specs.declared.Shown.{Shown}
 use Rattle.plans.specs.declared.Outcome.{Outcome}

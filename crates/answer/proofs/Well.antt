@@ -14,7 +14,8 @@ use Rattle.octets.proofs.If.{on-if}
 use Rattle.octets.proofs.Numbers.{length-be}
 use Rattle.ttlv_types.specs.Types.{structure, integer, longInteger, enumeration, textString, byteString, dateTime, lengthOk, text, valueOk}
 use Rattle.tags.specs.Tags.{tagLead, tagOk, batchCount, batchItem, operationTag, protocolVersion, protocolVersionMajor, protocolVersionMinor, uniqueBatchItemId, attributes, cryptographicAlgorithm, cryptographicLength, cryptographicUsageMask, keyBlock, keyFormatType, keyMaterial, keyValue, objectType, uniqueIdentifier, usageLimits, usageLimitsCount, usageLimitsTotal, usageLimitsUnit, link, linkType, linkedObjectIdentifier, responseHeader, responseMessage, responsePayload, resultReason, resultStatus, stateTag, symmetricKeyTag, timeStamp}
-use Rattle.payload.specs.Payload.{symmetricKey, aes}
+use Rattle.attributes_read.specs.Attributes.{aes}
+use Rattle.payload.specs.Payload.{symmetricKey}
 use Rattle.ttlv.specs.Items.{Items, nil, value, group, itemOk, wellFormed}
 use Rattle.ttlv.specs.Parse.{depthMost}
 use Rattle.octets.proofs.Bools.{both, and-i}

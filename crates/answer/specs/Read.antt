@@ -13,7 +13,8 @@ use Rattle.ttlv_types.specs.Types.{integer, longInteger, enumeration, textStrin
 use Rattle.ttlv.specs.Items.{Items, nil, value, group, ended}
 use Rattle.fields.specs.Fields.{bytesOf, bodyOf, optional}
 use Rattle.tags.specs.Tags.{batchCount, batchItem, operationTag, protocolVersion, protocolVersionMajor, protocolVersionMinor, uniqueBatchItemId, attributes, cryptographicAlgorithm, cryptographicLength, cryptographicUsageMask, keyBlock, keyFormatType, keyMaterial, keyValue, objectType, uniqueIdentifier, usageLimits, usageLimitsCount, usageLimitsTotal, usageLimitsUnit, link, linkType, linkedObjectIdentifier, responseHeader, responseMessage, responsePayload, resultReason, resultStatus, stateTag, symmetricKeyTag, timeStamp}
-use Rattle.payload.specs.Payload.{symmetricKey, aes}
+use Rattle.attributes_read.specs.Attributes.{aes}
+use Rattle.payload.specs.Payload.{symmetricKey}
 use Rattle.identifier.specs.Identifier.{serialOf}
 use Rattle.values.specs.Values.{bitsOk, maskOk, unitOk, totalOk}
 use Rattle.rules.specs.declared.Reason.{Reason}

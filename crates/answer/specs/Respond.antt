@@ -9,7 +9,8 @@ use Rattle.octets.specs.Octets.{be}
 use Rattle.ttlv_types.specs.Types.{integer, longInteger, enumeration, textString, byteString, dateTime}
 use Rattle.ttlv.specs.Items.{Items, nil, value, group}
 use Rattle.tags.specs.Tags.{batchCount, batchItem, operationTag, protocolVersion, protocolVersionMajor, protocolVersionMinor, uniqueBatchItemId, attributes, cryptographicAlgorithm, cryptographicLength, cryptographicUsageMask, keyBlock, keyFormatType, keyMaterial, keyValue, objectType, uniqueIdentifier, usageLimits, usageLimitsCount, usageLimitsTotal, usageLimitsUnit, link, linkType, linkedObjectIdentifier, responseHeader, responseMessage, responsePayload, resultReason, resultStatus, stateTag, symmetricKeyTag, timeStamp}
-use Rattle.payload.specs.Payload.{symmetricKey, aes}
+use Rattle.attributes_read.specs.Attributes.{aes}
+use Rattle.payload.specs.Payload.{symmetricKey}
 use Rattle.identifier.specs.Identifier.{identifier}
 use Rattle.rules.specs.Numbers.{success, operationFailed, reasonNumber}
 use Rattle.words.specs.Words.{wordBytes}

@@ -17,7 +17,7 @@ ghost use Rattle.answer.specs.Respond.{word, named, attributeItems, keyItems, o
 ghost use Rattle.answer.specs.Front.{headerSize, frameSize, longestItem, front};
 ghost use Rattle.attributes_write.specs.Puts.{Puts};
 ghost use Rattle.answer_write.specs.Answers.{opening, answerOf};
-use frame::ItemId;
+use batch_item::ItemId;
 use plans::Key;
 use plans::Outcome;
 use plans::Shown;

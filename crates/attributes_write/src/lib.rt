@@ -8,7 +8,7 @@ ghost use Rattle.ttlv_types.specs.Types.{integer, longInteger, enumeration, tex
 ghost use Rattle.ttlv.specs.Items.{nil, group};
 ghost use Rattle.ttlv_put.specs.Write.{WroteValue};
 ghost use Rattle.tags.specs.Tags.{attributes, cryptographicAlgorithm, cryptographicLength, cryptographicUsageMask, usageLimitsCount, usageLimitsTotal, usageLimitsUnit, linkType, linkedObjectIdentifier, stateTag};
-ghost use Rattle.payload.specs.Payload.{aes};
+ghost use Rattle.attributes_read.specs.Attributes.{aes};
 ghost use Rattle.identifier.specs.Identifier.{identifier};
 ghost use Rattle.answer.specs.Respond.{word, long, named, limitItems, linkItems, attributeItems, replacedObjectLink, replacementObjectLink};
 ghost use Rattle.attributes_write.specs.Puts.{Puts};

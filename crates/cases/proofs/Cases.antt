@@ -20,7 +20,9 @@ use Rattle.rules.specs.States.{canRevoke, canDestroy, activateTests, revokeTest
 use Rattle.rules.specs.Tests.{due}
 use Rattle.batch_item.specs.Item.{idOk, idBytes, itemIn, itemsIn}
 use Rattle.frame.specs.Frame.{versionIn, headerIn, frameIn, optionOf, framing, framed}
-use Rattle.payload.specs.Payload.{limitIn, limitFirst, wantedOf, limitsIn, maskedIn, attributesIn, createIn, targetOf, targetIn, aloneIn, allocationIn, revokeIn, orInvalid, command}
+use Rattle.attributes_read.specs.Attributes.{limitIn, limitFirst, wantedOf, limitsIn, maskedIn, attributesIn}
+use Rattle.payload.specs.Payload.{createIn, aloneIn, allocationIn, revokeIn, orInvalid, command}
+use Rattle.target_read.specs.Target.{targetOf, targetIn}
 use Rattle.words.specs.Words.{wordsOf, wordBytes, wordsOk, filled}
 use Rattle.act.specs.Act.{sought, onFound, plan, step}
 use Rattle.plans.specs.Plans.{carried, shownOf, createPlan, rekeyPlan, allocationPlan, activatePlan, revokePlan, destroyPlan, showPlan, isFailed, keyOf, getPlan}

@@ -29,7 +29,7 @@ use Rattle.rules.proofs.Grants.{grant-is}
 use Rattle.keeps.proofs.Stores.{Stored, other}
 use Rattle.keeps.proofs.Keeps.{Held, facts, found-stands}
 use Rattle.keeps.proofs.Leaves.{Born, Replaced, moved-leaves, count-leaves, born-leaves, heir-leaves}
-use Rattle.payload.specs.declared.Target.{Target}
+use Rattle.target_read.specs.declared.Target.{Target}
 use Rattle.payload.specs.declared.Command.{Command}
 use Rattle.payload.specs.declared.Command.the-variants.{Unsupported, Invalid, Create, Rekey, GetUsageAllocation, Activate, Revoke, Destroy, GetAttributes, Get}
 use Rattle.plans.specs.declared.Outcome.{Outcome}

@@ -13,7 +13,7 @@ use Rattle.octets.proofs.If.{ifb-true, ifb-false, on-if}
 use Rattle.table.specs.Layout.{placeCount, materialSize}
 use Rattle.rules.specs.Numbers.{rekey, getUsageAllocation, activate, revoke, destroy}
 use Rattle.batch_item.specs.Item.{Asked}
-use Rattle.payload.specs.declared.Target.{Target}
+use Rattle.target_read.specs.declared.Target.{Target}
 use Rattle.payload.specs.declared.Command.{Command}
 use Rattle.payload.specs.declared.Command.the-variants.{Rekey, GetUsageAllocation}
 use Rattle.plans.specs.Plans.{Env, Did, envAt, createPlan, rekeyPlan}

@@ -28,7 +28,7 @@ use Rattle.keeps.proofs.Stores.{other}
 use Rattle.keeps.proofs.Keeps.{Held, found-stands}
 use Rattle.keeps.proofs.Leaves.{moved-leaves, count-leaves, born-leaves, heir-leaves}
 use Rattle.batch_item.specs.Item.{Asked}
-use Rattle.payload.specs.declared.Target.{Target}
+use Rattle.target_read.specs.declared.Target.{Target}
 use Rattle.payload.specs.declared.Command.{Command}
 use Rattle.payload.specs.Payload.{command}
 use Rattle.plans.specs.Plans.{Env, Did, envAt, createPlan, rekeyPlan, shownOf, keyOf, isFailed}

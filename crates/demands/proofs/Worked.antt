@@ -22,10 +22,12 @@ use Rattle.search.specs.Search.{firstFrom, orElse, find, freePlace, destroyedPl
 use Rattle.soundness.specs.Checked.{isAt}
 use Rattle.rules.specs.declared.Reason.the-variants.{UsageLimitExceeded}
 use Rattle.batch_item.specs.Item.{Asked}
-use Rattle.payload.specs.declared.Target.the-variants.{Placeholder, Serial}
+use Rattle.target_read.specs.declared.Target.the-variants.{Placeholder, Serial}
 use Rattle.payload.specs.declared.Command.{Command}
 use Rattle.payload.specs.declared.Command.the-variants.{Unsupported, Invalid, Create, Rekey, GetUsageAllocation, Activate, Revoke, Destroy, GetAttributes, Get}
-use Rattle.payload.specs.Payload.{limitIn, limitFirst, wantedOf, limitsIn, maskedIn, attributesIn, createIn, targetOf, targetIn, aloneIn, allocationIn, revokeIn, orInvalid, command}
+use Rattle.attributes_read.specs.Attributes.{limitIn, limitFirst, wantedOf, limitsIn, maskedIn, attributesIn}
+use Rattle.payload.specs.Payload.{createIn, aloneIn, allocationIn, revokeIn, orInvalid, command}
+use Rattle.target_read.specs.Target.{targetOf, targetIn}
 use Rattle.plans.specs.declared.Key.{Key}
 use Rattle.plans.specs.declared.Outcome.{Outcome}
 use Rattle.plans.specs.declared.Outcome.the-variants.{Failed, Created, Done, Showed, Got}

@@ -11,11 +11,12 @@ use Rattle.values.specs.Values.{bitsOk, maskOk, unitOk, totalOk}
 use Rattle.rules.specs.declared.Attributes.{Attributes}
 use Rattle.rules.specs.Numbers.{create, rekey, get, getAttributes, getUsageAllocation, activate, revoke, destroy}
 use Rattle.keeps.proofs.Begun.{Allowed}
-use Rattle.payload.specs.declared.Target.{Target}
+use Rattle.target_read.specs.declared.Target.{Target}
 use Rattle.payload.specs.declared.Command.{Command}
 use Rattle.payload.specs.declared.Command.the-variants.{Unsupported, Invalid, Create, Rekey, GetUsageAllocation, Activate, Revoke, Destroy, GetAttributes, Get}
 use Rattle.tags.specs.Tags.{usageLimits}
-use Rattle.payload.specs.Payload.{Limit, limitIn, limitFirst, wantedOf, limitsIn, maskedIn, attributesIn, createIn, orInvalid, command}
+use Rattle.attributes_read.specs.Attributes.{Limit, limitIn, limitFirst, wantedOf, limitsIn, maskedIn, attributesIn}
+use Rattle.payload.specs.Payload.{createIn, orInvalid, command}
 use Rattle.payload.specs.Reasons.{operationOf, reasonOf}
 use Rattle.payload.proofs.Commands.{of-create}
 use Rattle.payload.proofs.Reasons.{command-operation}

@@ -31,7 +31,7 @@ use Rattle.keeps.proofs.Keeps.{Held, found-stands, range, fit, next-fits, keeps
 use Rattle.words.specs.Words.{wordsOf, wordBytes, wordsOk}
 use Rattle.words.proofs.Laws.{words-back, words-fit}
 use Rattle.batch_item.specs.Item.{Asked, idMost}
-use Rattle.payload.specs.declared.Target.{Target}
+use Rattle.target_read.specs.declared.Target.{Target}
 use Rattle.payload.specs.declared.Command.{Command}
 use Rattle.payload.specs.declared.Command.the-variants.{Create, Rekey, GetUsageAllocation, GetAttributes, Get}
 use Rattle.plans.specs.Plans.{Env, Did, createPlan, rekeyPlan, shownOf, keyOf}

@@ -6,7 +6,7 @@ ghost use lib.ListN.{length};
 ghost use Rattle.ttlv_types.specs.Types.{integer, enumeration, byteString};
 ghost use Rattle.ttlv.specs.Items.{nil, value, group};
 ghost use Rattle.tags.specs.Tags.{cryptographicAlgorithm, cryptographicLength, keyBlock, keyMaterial};
-ghost use Rattle.payload.specs.Payload.{aes};
+ghost use Rattle.attributes_read.specs.Attributes.{aes};
 ghost use Rattle.answer.specs.Respond.{word, materialOf, keyValueItems, keyBlockItems, keyItems};
 ghost use Rattle.attributes_write.specs.Puts.{Puts};
 use plans::Key;

@@ -1,30 +1,21 @@
--- What the readers' answers say in the papers' terms: a command is of the operation that asked for it, and a part that cannot be read is Invalid Field.
--- Assumes nothing. The promises are of the answers themselves; these laws say what the definitions of the same name in specs give of them.
+-- What a command says in the papers' terms: it is of the operation that asked for it, unless it fails by itself.
+-- Assumes nothing. The promise is of the command itself; the law says what the definitions of the same name in specs give of it.
 use Prim.Native.Nat.{ℕ}
 use mathlib.Core.Path.{_≡_, refl, sym, ap, _∙_}
 use mathlib.Core.Bool.{true}
 use mathlib.Core.Option.{Option, none, some}
-use mathlib.Core.List.{List}
 use native.Mathlib.Omega.{arith}
 use lib.Dec.{eqb}
 use borrow.Author.Tests.{eqb-true}
 use Rattle.octets.proofs.If.{on-if}
 use Rattle.octets.proofs.Maybe.{some-is, on-bind, on-test}
 use Rattle.ttlv.specs.Items.{Items}
-use Rattle.ttlv.specs.Tree.{isRun, treeOf}
 use Rattle.rules.specs.Numbers.{create, rekey, get, getAttributes, getUsageAllocation, activate, revoke, destroy}
-use Rattle.rules.specs.declared.Attributes.{Attributes}
-use Rattle.payload.specs.Payload.{Limit, createIn, targetIn, aloneIn, allocationIn, revokeIn, orInvalid, command}
-use Rattle.payload.specs.Readers.{targetAt, limitRead, limitsRead, attributesRead}
-use Rattle.payload.specs.Reasons.{operationOf, reasonOf, readReason, targetReason, limitReason, attributesReason}
-use Rattle.payload.specs.declared.Target.{Target}
+use Rattle.payload.specs.Payload.{createIn, aloneIn, allocationIn, revokeIn, orInvalid, command}
+use Rattle.payload.specs.Reasons.{operationOf, reasonOf}
+use Rattle.target_read.specs.declared.Target.{Target}
 use Rattle.payload.specs.declared.Command.{Command}
 use Rattle.payload.specs.declared.Command.the-variants.{Rekey, Activate, Destroy, GetAttributes, Get}
-use Rattle.payload.specs.declared.TargetRead.{TargetRead}
-use Rattle.payload.specs.declared.TargetRead.the-variants.{Is, InvalidField as InvalidTarget}
-use Rattle.payload.proofs.Targets.{target-is, target-none}
-
--- ---- a command
 
 -- what was read is of the operation
 Of : ℕ → Option Command → Type 0
@@ -72,29 +63,3 @@ command-operation operation t =
     (λ _. on-if (Asked operation) (λ e. asked operation getAttributes _ e (alone-of GetAttributes (λ target. refl) t))
     (λ _. on-if (Asked operation) (λ e. asked operation get _ e (alone-of Get (λ target. refl) t))
     (λ _ h. let z : _≡_ {A = ℕ} 0 1 = cc in absurd (omega arith)))))))))
-
--- ---- a part of a payload
-
-pub target-reason : (s : List ℕ) (run : isRun s ≡ true) → targetReason (targetAt s) ≡ readReason (targetIn (treeOf s))
-unfolding targetReason readReason
-target-reason s run = go (targetAt s) refl
-  where
-    go : (r : TargetRead) → targetAt s ≡ r → targetReason r ≡ readReason (targetIn (treeOf s))
-    go (Is target next) e = sym (ap readReason (target-is s run e .read))
-    go InvalidTarget e = sym (ap readReason (target-none s run e))
-
-pub limit-reason : (o : Option Limit) → limitReason (limitRead o) ≡ readReason o
-unfolding limitReason limitRead readReason
-limit-reason none = refl
-limit-reason (some limit) = refl
-
-pub limits-reason : (o : Option (Option Limit)) → limitReason (limitsRead o) ≡ readReason o
-unfolding limitReason limitsRead readReason
-limits-reason none = refl
-limits-reason (some none) = refl
-limits-reason (some (some limit)) = refl
-
-pub attributes-reason : (o : Option Attributes) → attributesReason (attributesRead o) ≡ readReason o
-unfolding attributesReason attributesRead readReason
-attributes-reason none = refl
-attributes-reason (some wanted) = refl

@@ -1,5 +1,5 @@
--- What each answer of the payload readers says in the papers' terms, case by case: the operation, and the reason of a failure.
--- Assumes nothing. The laws that tie these to the readers' promises stand in the proofs of the same name.
+-- What each command says in the papers' terms, case by case: the operation, and the reason of a failure.
+-- Assumes nothing. The laws that tie these to the reader's promise stand in the proofs of the same name.
 use Prim.Native.Nat.{ℕ}
 use mathlib.Core.Option.{Option, none, some}
 use Rattle.rules.specs.Numbers.{create, rekey, get, getAttributes, getUsageAllocation, activate, revoke, destroy}
@@ -7,14 +7,6 @@ use Rattle.rules.specs.declared.Reason.{Reason}
 use Rattle.rules.specs.declared.Reason.the-variants.{OperationNotSupported, InvalidField}
 use Rattle.payload.specs.declared.Command.{Command}
 use Rattle.payload.specs.declared.Command.the-variants.{Unsupported, Invalid, Create, Rekey, GetUsageAllocation, Activate, Revoke, Destroy, GetAttributes, Get}
-use Rattle.payload.specs.declared.TargetRead.{TargetRead}
-use Rattle.payload.specs.declared.TargetRead.the-variants.{Is, InvalidField as InvalidTarget}
-use Rattle.payload.specs.declared.LimitRead.{LimitRead}
-use Rattle.payload.specs.declared.LimitRead.the-variants.{Limited, InvalidField as InvalidLimit}
-use Rattle.payload.specs.declared.AttributesRead.{AttributesRead}
-use Rattle.payload.specs.declared.AttributesRead.the-variants.{Wanted, InvalidField as InvalidAttributes}
-
--- ---- a command
 
 -- the number of the operation that a command carries out
 unfoldable pub operationOf : Command → Option ℕ
@@ -41,22 +33,3 @@ reasonOf (Revoke target code) = none
 reasonOf (Destroy target) = none
 reasonOf (GetAttributes target) = none
 reasonOf (Get target) = none
-
--- ---- a part of a payload
-
--- "One of wrong shape or with a value not allowed here fails with Invalid Field": what was read, or nothing
-unfoldable pub readReason : {A : Type 0} → Option A → Option Reason
-readReason none = some InvalidField
-readReason (some a) = none
-
-unfoldable pub targetReason : TargetRead → Option Reason
-targetReason (Is target next) = none
-targetReason InvalidTarget = some InvalidField
-
-unfoldable pub limitReason : LimitRead → Option Reason
-limitReason (Limited unit total) = none
-limitReason InvalidLimit = some InvalidField
-
-unfoldable pub attributesReason : AttributesRead → Option Reason
-attributesReason (Wanted wanted) = none
-attributesReason InvalidAttributes = some InvalidField

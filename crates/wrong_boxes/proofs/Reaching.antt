@@ -25,7 +25,7 @@ use Rattle.changes.specs.Changes.{isFull, nextSerial}
 use Rattle.keeps.proofs.Keeps.{Held}
 use Rattle.batch_item.specs.Item.{Asked}
 use Rattle.frame.specs.Frame.{Frame, frameIn, optionOf}
-use Rattle.payload.specs.declared.Target.the-variants.{Serial}
+use Rattle.target_read.specs.declared.Target.the-variants.{Serial}
 use Rattle.payload.specs.declared.Command.{Command}
 use Rattle.payload.specs.declared.Command.the-variants.{Create, GetUsageAllocation, Destroy}
 use Rattle.payload.specs.Payload.{command}

@@ -32,7 +32,7 @@ use Rattle.keeps.proofs.Keeps.{Held, keeps-moved}
 use Rattle.keeps.proofs.Leaves.{Born, moved-leaves}
 use Rattle.batch_item.specs.Item.{Asked}
 use Rattle.frame.specs.Frame.{optionOf}
-use Rattle.payload.specs.declared.Target.the-variants.{Serial}
+use Rattle.target_read.specs.declared.Target.the-variants.{Serial}
 use Rattle.payload.specs.declared.Command.{Command}
 use Rattle.payload.specs.declared.Command.the-variants.{Create, GetUsageAllocation, Destroy}
 use Rattle.payload.specs.Payload.{command}

@@ -20,7 +20,7 @@ use Rattle.ttlv.specs.Items.{encode}
 use Rattle.batch_item.specs.Item.{Asked}
 use Rattle.frame.specs.Frame.{Frame, optionOf, continue}
 use Rattle.words.specs.Words.{wordsSize, wordsOf}
-use Rattle.payload.specs.declared.Target.the-variants.{Placeholder, Serial}
+use Rattle.target_read.specs.declared.Target.the-variants.{Placeholder, Serial}
 use Rattle.payload.specs.declared.Command.{Command}
 use Rattle.payload.specs.declared.Command.the-variants.{Unsupported, Invalid, Create, Rekey, GetUsageAllocation, Activate, Revoke, Destroy, GetAttributes, Get}
 use Rattle.payload.specs.Payload.{command}

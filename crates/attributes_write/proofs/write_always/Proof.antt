@@ -3,7 +3,7 @@
 use native.Mathlib.Omega.{arith}
 use Rattle.ttlv_types.specs.Types.{integer, enumeration}
 use Rattle.tags.specs.Tags.{cryptographicAlgorithm, cryptographicLength, cryptographicUsageMask, stateTag}
-use Rattle.payload.specs.Payload.{aes}
+use Rattle.attributes_read.specs.Attributes.{aes}
 use Rattle.ttlv_put.specs.Write.{join}
 use Rattle.attributes_write.proofs.Compose.{puts-word, then-word}
 use borrow.Author.Needs.{needs}

@@ -4,7 +4,7 @@ use native.Mathlib.Omega.{arith}
 use Rattle.tags.specs.Tags.{cryptographicAlgorithm, cryptographicLength}
 use Rattle.ttlv_types.specs.Types.{integer, enumeration}
 use Rattle.ttlv_put.specs.Write.{join}
-use Rattle.payload.specs.Payload.{aes}
+use Rattle.attributes_read.specs.Attributes.{aes}
 use Rattle.attributes_write.proofs.Compose.{puts-word, then-word}
 use borrow.Author.Needs.{needs}
 use Rattle.key_write.proofs.write_form.Statement.{statement}

@@ -8,7 +8,7 @@ use Rattle.octets.specs.If.{ifb}
 use Rattle.octets.proofs.If.{ifb-true, ifb-false}
 use borrow.Author.Tests.{eq-eqb, ne-eqb}
 use Rattle.rules.specs.Numbers.{rekey, get, activate, destroy}
-use Rattle.payload.specs.declared.Target.{Target}
+use Rattle.target_read.specs.declared.Target.{Target}
 use Rattle.payload.specs.declared.Command.the-variants.{GetAttributes, Get}
 use Rattle.payload.specs.Readers.{aloneOf}
 use Rattle.payload.proofs.alone.Statement.{statement}

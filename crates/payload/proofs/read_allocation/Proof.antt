@@ -13,11 +13,13 @@ use Rattle.fields.specs.declared.NumberField.the-variants.{Number}
 use Rattle.fields.proofs.Runs.{tail}
 use Rattle.tags.specs.Tags.{usageLimitsCount}
 use Rattle.payload.specs.Payload.{amountOk, allocationIn, orInvalid}
-use Rattle.payload.specs.Readers.{onlyNumberAt, targetAt}
-use Rattle.payload.specs.declared.Target.{Target}
-use Rattle.payload.specs.declared.TargetRead.the-variants.{Is}
-use Rattle.payload.proofs.Steps.{only-stops, only-bad, only-is}
-use Rattle.payload.proofs.Targets.{asks, amountBehind, target-stops, target-within, target-behind, allocation-target}
+use Rattle.last_field.specs.Last.{onlyNumberAt}
+use Rattle.target_read.specs.Readers.{targetAt}
+use Rattle.target_read.specs.declared.Target.{Target}
+use Rattle.target_read.specs.declared.TargetRead.the-variants.{Is}
+use Rattle.last_field.proofs.Steps.{only-stops, only-bad, only-is}
+use Rattle.target_read.proofs.Targets.{target-stops, target-within, target-behind}
+use Rattle.payload.proofs.Targets.{asks, amountBehind, allocation-target}
 use borrow.Author.Needs.{needs}
 use Rattle.payload.proofs.read_allocation.Statement.{statement}
 use Rattle.payload.proofs.read_allocation.Tie as tie

@@ -6,11 +6,13 @@ use mathlib.Core.Bool.{true}
 use mathlib.Core.List.{List}
 use Rattle.ttlv.specs.Tree.{isRun}
 use Rattle.payload.specs.Payload.{aloneIn, orInvalid}
-use Rattle.payload.specs.Readers.{targetAt, aloneOf}
-use Rattle.payload.specs.declared.Target.{Target}
+use Rattle.target_read.specs.Readers.{targetAt}
+use Rattle.payload.specs.Readers.{aloneOf}
+use Rattle.target_read.specs.declared.Target.{Target}
 use Rattle.payload.specs.declared.Command.{Command}
-use Rattle.payload.specs.declared.TargetRead.the-variants.{Is}
-use Rattle.payload.proofs.Targets.{target-stops, alone-is, alone-more}
+use Rattle.target_read.specs.declared.TargetRead.the-variants.{Is}
+use Rattle.target_read.proofs.Targets.{target-stops}
+use Rattle.payload.proofs.Targets.{alone-is, alone-more}
 use borrow.Author.Needs.{needs}
 use Rattle.payload.proofs.read_alone.Statement.{statement}
 use Rattle.payload.proofs.read_alone.Tie as tie

@@ -15,9 +15,9 @@ use Rattle.fields.specs.declared.BodyField.the-variants.{Body}
 use Rattle.fields.proofs.Runs.{tail}
 use Rattle.tags.specs.Tags.{objectType, attributes}
 use Rattle.payload.specs.Payload.{createIn, orInvalid}
-use Rattle.payload.specs.Readers.{onlyBodyAt}
-use Rattle.payload.proofs.Steps.{number-within, number-behind, Whole, whole}
-use Rattle.payload.proofs.Wanted.{create-no-type, create-other-type, create-no-attributes, creates, create-body, creates-none, creates-some}
+use Rattle.last_field.specs.Last.{onlyBodyAt}
+use Rattle.last_field.proofs.Steps.{number-within, number-behind, Whole, whole}
+use Rattle.payload.proofs.Create.{create-no-type, create-other-type, create-no-attributes, creates, create-body, creates-none, creates-some}
 use borrow.Author.Needs.{needs}
 use Rattle.payload.proofs.read_create.Statement.{statement}
 use Rattle.payload.proofs.read_create.Tie as tie

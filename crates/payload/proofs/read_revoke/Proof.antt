@@ -16,11 +16,13 @@ use Rattle.fields.proofs.Runs.{tail}
 use Rattle.rules.specs.States.{codeOk}
 use Rattle.tags.specs.Tags.{revocationReason, revocationReasonCode}
 use Rattle.payload.specs.Payload.{revokeIn, orInvalid}
-use Rattle.payload.specs.Readers.{onlyNumberAt, onlyBodyAt, targetAt}
-use Rattle.payload.specs.declared.Target.{Target}
-use Rattle.payload.specs.declared.TargetRead.the-variants.{Is}
-use Rattle.payload.proofs.Steps.{only-stops, only-bad, only-is, Whole, whole, body-stops, body-goes}
-use Rattle.payload.proofs.Targets.{revokes, codeInside, reasonBehind, target-stops, target-within, target-behind, revoke-target, code-most}
+use Rattle.last_field.specs.Last.{onlyNumberAt, onlyBodyAt}
+use Rattle.target_read.specs.Readers.{targetAt}
+use Rattle.target_read.specs.declared.Target.{Target}
+use Rattle.target_read.specs.declared.TargetRead.the-variants.{Is}
+use Rattle.last_field.proofs.Steps.{only-stops, only-bad, only-is, Whole, whole, body-stops, body-goes}
+use Rattle.target_read.proofs.Targets.{target-stops, target-within, target-behind}
+use Rattle.payload.proofs.Targets.{revokes, codeInside, reasonBehind, revoke-target, code-most}
 use borrow.Author.Needs.{needs}
 use Rattle.payload.proofs.read_revoke.Statement.{statement}
 use Rattle.payload.proofs.read_revoke.Tie as tie
