@@ -13,7 +13,7 @@ use Rattle.identifier.specs.Identifier.{digits, identifier, fromDigitsAfter, se
 use Rattle.table.specs.Records.{line, body, recordOf, placeAt, withPlace, serialAt, stateAt, lastSerial, withLast, placesSaid, blank}
 use Rattle.search.specs.Search.{firstFrom, isNothing, orElse, find, freePlace, destroyedPlace, newPlace}
 use Rattle.record_rules.specs.Rules.{stateRight, bitsRight, maskRight, limitRight, tailRight, wipedRight, replacedRight, replacementRight}
-use Rattle.soundness.specs.Sound.{sizeRight, countRight, leadRight, freeRight, zerosRight, distinctRight, issuedRight, ifStands, linksRight, breaksFree, breaksStanding, orLater, standingFault, placeFault, wholeFault, firstFault, sound}
+use Rattle.soundness.specs.Sound.{sizeRight, countRight, leadRight, freeRight, zerosRight, distinctRight, issuedRight, ifStands, linksRight, breaksFree, breaksStanding, orLater, faultFrom, firstFault, sound}
 use Rattle.changes.specs.Changes.{isFull, bornAt, withBorn, withHeir}
 use Rattle.changes.specs.Records.{materialFrom, newRecord, heirOf, linkedTo, inState, movedTo, withCount}
 use Rattle.rules.specs.States.{canRevoke, canDestroy, activateTests, revokeTests, destroyTests, moveTests, revokedState, destroyedState, movedState, nextUnless, nextState, grantTests, leftUnless, granting}
@@ -34,7 +34,7 @@ use Rattle.cases.specs.Cards.{sameItems, isRead, integerRead, integerMal
 
 -- the definitions that the cases compute with: who opens this opens them all
 unfoldable pub opened : Unit {0}
-unfolding wordsOf wordBytes wordsOk filled ifb _>>=_ _>>_ isSome be fromBeAfter fromBe all same startsWith ended bytesOf bodyOf numberOf optional encode itemOk wellFormed headed firstOf putValue putGroup more walk parse isOne message lengthOk text valueOk digits identifier fromDigitsAfter serialOf line body recordOf placeAt withPlace serialAt stateAt lastSerial withLast placesSaid blank firstFrom isNothing orElse find freePlace destroyedPlace newPlace sizeRight countRight leadRight freeRight zerosRight distinctRight issuedRight stateRight bitsRight maskRight limitRight tailRight wipedRight replacedRight replacementRight ifStands linksRight breaksFree breaksStanding orLater standingFault placeFault wholeFault firstFault sound isFull bornAt withBorn withHeir materialFrom newRecord heirOf linkedTo inState movedTo withCount canRevoke canDestroy activateTests revokeTests destroyTests moveTests revokedState destroyedState movedState nextUnless nextState grantTests leftUnless granting due versionIn headerIn idOk idBytes itemIn itemsIn frameIn optionOf framing framed limitIn limitFirst wantedOf limitsIn maskedIn attributesIn createIn targetOf targetIn aloneIn allocationIn revokeIn orInvalid command sought carried shownOf createPlan rekeyPlan allocationPlan activatePlan revokePlan destroyPlan showPlan keyOf getPlan onFound plan step isFailed spelled fixed serialIn limitsFirst orNoLimits linkFirst orNoLink linkIn shownIn createdIn doneIn showedIn keyRead keyBlockIn keyIn gotIn payloadIn reasonAmong failureIn successIn outcomeIn answerIn answersOf headIn shownOk keyOk outcomeOk answerOk allowed ifAllowed answersIn limitItems linkItems attributeItems materialOf keyItems outcomeItems idItems answerItems batchItems versionItems headerItems respond endsBatch batch running answered earlyRefusal carryOut serving sameItems isRead integerRead integerMalformed booleanMalformed textOfEight textOfNine nested countedFrom callOn tableFrom answers refuses stateLeft countLeft depthEight depthNine depthRead depthRefused grantRequest grantResponse grantsCounted overRequest overResponse grantTooLarge lifeRequest lifeResponse compromiseRequest compromiseResponse destroyedInTurn rekeyRequest rekeyResponse rekeyedTwice stopRequest stopResponse stopsThere continueRequest continueResponse goesOn lastRequest lastResponse lastSerialIssued pCases allHold
+unfolding wordsOf wordBytes wordsOk filled ifb _>>=_ _>>_ isSome be fromBeAfter fromBe all same startsWith ended bytesOf bodyOf numberOf optional encode itemOk wellFormed headed firstOf putValue putGroup more walk parse isOne message lengthOk text valueOk digits identifier fromDigitsAfter serialOf line body recordOf placeAt withPlace serialAt stateAt lastSerial withLast placesSaid blank firstFrom isNothing orElse find freePlace destroyedPlace newPlace sizeRight countRight leadRight freeRight zerosRight distinctRight issuedRight stateRight bitsRight maskRight limitRight tailRight wipedRight replacedRight replacementRight ifStands linksRight breaksFree breaksStanding orLater faultFrom firstFault sound isFull bornAt withBorn withHeir materialFrom newRecord heirOf linkedTo inState movedTo withCount canRevoke canDestroy activateTests revokeTests destroyTests moveTests revokedState destroyedState movedState nextUnless nextState grantTests leftUnless granting due versionIn headerIn idOk idBytes itemIn itemsIn frameIn optionOf framing framed limitIn limitFirst wantedOf limitsIn maskedIn attributesIn createIn targetOf targetIn aloneIn allocationIn revokeIn orInvalid command sought carried shownOf createPlan rekeyPlan allocationPlan activatePlan revokePlan destroyPlan showPlan keyOf getPlan onFound plan step isFailed spelled fixed serialIn limitsFirst orNoLimits linkFirst orNoLink linkIn shownIn createdIn doneIn showedIn keyRead keyBlockIn keyIn gotIn payloadIn reasonAmong failureIn successIn outcomeIn answerIn answersOf headIn shownOk keyOk outcomeOk answerOk allowed ifAllowed answersIn limitItems linkItems attributeItems materialOf keyItems outcomeItems idItems answerItems batchItems versionItems headerItems respond endsBatch batch running answered earlyRefusal carryOut serving sameItems isRead integerRead integerMalformed booleanMalformed textOfEight textOfNine nested countedFrom callOn tableFrom answers refuses stateLeft countLeft depthEight depthNine depthRead depthRefused grantRequest grantResponse grantsCounted overRequest overResponse grantTooLarge lifeRequest lifeResponse compromiseRequest compromiseResponse destroyedInTurn rekeyRequest rekeyResponse rekeyedTwice stopRequest stopResponse stopsThere continueRequest continueResponse goesOn lastRequest lastResponse lastSerialIssued pCases allHold
 opened = tt
 
 -- every case of the list holds

@@ -14,7 +14,7 @@ use Rattle.table.specs.Layout.{bodyStart, placeCount, zerosIn}
 use Rattle.table.specs.Records.{line, body, recordOf, placeAt, withPlace, serialAt, lastSerial, withLast, placesSaid, blank}
 use Rattle.search.specs.Search.{firstFrom, isNothing, find}
 use Rattle.record_rules.specs.Rules.{stateRight, bitsRight, maskRight, limitRight, tailRight, wipedRight, replacedRight, replacementRight}
-use Rattle.soundness.specs.Sound.{sizeRight, countRight, leadRight, freeRight, zerosRight, distinctRight, issuedRight, ifStands, linksRight, breaksFree, breaksStanding, whole, atPlace, orLater, standingFault, placeFault, wholeFault, firstFault, sound}
+use Rattle.soundness.specs.Sound.{sizeRight, countRight, leadRight, freeRight, zerosRight, distinctRight, issuedRight, ifStands, linksRight, breaksFree, breaksStanding, whole, atPlace, orLater, faultFrom, firstFault, sound}
 
 -- a key of 128 bits with a limit of 100 objects
 abbrev key : ℕ → Record
@@ -121,7 +121,7 @@ pub faults : map (firstFault 4) faulty
     ∷ some (atPlace 15 1)
     ∷ some (atPlace 16 2)
     ∷ []
-unfolding ifb be fromBe fromBeAfter all line body recordOf placeAt withPlace serialAt lastSerial withLast placesSaid blank firstFrom isNothing find sizeRight countRight leadRight freeRight zerosRight distinctRight issuedRight stateRight bitsRight maskRight limitRight tailRight wipedRight replacedRight replacementRight ifStands linksRight breaksFree breaksStanding orLater standingFault placeFault wholeFault firstFault
+unfolding ifb be fromBe fromBeAfter all line body recordOf placeAt withPlace serialAt lastSerial withLast placesSaid blank firstFrom isNothing find sizeRight countRight leadRight freeRight zerosRight distinctRight issuedRight stateRight bitsRight maskRight limitRight tailRight wipedRight replacedRight replacementRight ifStands linksRight breaksFree breaksStanding orLater faultFrom firstFault
 faults = refl
 
 -- tables with nothing wrong: two keys; a key and its replacement; a key whose replacement stands no more; one key; the table that the box starts with
@@ -134,5 +134,5 @@ right =
     && sound placeCount (blank placeCount)
 
 pub none-wrong : right ≡ true
-unfolding ifb isSome be fromBe fromBeAfter all line body recordOf placeAt withPlace serialAt lastSerial withLast placesSaid blank firstFrom isNothing find sizeRight countRight leadRight freeRight zerosRight distinctRight issuedRight stateRight bitsRight maskRight limitRight tailRight wipedRight replacedRight replacementRight ifStands linksRight breaksFree breaksStanding orLater standingFault placeFault wholeFault firstFault sound
+unfolding ifb isSome be fromBe fromBeAfter all line body recordOf placeAt withPlace serialAt lastSerial withLast placesSaid blank firstFrom isNothing find sizeRight countRight leadRight freeRight zerosRight distinctRight issuedRight stateRight bitsRight maskRight limitRight tailRight wipedRight replacedRight replacementRight ifStands linksRight breaksFree breaksStanding orLater faultFrom firstFault sound
 none-wrong = refl

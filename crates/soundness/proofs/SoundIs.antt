@@ -1,12 +1,12 @@
 -- A sound table as plain facts, and the test and the facts each from the other.
 -- Assumes nothing.
 use mathlib.Core.Path.{_≡_, refl, sym, ap, _∙_}
-use Prim.Native.Nat.{ℕ, zero, suc, _+_, _-_, _≤_, _<_}
+use Prim.Native.Nat.{ℕ, _+_, _≤_, _<_}
 use native.Mathlib.Omega.{arith}
 use native.Mathlib.Decide.{ℕ-discrete}
 use mathlib.Core.Bool.{Bool, true, false, not, false≢true}
 use mathlib.Core.Option.{Option, none, some}
-use mathlib.Core.List.{List, [], _∷_, map}
+use mathlib.Core.List.{List}
 use lib.ListN.{length}
 use lib.Dec.{eqb}
 use borrow.Author.Tests.{eq-eqb, ne-eqb, le-leb, eqb-true, eqb-false, leb-true, not-true}
@@ -23,9 +23,9 @@ use Rattle.table.proofs.Places.{serial-is}
 use Rattle.search.proofs.Finds.{find-nonzero, find-below, find-serial, find-only}
 use Rattle.record_rules.specs.Rules.{stateRight, bitsRight, maskRight, limitRight, tailRight, wipedRight, replacedRight, replacementRight}
 use Rattle.record_rules.proofs.Fit.{Fit, Right, fit-is, fit-of}
-use Rattle.soundness.specs.Sound.{Fault, standingRules, sizeRight, countRight, leadRight, freeRight, zerosRight, isTwin, distinctRight, issuedRight, ifStands, namesReplaced, namesReplacement, linksRight, breaksFree, breaksStanding, firstFault, sound}
+use Rattle.soundness.specs.Sound.{Fault, rules, sizeRight, countRight, leadRight, freeRight, zerosRight, isTwin, distinctRight, issuedRight, ifStands, namesReplaced, namesReplacement, linksRight, breaksFree, breaksStanding, firstFault, sound}
 use Rattle.octets.proofs.Bools.{and-l, and-r, and-i, yes-unless, no-unless, not-both}
-use Rattle.soundness.proofs.Faults.{Faultless, fault-none, none-fault, Unbroken, Test}
+use Rattle.soundness.proofs.Faults.{Nowhere, Kept, end, holds, nowhere, fault-none, none-fault}
 
 -- ---- the facts
 
@@ -156,50 +156,49 @@ no-fault none e = refl
 no-fault (some f) e = absurd (false≢true e)
 
 module _ (n : ℕ) (t : List ℕ) where
+  -- a rule that no standing place breaks holds at each of them
+  abbrev AtEach : (ℕ → List ℕ → ℕ → Bool) → Type 0
+  AtEach rule = (i : ℕ) → i < n → Stands t i → rule n t i ≡ true
+
+  at-each : (rule : ℕ → List ℕ → ℕ → Bool) → Nowhere n t (breaksStanding rule) → AtEach rule
+  at-each rule h i l s = standing-kept n t i rule (h i l) s
+
+  each-at : (rule : ℕ → List ℕ → ℕ → Bool) → AtEach rule → Nowhere n t (breaksStanding rule)
+  each-at rule h i l = kept-standing n t i rule (h i l)
+
   pub sound-is : sound n t ≡ true → Sound n t
   unfolding sound sizeRight countRight leadRight freeRight zerosRight issuedRight
-  sound-is e =
-      let f : Faultless n t = fault-none n t (no-fault (firstFault n t) e) in
-      let alone : Distinct n t = distinct-is n t (λ i h s. standing-kept n t i distinctRight (f .places 2 i h) s) in
-      let linked : (i : ℕ) → i < n → Stands t i → Linked n t (placeAt n t i)
-      = λ i h s. links-is n t alone (placeAt n t i) (standing-kept n t i (λ n t i. linksRight n t (placeAt n t i)) (f .places 12 i h) s) in
-      record {
-        size = eqb-true (length t) (sizeOf n) (f .whole 0);
-        count = eqb-true (placesSaid t) n (f .whole 1);
-        lead = f .whole 2;
-        free = λ i h z. let g : freeRight n t i ≡ true = free-kept n t i (f .places 0 i h) z in
-            record { line = and-l (allZero (part t (lineStart i) lineSize)) _ g; body = and-r (allZero (part t (lineStart i) lineSize)) _ g };
-        zeros = λ i h s. standing-kept n t i zerosRight (f .places 1 i h) s;
-        distinct = alone;
-        issued = λ i h. elim (ℕ-discrete (serialAt t i) 0) [
-          | yes z ↦ omega arith
-          | no s ↦ leb-true (serialAt t i) (lastSerial t) (standing-kept n t i issuedRight (f .places 3 i h) s)
-        ];
-        fit = λ i h s. fit-is (lastSerial t) (placeAt n t i) (record {
-          state = standing-kept n t i (λ n t i. stateRight (placeAt n t i)) (f .places 4 i h) s;
-          bits = standing-kept n t i (λ n t i. bitsRight (placeAt n t i)) (f .places 5 i h) s;
-          mask = standing-kept n t i (λ n t i. maskRight (placeAt n t i)) (f .places 6 i h) s;
-          limit = standing-kept n t i (λ n t i. limitRight (placeAt n t i)) (f .places 7 i h) s;
-          tail = standing-kept n t i (λ n t i. tailRight (placeAt n t i)) (f .places 8 i h) s;
-          wiped = standing-kept n t i (λ n t i. wipedRight (placeAt n t i)) (f .places 9 i h) s;
-          replaced = standing-kept n t i (λ n t i. replacedRight (placeAt n t i)) (f .places 10 i h) s;
-          replacement = standing-kept n t i (λ n t i. replacementRight (lastSerial t) (placeAt n t i)) (f .places 11 i h) s;
-        });
-        replaced = λ i j h g s u q. linked i h s .replaced j g u q ∙ sym (serial-is n t i);
-        replacement = λ i j h g s u q. linked i h s .replacement j g u q ∙ sym (serial-is n t i);
-      }
-
--- each rule of a list holds at every standing place
-data Kept (n : ℕ) (t : List ℕ) : List Test → Type 0 where
-  end : Kept n t []
-  also : {rule : Test} {rules : List Test} → ((i : ℕ) → i < n → Stands t i → rule n t i ≡ true) → Kept n t rules → Kept n t (rule ∷ rules)
-
-module _ (n : ℕ) (t : List ℕ) where
-  kept-unbroken : (rules : List Test) → Kept n t rules → Unbroken (map breaksStanding rules) n t
-  kept-unbroken [] end = λ m j l. refl
-  kept-unbroken (rule ∷ rules) (also h k) =
-      let g : Unbroken (map breaksStanding rules) n t = kept-unbroken rules k in
-      λ m. elim m [ zero ↦ (λ i l. kept-standing n t i rule (h i l)) | suc m ↦ g m ]
+  sound-is e = go (fault-none n t (no-fault (firstFault n t) e))
+    where
+      go : Kept n t rules → Sound n t
+      go (holds size (holds count (holds lead (nowhere free (nowhere zeros (nowhere distinct (nowhere issued (nowhere state (nowhere bits (nowhere mask (nowhere limit (nowhere tail (nowhere wiped (nowhere replaced (nowhere replacement (nowhere links end)))))))))))))))) =
+          let alone : Distinct n t = distinct-is n t (at-each distinctRight distinct) in
+          let linked : (i : ℕ) → i < n → Stands t i → Linked n t (placeAt n t i) = λ i l s. links-is n t alone (placeAt n t i) (at-each (λ n t i. linksRight n t (placeAt n t i)) links i l s) in
+          record {
+            size = eqb-true (length t) (sizeOf n) size;
+            count = eqb-true (placesSaid t) n count;
+            lead = lead;
+            free = λ i l z. let g : freeRight n t i ≡ true = free-kept n t i (free i l) z in
+                record { line = and-l (allZero (part t (lineStart i) lineSize)) _ g; body = and-r (allZero (part t (lineStart i) lineSize)) _ g };
+            zeros = at-each zerosRight zeros;
+            distinct = alone;
+            issued = λ i l. elim (ℕ-discrete (serialAt t i) 0) [
+              | yes z ↦ omega arith
+              | no s ↦ leb-true (serialAt t i) (lastSerial t) (at-each issuedRight issued i l s)
+            ];
+            fit = λ i l s. fit-is (lastSerial t) (placeAt n t i) (record {
+              state = at-each (λ n t i. stateRight (placeAt n t i)) state i l s;
+              bits = at-each (λ n t i. bitsRight (placeAt n t i)) bits i l s;
+              mask = at-each (λ n t i. maskRight (placeAt n t i)) mask i l s;
+              limit = at-each (λ n t i. limitRight (placeAt n t i)) limit i l s;
+              tail = at-each (λ n t i. tailRight (placeAt n t i)) tail i l s;
+              wiped = at-each (λ n t i. wipedRight (placeAt n t i)) wiped i l s;
+              replaced = at-each (λ n t i. replacedRight (placeAt n t i)) replaced i l s;
+              replacement = at-each (λ n t i. replacementRight (lastSerial t) (placeAt n t i)) replacement i l s;
+            });
+            replaced = λ i j h g s u q. linked i h s .replaced j g u q ∙ sym (serial-is n t i);
+            replacement = λ i j h g s u q. linked i h s .replacement j g u q ∙ sym (serial-is n t i);
+          }
 
   pub sound-of : Sound n t → sound n t ≡ true
   unfolding sound sizeRight countRight leadRight freeRight zerosRight issuedRight isSome
@@ -209,22 +208,22 @@ module _ (n : ℕ) (t : List ℕ) where
         replaced = λ j g u q. h .replaced i j l g s u q ∙ serial-is n t i;
         replacement = λ j g u q. h .replacement i j l g s u q ∙ serial-is n t i;
       } in
-      let standing : Kept n t standingRules =
-      also (h .zeros)
-      (also (distinct-of n t (h .distinct))
-      (also (λ i l s. le-leb (serialAt t i) (lastSerial t) (h .issued i l))
-      (also (λ i l s. right i l s .state)
-      (also (λ i l s. right i l s .bits)
-      (also (λ i l s. right i l s .mask)
-      (also (λ i l s. right i l s .limit)
-      (also (λ i l s. right i l s .tail)
-      (also (λ i l s. right i l s .wiped)
-      (also (λ i l s. right i l s .replaced)
-      (also (λ i l s. right i l s .replacement)
-      (also (λ i l s. links-of n t (placeAt n t i) (linked i l s)) end))))))))))) in
       let free : (i : ℕ) → i < n → serialAt t i ≡ 0 → freeRight n t i ≡ true = λ i l z. and-i _ _ (h .free i l z .line) (h .free i l z .body) in
-      let f : Faultless n t = record {
-        whole = λ m. elim m [ zero ↦ eq-eqb (length t) (sizeOf n) (h .size) | suc m ↦ elim m [ zero ↦ eq-eqb (placesSaid t) n (h .count) | suc m ↦ elim m [ zero ↦ h .lead | suc m ↦ refl ] ] ];
-        places = λ m. elim m [ zero ↦ (λ i l. kept-free n t i (free i l)) | suc m ↦ kept-unbroken standingRules standing m ];
-      } in
-      ap (λ (o : Option Fault). not (isSome o)) (none-fault n t f)
+      let kept : Kept n t rules =
+      holds (eq-eqb (length t) (sizeOf n) (h .size))
+      (holds (eq-eqb (placesSaid t) n (h .count))
+      (holds (h .lead)
+      (nowhere (λ i l. kept-free n t i (free i l))
+      (nowhere (each-at zerosRight (h .zeros))
+      (nowhere (each-at distinctRight (distinct-of n t (h .distinct)))
+      (nowhere (each-at issuedRight (λ i l s. le-leb (serialAt t i) (lastSerial t) (h .issued i l)))
+      (nowhere (each-at _ (λ i l s. right i l s .state))
+      (nowhere (each-at _ (λ i l s. right i l s .bits))
+      (nowhere (each-at _ (λ i l s. right i l s .mask))
+      (nowhere (each-at _ (λ i l s. right i l s .limit))
+      (nowhere (each-at _ (λ i l s. right i l s .tail))
+      (nowhere (each-at _ (λ i l s. right i l s .wiped))
+      (nowhere (each-at _ (λ i l s. right i l s .replaced))
+      (nowhere (each-at _ (λ i l s. right i l s .replacement))
+      (nowhere (each-at _ (λ i l s. links-of n t (placeAt n t i) (linked i l s))) end))))))))))))))) in
+      ap (λ (o : Option Fault). not (isSome o)) (none-fault n t kept)

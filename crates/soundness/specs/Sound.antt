@@ -1,5 +1,5 @@
--- 01, "Sound": an ordered, numbered list of rules, each of the whole table or at a place. A table is sound if none breaks.
--- Assumes nothing. Place rules are looked at where the whole-table rules hold; a free place answers to the free-place rule alone.
+-- 01, "Sound": an ordered, numbered list of rules, each of the whole table or of its places. A table is sound if none is broken.
+-- Assumes nothing. A free place answers to the free-place rule alone.
 use Prim.Native.Nat.{ℕ, suc, _+_}
 use mathlib.Core.Bool.{Bool, true, not, _&&_}
 use mathlib.Core.Option.{Option, none, some}
@@ -76,27 +76,6 @@ linksRight n t r =
 
 -- ---- the list
 
--- rules 1 to 3
-abbrev pub wholeRules : List (ℕ → List ℕ → Bool)
-wholeRules = sizeRight ∷ countRight ∷ leadRight ∷ []
-
--- rule 4 is of the free places, 5 to 16 are of the others
-abbrev pub standingRules : List (ℕ → List ℕ → ℕ → Bool)
-standingRules =
-    zerosRight
-    ∷ distinctRight
-    ∷ issuedRight
-    ∷ (λ n t i. stateRight (placeAt n t i))
-    ∷ (λ n t i. bitsRight (placeAt n t i))
-    ∷ (λ n t i. maskRight (placeAt n t i))
-    ∷ (λ n t i. limitRight (placeAt n t i))
-    ∷ (λ n t i. tailRight (placeAt n t i))
-    ∷ (λ n t i. wipedRight (placeAt n t i))
-    ∷ (λ n t i. replacedRight (placeAt n t i))
-    ∷ (λ n t i. replacementRight (lastSerial t) (placeAt n t i))
-    ∷ (λ n t i. linksRight n t (placeAt n t i))
-    ∷ []
-
 -- a place that is free and breaks the free-place rule
 unfoldable pub breaksFree : ℕ → List ℕ → ℕ → Bool
 breaksFree n t i = let right = freeRight n t i in isFree t i && not right
@@ -104,6 +83,40 @@ breaksFree n t i = let right = freeRight n t i in isFree t i && not right
 -- a place that is not free and breaks a rule
 unfoldable pub breaksStanding : (ℕ → List ℕ → ℕ → Bool) → ℕ → List ℕ → ℕ → Bool
 breaksStanding rule n t i = let right = rule n t i in not (isFree t i) && not right
+
+-- a rule of the whole table, which has to hold; or of its places, none of which may pass the test that sees it broken
+pub data Rule : Type 0 where
+  ofTable : (ℕ → List ℕ → Bool) → Rule
+  ofPlaces : (ℕ → List ℕ → ℕ → Bool) → Rule
+
+-- a rule of the places that are not free
+abbrev pub ofStanding : (ℕ → List ℕ → ℕ → Bool) → Rule
+ofStanding rule = ofPlaces (breaksStanding rule)
+
+-- a rule of a record by itself
+abbrev pub ofRecord : (Record → Bool) → Rule
+ofRecord rule = ofStanding (λ n t i. rule (placeAt n t i))
+
+-- rules 1 to 16
+abbrev pub rules : List Rule
+rules =
+    ofTable sizeRight
+    ∷ ofTable countRight
+    ∷ ofTable leadRight
+    ∷ ofPlaces breaksFree
+    ∷ ofStanding zerosRight
+    ∷ ofStanding distinctRight
+    ∷ ofStanding issuedRight
+    ∷ ofRecord stateRight
+    ∷ ofRecord bitsRight
+    ∷ ofRecord maskRight
+    ∷ ofRecord limitRight
+    ∷ ofRecord tailRight
+    ∷ ofRecord wipedRight
+    ∷ ofRecord replacedRight
+    ∷ ofStanding (λ n t i. replacementRight (lastSerial t) (placeAt n t i))
+    ∷ ofStanding (λ n t i. linksRight n t (placeAt n t i))
+    ∷ []
 
 -- ---- the first broken rule
 
@@ -117,23 +130,15 @@ unfoldable pub orLater : ℕ → Option Fault → Found → Option Fault
 orLater k later (At i) = some (atPlace k i)
 orLater k later Nothing = later
 
--- the first of these rules, numbered from k on, that a standing place breaks
-unfoldable pub standingFault : ℕ → List (ℕ → List ℕ → ℕ → Bool) → ℕ → List ℕ → Option Fault
-standingFault k [] n t = none
-standingFault k (rule ∷ rules) n t = orLater k (standingFault (suc k) rules n t) (first n (breaksStanding rule n t))
-
--- the same, with the free-place rule in front
-unfoldable pub placeFault : ℕ → ℕ → List ℕ → Option Fault
-placeFault k n t = orLater k (standingFault (suc k) standingRules n t) (first n (breaksFree n t))
-
--- the first of these whole-table rules, numbered from k on, that is broken; then the place rules
-unfoldable pub wholeFault : ℕ → List (ℕ → List ℕ → Bool) → ℕ → List ℕ → Option Fault
-wholeFault k [] n t = placeFault k n t
-wholeFault k (rule ∷ rules) n t = let later = wholeFault (suc k) rules n t in ifb (rule n t) later (some (whole k))
+-- the first of these rules, numbered from k on, that is broken
+unfoldable pub faultFrom : ℕ → List Rule → ℕ → List ℕ → Option Fault
+faultFrom k [] n t = none
+faultFrom k (ofTable rule ∷ rules) n t = let later = faultFrom (suc k) rules n t in ifb (rule n t) later (some (whole k))
+faultFrom k (ofPlaces broken ∷ rules) n t = orLater k (faultFrom (suc k) rules n t) (first n (broken n t))
 
 -- the first broken rule of a table of n places, and the lowest place that breaks it
 unfoldable pub firstFault : ℕ → List ℕ → Option Fault
-firstFault n t = wholeFault 1 wholeRules n t
+firstFault n t = faultFrom 1 rules n t
 
 -- a table of n places with no broken rule
 unfoldable pub sound : ℕ → List ℕ → Bool
