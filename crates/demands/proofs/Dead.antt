@@ -1,17 +1,15 @@
 -- What is destroyed stays so and is not handed out: from what demand 3 asks of each item.
 -- Assumes nothing.
-use Prim.Native.Nat.{ℕ, suc, _+_, _≤_, _<_}
+use Prim.Native.Nat.{ℕ, _≤_, _<_}
 use native.Mathlib.Omega.{arith}
 use native.Mathlib.Decide.{ℕ-discrete}
 use mathlib.Core.Path.{_≡_, refl, sym, ap, subst, _∙_}
 use mathlib.Core.Bool.{Bool, true, false, not, _&&_, _||_, true≢false, false≢true}
 use mathlib.Core.List.{List, [], _∷_}
 use lib.Dec.{eqb}
-use borrow.Author.Tests.{eqb-true, eq-eqb, ne-eqb}
-use Rattle.octets.specs.If.{ifb}
+use borrow.Author.Tests.{eqb-true}
 use Rattle.octets.proofs.Bools.{both, or-l, or-r}
 use Rattle.octets.proofs.If.{ifb-true, ifb-false, on-bool}
-use Rattle.table.specs.Records.{serialAt}
 use Rattle.search.specs.Search.{isDestroyed}
 use Rattle.soundness.specs.Sound.{sound}
 use Rattle.soundness.proofs.SoundIs.{sound-is}
@@ -27,7 +25,7 @@ use Rattle.answer.proofs.Tests.{on-or}
 use Rattle.engine.proofs.Commands.{Commanded, not-supported, not-valid, to-create, to-rekey, to-allocate, to-activate, to-revoke, to-destroy, to-show, to-get, commanded}
 use Rattle.demands.specs.Box.{placesOf, recordIn}
 use Rattle.demands.specs.Log.{Event, commandOf, issuedBy, issued, handedBy, destroyedBy, wasDestroyed, handedDead}
-use Rattle.demands.specs.Demand3.{Stands, isUnderstood, movesState, asksKey, carries, codeOf, names, takes, listed, About, Tame}
+use Rattle.demands.specs.Demand3.{Stands, isUnderstood, movesState, carries, codeOf, takes, listed, About, Tame}
 use Rattle.demands.proofs.Logged.{issued-now, issued-before}
 
 -- ---- the listed transitions

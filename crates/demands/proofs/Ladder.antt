@@ -126,7 +126,7 @@ pub record Accepted (c : Call) : Type 0 where
 
 -- what an accepted call runs
 abbrev pub ranBy : (c : Call) → Accepted c → Ran
-ranBy c a = running placeCount (c .clock) (c .strip) (c .table) (requestOf (a .frame))
+ranBy c a = running placeCount (c .strip) (c .table) (requestOf (a .frame))
 
 -- a call is turned away with a number that is not 0, or it is accepted and answered
 pub data Told (c : Call) : Effect → Type 0 where

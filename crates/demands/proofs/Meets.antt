@@ -53,10 +53,10 @@ module _ (c : Call) (lent : Lent c) (a : Accepted c) where
       (omega arith, omega arith)
 
   -- what the batch of an accepted call leaves
-  pub ran-leaves : Leaves placeCount (c .clock) (c .strip) (optionOf (a .frame .header .option)) (lent .strip) (a .frame .items) (ranBy c a)
+  pub ran-leaves : Leaves placeCount (c .strip) (optionOf (a .frame .header .option)) (lent .strip) (a .frame .items) (ranBy c a)
   unfolding running
   ran-leaves =
-      batch-leaves placeCount (c .clock) (c .strip) (optionOf (a .frame .header .option)) (lent .strip) (a .frame .items) 0 0 (c .table)
+      batch-leaves placeCount (c .strip) (optionOf (a .frame .header .option)) (lent .strip) (a .frame .items) 0 0 (c .table)
       (record { right = a .right; bytes = lent .table }) bounded (omega (arith, count-facts .1, a .strip))
 
   -- its response is one that there is

@@ -1,6 +1,6 @@
 -- Runs of calls: each call goes a path along its events, and the invariant holds at every point.
 -- Assumes nothing.
-use Prim.Native.Nat.{ℕ, suc, _+_, _*_, _≤_, _<_}
+use Prim.Native.Nat.{ℕ, suc, _+_, _*_, _≤_}
 use native.Mathlib.Omega.{arith}
 use mathlib.Core.Path.{_≡_, refl, sym, ap, subst, _∙_}
 use mathlib.Core.Option.{Option, none, some}
@@ -83,7 +83,7 @@ module _ (c : Call) (lent : Lent c) (a : Accepted c) where
   unfolding running
   accepted-travels log books =
       subst (λ (events : List Event). Travelled log (c .table) events (ranBy c a .table)) (sym events-accepted)
-      (batch-travels (c .clock) (c .strip) (optionOf (a .frame .header .option)) (lent .strip) (a .frame .items) 0 0 (c .table) log strip-fits books)
+      (batch-travels (c .strip) (optionOf (a .frame .header .option)) (lent .strip) (a .frame .items) 0 0 (c .table) log strip-fits books)
 
 -- ---- the blank table
 

@@ -4,7 +4,7 @@ use Prim.Native.Nat.{ℕ, _+_, _<_}
 use native.Mathlib.Omega.{arith}
 use native.Mathlib.Decide.{ℕ-discrete}
 use mathlib.Core.Path.{_≡_, refl, sym, ap, subst, _∙_}
-use mathlib.Core.Logic.{_⊎_, ⊎-elim}
+use mathlib.Core.Logic.{⊎-elim}
 use mathlib.Core.Bool.{Bool, true, false, not, _&&_, _||_, true≢false, false≢true}
 use mathlib.Core.List.{List}
 use lib.Dec.{eqb}
@@ -320,10 +320,10 @@ kind-understood env holder t c did (gets target k e live) h = absurd (true≢fal
 abbrev pub eventOf : ℕ → Asked → Did → Event
 eventOf holder asked did = record { held = holder; asked = asked; answer = answerTo asked did }
 
-module _ (clock : ℕ) (strip : List ℕ) (k holder : ℕ) (t : List ℕ) (asked : Asked) where
+module _ (strip : List ℕ) (k holder : ℕ) (t : List ℕ) (asked : Asked) where
   -- what item k meets, and what it leaves
   abbrev own : Env
-  own = envAt placeCount clock strip k
+  own = envAt placeCount strip k
 
   abbrev did : Did
   did = step own holder t asked

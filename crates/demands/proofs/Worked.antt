@@ -35,7 +35,7 @@ use Rattle.act.specs.Act.{sought}
 use Rattle.plans.specs.Plans.{isFailed}
 use Rattle.answer.specs.Respond.{Answer}
 use Rattle.demands.specs.Box.{Call}
-use Rattle.demands.specs.Demand2.{Link, ofFrame, lowest, goesOn, linkAt, answerFor, answersFor}
+use Rattle.demands.specs.Demand2.{Link, counted, ofFrame, lowest, goesOn, linkAt, answerFor, answersFor}
 use Rattle.demands.specs.Log.{Event, heldAfter, paired, orNoItems, orNoAnswers, onto, issuedBy, issued, grantBy, granted, limitBy, limit, handedBy, destroyedBy, wasDestroyed, handedDead}
 use Rattle.demands.specs.Demand3.{namedBy, isUnderstood, movesState, asksKey, carries, codeOf, names, takes, mayTake, bornState, listed, listedFor}
 
@@ -303,9 +303,9 @@ callCases =
     -- under Continue (1) a batch goes on behind each outcome, under Stop (2) not behind a failure
     ∷ same (map (λ o. flag (goesOn 1 o)) outcomes) (1 ∷ 1 ∷ 1 ∷ 1 ∷ 1 ∷ [])
     ∷ same (map (λ o. flag (goesOn 2 o)) outcomes) (0 ∷ 1 ∷ 1 ∷ 1 ∷ 1 ∷ [])
-    -- item 1 takes bytes 32 to 63 of the strip, the clock that counts and the placeholder, and its answer has its operation and ID
+    -- item 1 takes bytes 32 to 63 of the strip and the placeholder, the clock that counts is the call's, and the answer has its operation and ID
     ∷ same (second .env .fresh) (replicate 32 8)
-    ∷ same (second .env .clock ∷ second .holder ∷ []) (9 ∷ 5 ∷ [])
+    ∷ same (second .holder ∷ counted call ∷ []) (5 ∷ 9 ∷ [])
     ∷ same (answerFor second .operation ∷ answerFor second .id) (0x12 ∷ 1 ∷ 2 ∷ 3 ∷ [])
     ∷ same (map (λ (a : Answer). a .operation) (answersFor 1 (second ∷ second ∷ []))) (0x12 ∷ 0x12 ∷ [])
     ∷ []

@@ -97,7 +97,7 @@ goesOn option outcome = not (isFailed outcome) || eqb option continue
 
 -- what item i of a call meets, with a placeholder and a table
 abbrev pub linkAt : Call → ℕ → ℕ → List ℕ → Asked → Did → Link
-linkAt c i holder t asked did = record { env = envAt (placesOf t) (counted c) (c .strip) i; holder = holder; table = t; asked = asked; did = did }
+linkAt c i holder t asked did = record { env = envAt (placesOf t) (c .strip) i; holder = holder; table = t; asked = asked; did = did }
 
 -- (c), (f): the links of a batch under an option, from item i on, with a placeholder and a table: one link for each answered item and none more.
 -- The first item is answered; each later one if the option is Continue or the one before it succeeded

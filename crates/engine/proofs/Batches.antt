@@ -22,13 +22,13 @@ use Rattle.answer.specs.Read.{answerOk}
 use Rattle.engine.specs.Batch.{Ran, answerTo, lastly, firstly, endsBatch, batch}
 use Rattle.engine.proofs.Steps.{step-held, step-ok}
 
-module _ (places clock : ℕ) (strip : List ℕ) (option : ℕ) (strip-bytes : Bytes strip) where
+module _ (places : ℕ) (strip : List ℕ) (option : ℕ) (strip-bytes : Bytes strip) where
   -- item i has 32 bytes of the strip for its own
   module _ (i : ℕ) (in-strip : materialSize * i + materialSize ≤ length strip) where
-    pub own-bytes : Bytes (envAt places clock strip i .fresh)
+    pub own-bytes : Bytes (envAt places strip i .fresh)
     own-bytes = bytes-take materialSize (drop (materialSize * i) strip) (bytes-drop (materialSize * i) strip strip-bytes)
 
-    pub own-long : materialSize ≤ length (envAt places clock strip i .fresh)
+    pub own-long : materialSize ≤ length (envAt places strip i .fresh)
     own-long = omega (arith, length-part strip (materialSize * i) materialSize in-strip)
 
   -- what a run of a batch leaves
@@ -39,31 +39,31 @@ module _ (places clock : ℕ) (strip : List ℕ) (option : ℕ) (strip-bytes : B
     pub some : 1 ≤ length items → 1 ≤ length (ran .answers)
 
   pub batch-leaves : (items : List Asked) (i holder : ℕ) (t : List ℕ) → Held places t → AllBounded items → materialSize * (i + length items) ≤ length strip
-      → Leaves items (batch places clock strip option i holder t items)
+      → Leaves items (batch places strip option i holder t items)
   unfolding batch all
   batch-leaves [] i holder t h s l = record { held = h; ok = refl; few = omega arith; some = λ q. q }
   batch-leaves (asked ∷ later) i holder t h s l =
-      turn (step (envAt places clock strip i) holder t asked) (step-held (envAt places clock strip i) holder t h own own-size asked)
-      (step-ok (envAt places clock strip i) holder t h own own-size asked (s .0 .below) (s .0 .short))
-      (batch-leaves later (i + 1) (step (envAt places clock strip i) holder t asked .holder) (step (envAt places clock strip i) holder t asked .table)
-      (step-held (envAt places clock strip i) holder t h own own-size asked) (s .1) (omega arith))
+      turn (step (envAt places strip i) holder t asked) (step-held (envAt places strip i) holder t h own own-size asked)
+      (step-ok (envAt places strip i) holder t h own own-size asked (s .0 .below) (s .0 .short))
+      (batch-leaves later (i + 1) (step (envAt places strip i) holder t asked .holder) (step (envAt places strip i) holder t asked .table)
+      (step-held (envAt places strip i) holder t h own own-size asked) (s .1) (omega arith))
     where
-      own : Bytes (envAt places clock strip i .fresh)
+      own : Bytes (envAt places strip i .fresh)
       own = own-bytes i (omega arith)
 
-      own-size : materialSize ≤ length (envAt places clock strip i .fresh)
+      own-size : materialSize ≤ length (envAt places strip i .fresh)
       own-size = own-long i (omega arith)
 
       turn : (did : Did) → Held places (did .table) → answerOk (answerTo asked did) ≡ true
-          → Leaves later (batch places clock strip option (i + 1) (did .holder) (did .table) later)
+          → Leaves later (batch places strip option (i + 1) (did .holder) (did .table) later)
           → Leaves (asked ∷ later)
-          (ifb (endsBatch option did) (lastly (answerTo asked did) (did .table)) (firstly (answerTo asked did) (batch places clock strip option (i + 1) (did .holder) (did .table) later)))
+          (ifb (endsBatch option did) (lastly (answerTo asked did) (did .table)) (firstly (answerTo asked did) (batch places strip option (i + 1) (did .holder) (did .table) later)))
       turn did g a rest =
           on-if (Leaves (asked ∷ later))
           (λ e. record { held = g; ok = and-i (answerOk (answerTo asked did)) true a refl; few = omega arith; some = λ q. omega arith })
           (λ e. record {
             held = rest .held;
-            ok = and-i (answerOk (answerTo asked did)) (all answerOk (batch places clock strip option (i + 1) (did .holder) (did .table) later .answers)) a (rest .ok);
+            ok = and-i (answerOk (answerTo asked did)) (all answerOk (batch places strip option (i + 1) (did .holder) (did .table) later .answers)) a (rest .ok);
             few = omega (arith, rest .few);
             some = λ q. omega arith;
           })

@@ -5,7 +5,7 @@ use native.Mathlib.Omega.{arith}
 use mathlib.Core.Path.{_≡_, refl, sym, ap, subst, _∙_}
 use mathlib.Core.Bool.{true, false≢true}
 use mathlib.Core.Option.{Option, none, some}
-use mathlib.Core.List.{List, [], _∷_, _++_}
+use mathlib.Core.List.{List, _++_}
 use lib.ListN.{length, take, drop, length-append, length-drop, length-take}
 use lib.Seq.{take-all}
 use lib.Dec.{eqb}
@@ -28,14 +28,12 @@ use Rattle.batch_item.specs.Item.{Asked, itemsIn}
 use Rattle.frame.specs.Frame.{Frame, Framed, Request, refused, asked, frameIn, framing, framed, batchMost}
 use Rattle.frame.specs.Readers.{itemsAt, framingIn, framingOf}
 use Rattle.frame.proofs.Frame.{BatchShape, batch-shape}
-use Rattle.plans.specs.Plans.{Did, noClock, emptyHolder, envAt}
-use Rattle.act.specs.Act.{step}
-use Rattle.act.proofs.Plans.{step-performs}
+use Rattle.plans.specs.Plans.{emptyHolder}
 use Rattle.answer.specs.Respond.{respond, batchItems}
 use Rattle.answer.specs.Front.{longestItem, frameSize, front}
 use Rattle.answer.proofs.Front.{frame-size, respond-splits}
 use Rattle.engine.specs.declared.BatchDone.{BatchDone}
-use Rattle.engine.specs.Batch.{Ran, answerTo, lastly, firstly, endsBatch, batch, firstItem, running}
+use Rattle.engine.specs.Batch.{Ran, batch, firstItem, running}
 use Rattle.engine.specs.Effects.{Effect}
 use Rattle.engine.specs.Serving.{turnedAway, responseTo, answered, earlyRefusal, requested, carryOut, serving}
 use Rattle.engine.specs.Calls.{askedAll, RanIs, ranOver, Runs, ServedIs}
@@ -72,7 +70,7 @@ module _ {request t strip out : List ℕ} (p : Passed request t strip out) (cloc
   -- by the number of the frame: the refusal is the outcome, or the batch of the request that was read
   data Frames : ℕ → Type 0 where
     refuses : (k : ℕ) → serving request t strip clock out ≡ turnedAway t out (suc k) → Frames (suc k)
-    takes : (r : Request) → BatchShape request r → serving request t strip clock out ≡ answered clock out (running placeCount clock strip t r) → Frames 0
+    takes : (r : Request) → BatchShape request r → serving request t strip clock out ≡ answered clock out (running placeCount strip t r) → Frames 0
 
   frames : Frames (framingOf request .number)
   unfolding framingOf framingIn framed carryOut isSome _>>=_
@@ -95,18 +93,6 @@ module _ {request t strip out : List ℕ} (p : Passed request t strip out) (cloc
           framed-is x = framing-taken (frameIn x)
 
 -- ---- the batch
-
--- a batch under any clock is the batch without one
-pub batch-clock : (places clock : ℕ) (strip : List ℕ) (option : ℕ) (items : List Asked) (i holder : ℕ) (t : List ℕ)
-    → batch places noClock strip option i holder t items ≡ batch places clock strip option i holder t items
-unfolding batch
-batch-clock places clock strip option [] i holder t = refl
-batch-clock places clock strip option (a ∷ later) i holder t =
-    ap (λ (did : Did). ifb (endsBatch option did) (lastly (answerTo a did) (did .table)) (firstly (answerTo a did) (batch places noClock strip option (i + 1) (did .holder) (did .table) later)))
-    (step-performs (envAt places noClock strip i) holder t a ∙ sym (step-performs (envAt places clock strip i) holder t a))
-    ∙ ap (λ (rest : Ran). ifb (endsBatch option (step (envAt places clock strip i) holder t a))
-    (lastly (answerTo a (step (envAt places clock strip i) holder t a)) (step (envAt places clock strip i) holder t a .table)) (firstly (answerTo a (step (envAt places clock strip i) holder t a)) rest))
-    (batch-clock places clock strip option later (i + 1) (step (envAt places clock strip i) holder t a .holder) (step (envAt places clock strip i) holder t a .table))
 
 module _ {request t strip out : List ℕ} (p : Passed request t strip out) (clock : ℕ) {r : Request} (shape : BatchShape request r) where
   -- the batch items, as they are lent
@@ -132,12 +118,11 @@ module _ {request t strip out : List ℕ} (p : Passed request t strip out) (cloc
   }
 
   -- the batch that ran is the one that was asked for
-  pub ran-is : (option : ℕ) → option ≡ framingOf request .option → ranOver lentItems strip option t ≡ running placeCount clock strip t r
+  pub ran-is : (option : ℕ) → option ≡ framingOf request .option → ranOver lentItems strip option t ≡ running placeCount strip t r
   unfolding running askedAll
   ran-is option e =
-      ap (λ (o : Option (List Asked)). batch placeCount noClock strip option firstItem emptyHolder t (askedAll o)) lent-asks
-      ∙ ap (λ (k : ℕ). batch placeCount noClock strip k firstItem emptyHolder t (r .items)) (e ∙ shape .option)
-      ∙ batch-clock placeCount clock strip (r .option) (r .items) firstItem emptyHolder t
+      ap (λ (o : Option (List Asked)). batch placeCount strip option firstItem emptyHolder t (askedAll o)) lent-asks
+      ∙ ap (λ (k : ℕ). batch placeCount strip k firstItem emptyHolder t (r .items)) (e ∙ shape .option)
 
   module _ {ran : Ran} {done : BatchDone} {t′ ys out′ : List ℕ} (is : RanIs ran (midOf frameSize (length out - frameSize) out) done t′ ys)
       (fronted : out′ ≡ over (front clock (done .count) (done .used)) (putMid frameSize (length out - frameSize) out ys)) where
@@ -180,7 +165,7 @@ pub record Asks (request t strip : List ℕ) (clock : ℕ) (out : List ℕ) (f :
   pub framing-is : f ≡ framingOf request
   pub request-is : Request
   pub shape : BatchShape request request-is
-  pub answers : serving request t strip clock out ≡ answered clock out (running placeCount clock strip t request-is)
+  pub answers : serving request t strip clock out ≡ answered clock out (running placeCount strip t request-is)
 
 module _ {request t strip out : List ℕ} (p : Passed request t strip out) (clock : ℕ) {f : Framing} (e : f ≡ framingOf request) where
   frames-by : Frames p clock (f .number)
@@ -212,17 +197,17 @@ module _ {request t strip : List ℕ} {clock : ℕ} {out : List ℕ} {f : Framin
   pub runs-from : Runs (items f) t strip (midOf frameSize (length out - frameSize) out)
   runs-from = subst (λ (x : Framing). Runs (items x) t strip (midOf frameSize (length out - frameSize) out)) (sym (a .framing-is)) (runs (a .passed) clock (a .shape))
 
-  ran-from : ranOver (items f) strip (f .option) t ≡ running placeCount clock strip t (a .request-is)
-  ran-from = subst (λ (x : Framing). ranOver (items x) strip (x .option) t ≡ running placeCount clock strip t (a .request-is)) (sym (a .framing-is))
+  ran-from : ranOver (items f) strip (f .option) t ≡ running placeCount strip t (a .request-is)
+  ran-from = subst (λ (x : Framing). ranOver (items x) strip (x .option) t ≡ running placeCount strip t (a .request-is)) (sym (a .framing-is))
       (ran-is (a .passed) clock (a .shape) (framingOf request .option) refl)
 
   module _ {done : BatchDone} {t′ ys : List ℕ} (is : RanIs (ranOver (items f) strip (f .option) t) (midOf frameSize (length out - frameSize) out) done t′ ys) where
-    asked-ran : RanIs (running placeCount clock strip t (a .request-is)) (midOf frameSize (length out - frameSize) out) done t′ ys
+    asked-ran : RanIs (running placeCount strip t (a .request-is)) (midOf frameSize (length out - frameSize) out) done t′ ys
     asked-ran = subst (λ (x : Ran). RanIs x (midOf frameSize (length out - frameSize) out) done t′ ys) ran-from is
 
     -- what the front asks
     pub front-asks : (done .used ≤ batchMost * longestItem) × (done .used % 8 ≡ 0)
-    front-asks = (is .most, subst (λ (k : ℕ). k % 8 ≡ 0) (sym (asked-ran .bytes .size)) (eights (batchItems (running placeCount clock strip t (a .request-is) .answers))))
+    front-asks = (is .most, subst (λ (k : ℕ). k % 8 ≡ 0) (sym (asked-ran .bytes .size)) (eights (batchItems (running placeCount strip t (a .request-is) .answers))))
 
     pub served-is : {bits : ℕ} {out′ : List ℕ} → bits ≡ clock → out′ ≡ over (front bits (done .count) (done .used)) (putMid frameSize (length out - frameSize) out ys)
         → ServedIs request t strip clock out (record { number = 0; length = frameSize + done .used }) t′ out′

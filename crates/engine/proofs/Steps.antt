@@ -1,6 +1,6 @@
 -- An item on a sound table leaves a sound table, and its answer is one that a response may have.
 -- Assumes nothing.
-use Prim.Native.Nat.{ℕ, _-_, _/_, _^_, _≤_, _<_}
+use Prim.Native.Nat.{ℕ, _/_, _^_, _≤_, _<_}
 use native.Mathlib.Omega.{arith}
 use mathlib.Core.Path.{_≡_, refl, sym, ap, _∙_}
 use mathlib.Core.Logic.{_⊎_, inl, inr}

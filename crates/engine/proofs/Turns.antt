@@ -28,7 +28,7 @@ use Rattle.tags.specs.Tags.{batchItem}
 use Rattle.batch_item.specs.Item.{Asked, itemIn, itemsIn}
 use Rattle.frame.specs.Frame.{batchMost, continue}
 use Rattle.batch_item.proofs.Items.{step, none-left}
-use Rattle.plans.specs.Plans.{Did, noClock, emptyHolder, envAt}
+use Rattle.plans.specs.Plans.{Did, emptyHolder, envAt}
 use Rattle.act.proofs.Plans.{step-performs}
 use Rattle.answer.specs.Respond.{Answer, batchItems}
 use Rattle.answer.specs.Front.{longestItem}
@@ -55,7 +55,7 @@ rest-lent next left = sym (take-all (length left - next) (drop next left) (rw le
 
 -- the batch from item i on
 abbrev from : List ℕ → ℕ → ℕ → ℕ → List ℕ → List Asked → Ran
-from fresh option i holder t later = batch placeCount noClock fresh option i holder t later
+from fresh option i holder t later = batch placeCount fresh option i holder t later
 
 -- between two items: what is answered stands in the room, and the rest of the batch from here gives the whole
 pub record Mid (whole : Ran) (fresh : List ℕ) (option : ℕ) (out₀ t out left : List ℕ) (i holder at : ℕ) : Type 0 where
@@ -217,7 +217,7 @@ module _ {whole : Ran} {fresh : List ℕ} {option : ℕ} {out₀ t out left : Li
         now-is =
             ap (from fresh option i holder t) (x .split)
             ∙ ap (λ (d : Did). ifb (endsBatch option d) (lastly (answerTo (x .asked) d) (d .table)) (firstly (answerTo (x .asked) d) (from fresh option (i + 1) (d .holder) (d .table) (x .rest))))
-            (step-performs (envAt placeCount noClock fresh i) holder t (x .asked))
+            (step-performs (envAt placeCount fresh i) holder t (x .asked))
             ∙ ap (λ (f : Bool). ifb f (lastly answer (did .table)) (firstly answer (from fresh option (i + 1) (did .holder) (did .table) (x .rest)))) ends-as
 
         -- nothing after this item

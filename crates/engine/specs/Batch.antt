@@ -32,12 +32,12 @@ firstly answer ran = record { answers = answer ∷ ran .answers; table = ran .ta
 unfoldable pub endsBatch : ℕ → Did → Bool
 endsBatch option did = isFailed (did .outcome) && not (eqb option continue)
 
-module _ (places clock : ℕ) (strip : List ℕ) (option : ℕ) where
+module _ (places : ℕ) (strip : List ℕ) (option : ℕ) where
   -- the items from number i on, with the placeholder and the table that they meet
   unfoldable pub batch : ℕ → ℕ → List ℕ → List Asked → Ran
   batch i holder t [] = record { answers = []; table = t }
   batch i holder t (asked ∷ later) =
-      let did = step (envAt places clock strip i) holder t asked in
+      let did = step (envAt places strip i) holder t asked in
       let rest = batch (i + 1) (did .holder) (did .table) later in
       ifb (endsBatch option did) (lastly (answerTo asked did) (did .table)) (firstly (answerTo asked did) rest)
 
@@ -46,5 +46,5 @@ abbrev pub firstItem : ℕ
 firstItem = 0
 
 -- the whole batch. "It is empty when a request begins": the placeholder
-unfoldable pub running : ℕ → ℕ → List ℕ → List ℕ → Request → Ran
-running places clock strip t request = batch places clock strip (request .option) firstItem emptyHolder t (request .items)
+unfoldable pub running : ℕ → List ℕ → List ℕ → Request → Ran
+running places strip t request = batch places strip (request .option) firstItem emptyHolder t (request .items)

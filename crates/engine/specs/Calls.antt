@@ -15,7 +15,7 @@ use Rattle.tags.specs.Tags.{batchItem}
 use Rattle.batch_item.specs.Item.{Asked, itemIn, itemsIn}
 use Rattle.frame.specs.Frame.{batchMost}
 use Rattle.payload.specs.Payload.{command}
-use Rattle.plans.specs.Plans.{Did, noClock, emptyHolder, isFailed}
+use Rattle.plans.specs.Plans.{Did, emptyHolder, isFailed}
 use Rattle.act.specs.Act.{performing}
 use Rattle.answer.specs.Respond.{Answer, answerItems, batchItems}
 use Rattle.answer.specs.Front.{longestItem}
@@ -72,7 +72,7 @@ pub record RanIs (ran : Ran) (out : List ℕ) (r : BatchDone) (t′ out′ : Lis
 
 -- the batch of the items that some bytes say, on a table
 abbrev pub ranOver : List ℕ → List ℕ → ℕ → List ℕ → Ran
-ranOver items strip option t = batch placeCount noClock strip option firstItem emptyHolder t (askedAll (itemsIn (treeOf items)))
+ranOver items strip option t = batch placeCount strip option firstItem emptyHolder t (askedAll (itemsIn (treeOf items)))
 
 -- a batch that can be run: its items were read, they are at most 16, and table, strip and room have their sizes
 pub record Runs (items t fresh out : List ℕ) : Type 0 where

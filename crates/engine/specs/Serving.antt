@@ -55,7 +55,7 @@ requested request = framing (message request >>= frameIn)
 -- the refusal, or the batch
 unfoldable pub carryOut : ℕ → List ℕ → List ℕ → List ℕ → Framed → Effect
 carryOut clock t strip out (refused number) = turnedAway t out number
-carryOut clock t strip out (asked request) = answered clock out (running placeCount clock strip t request)
+carryOut clock t strip out (asked request) = answered clock out (running placeCount strip t request)
 
 -- the whole outcome; the clock comes as its 64 bits, and any is taken
 unfoldable pub serving : List ℕ → List ℕ → List ℕ → ℕ → List ℕ → Effect

@@ -27,24 +27,17 @@ use Rattle.plans.specs.declared.Performed.{Performed}
 
 -- ---- what an item meets
 
--- the number of places, the clock's 64 bits, and the part of the fresh strip that is the item's
+-- the number of places, and the part of the fresh strip that is the item's
 pub record Env : Type 0 where
   pub places : ℕ
-  -- no plan reads the clock yet, so that it plays no part in what items do; dates will
-  pub clock : ℕ
   pub fresh : List ℕ
 
--- the clock where none is at hand
-abbrev pub noClock : ℕ
-noClock = 0
-
--- what an item meets, without a clock
 abbrev pub inPlaces : ℕ → List ℕ → Env
-inPlaces n fresh = record { places = n; clock = noClock; fresh = fresh }
+inPlaces n fresh = record { places = n; fresh = fresh }
 
 -- "Item i, from 0, takes bytes 32i to 32i+31 of the fresh strip"
-abbrev pub envAt : ℕ → ℕ → List ℕ → ℕ → Env
-envAt places clock strip i = record { places = places; clock = clock; fresh = part strip (materialSize * i) materialSize }
+abbrev pub envAt : ℕ → List ℕ → ℕ → Env
+envAt places strip i = inPlaces places (part strip (materialSize * i) materialSize)
 
 -- the placeholder, where it is empty
 abbrev pub emptyHolder : ℕ

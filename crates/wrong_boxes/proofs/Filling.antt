@@ -42,7 +42,7 @@ wanted-allowed = record { bits = refl; mask = refl; limit = inr (refl, refl) }
 
 -- what item i of a call meets
 abbrev pub own : ℕ → Env
-own i = envAt placeCount 0 (countedFrom 0 512) i
+own i = envAt placeCount (countedFrom 0 512) i
 
 strip-bytes : Bytes (countedFrom 0 512)
 unfolding opened isByte

@@ -58,7 +58,7 @@ responding c answers t = record {
 -- the batch of a call, run under an option
 unfoldable pub ranUnder : (ℕ → ℕ) → Call → Option Frame → Ran
 ranUnder option c none = record { answers = []; table = c .table }
-ranUnder option c (some f) = running (placesOf (c .table)) (c .clock) (c .strip) (c .table) (record { option = option (optionOf (f .header .option)); items = f .items })
+ranUnder option c (some f) = running (placesOf (c .table)) (c .strip) (c .table) (record { option = option (optionOf (f .header .option)); items = f .items })
 
 -- an outcome with another table
 unfoldable pub withTable : (List ℕ → List ℕ) → Effect → Effect
