@@ -2,12 +2,8 @@
 -- Assumes nothing.
 use mathlib.Core.Path.{sym, _∙_}
 use denote.Ref.{now}
-use Rattle.outcomes.specs.Outcomes.{OneLeft, OneOutcome}
+use Rattle.outcomes.specs.Outcomes.{OneOutcome}
 use Rattle.answer_write.proofs.write_answer.Reads as write-answer
-use Rattle.answer_write.proofs.write_front.Reads as write-front
 
 pub write-answer-unique : OneOutcome write-answer.Post (λ k s. now (s .0))
 write-answer-unique κs a r r′ s s′ p q = (p .holds .size ∙ sym (q .holds .size), p .holds .bytes ∙ sym (q .holds .bytes))
-
-pub write-front-unique : OneLeft write-front.Post (λ k s. now (s .0))
-write-front-unique κs a r r′ s s′ p q = p ∙ sym q

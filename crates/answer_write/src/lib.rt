@@ -1,20 +1,17 @@
-// The writer of answers: batch items, and what stands in front of them, in lent room.
-// What a function asks is shown by its callers here; what `write_answer` and `write_front` ask, by
-// the writer of the whole response.
+// The writer of answers: batch items in lent room. What a function asks is shown by its callers
+// here; what `write_answer` asks, by the writer of the whole response.
 ghost use mathlib.Core.Path.{_≡_};
-ghost use Prim.Native.Nat.{_+_, _*_, _%_, _≤_};
+ghost use Prim.Native.Nat.{_+_, _%_, _≤_};
 ghost use lib.ListN.{length, take};
-ghost use Rattle.octets.specs.Octets.{over};
-ghost use Rattle.ttlv_types.specs.Types.{integer, enumeration};
+ghost use Rattle.ttlv_types.specs.Types.{enumeration};
 ghost use Rattle.ttlv.specs.Items.{nil, group};
 ghost use Rattle.ttlv_put.specs.Write.{Holds};
-ghost use Rattle.tags.specs.Tags.{batchItem, protocolVersionMajor, protocolVersionMinor, attributes, objectType, uniqueIdentifier, responseHeader};
+ghost use Rattle.tags.specs.Tags.{batchItem, attributes, objectType, uniqueIdentifier};
 ghost use Rattle.payload.specs.Payload.{symmetricKey};
 ghost use Rattle.batch_item.specs.Item.{idMost};
-ghost use Rattle.frame.specs.Frame.{batchMost};
 ghost use Rattle.plans.specs.declared.Outcome.the-variants.{Failed};
-ghost use Rattle.answer.specs.Respond.{word, named, attributeItems, keyItems, outcomeItems, idItems, answerItems, versionItems, headerItems};
-ghost use Rattle.answer.specs.Front.{headerSize, frameSize, longestItem, front};
+ghost use Rattle.answer.specs.Respond.{word, named, attributeItems, keyItems, outcomeItems, idItems, answerItems};
+ghost use Rattle.answer.specs.Front.{longestItem};
 ghost use Rattle.attributes_write.specs.Puts.{Puts};
 ghost use Rattle.answer_write.specs.Answers.{opening, answerOf};
 use batch_item::ItemId;
@@ -29,9 +26,6 @@ const SYMMETRIC_KEY: u32 = 2;
 const SUCCESS: u32 = 0;
 
 const OPERATION_FAILED: u32 = 1;
-
-// The header of a response: its head, version, Time Stamp, Batch Count.
-const HEADER_SIZE: usize = 80;
 
 // ---- payloads
 
@@ -151,54 +145,4 @@ pub fn write_answer(out: &mut [u8], operation: u32, id: ItemId, outcome: Outcome
     let size = write_answer_items(&mut out[8..], operation, id, outcome);
     ttlv_put::write_structure(out, tags::BATCH_ITEM, size);
     8 + size
-}
-
-// ---- the front
-
-// The body of Protocol Version.
-fn write_version_body(out: &mut [u8]) -> usize
-    requires { ⌜ 32 ≤ length (now out) ⌝ }
-    ensures { λ r. ⌜ Puts 32 (word protocolVersionMajor integer 2 (word protocolVersionMinor integer 1 nil)) (now (out .entry)) (now (out .exit)) r ⌝ }
-{
-    ttlv_write::write_integer(out, tags::PROTOCOL_VERSION_MAJOR, 2);
-    ttlv_write::write_integer(&mut out[16..], tags::PROTOCOL_VERSION_MINOR, 1);
-    32
-}
-
-fn write_version(out: &mut [u8]) -> usize
-    requires { ⌜ 40 ≤ length (now out) ⌝ }
-    ensures { λ r. ⌜ Puts 40 (versionItems nil) (now (out .entry)) (now (out .exit)) r ⌝ }
-{
-    let n = write_version_body(&mut out[8..]);
-    ttlv_put::write_structure(out, tags::PROTOCOL_VERSION, n);
-    8 + n
-}
-
-fn write_header_items(out: &mut [u8], clock: u64, count: u32) -> usize
-    requires { ⌜ 72 ≤ length (now out) ⌝ }
-    ensures { λ r. ⌜ Puts 72 (headerItems clock count) (now (out .entry)) (now (out .exit)) r ⌝ }
-{
-    let n = write_version(out);
-    ttlv_write::write_date_time(&mut out[n..], tags::TIME_STAMP, clock);
-    let at = n + 16;
-    ttlv_write::write_integer(&mut out[at..], tags::BATCH_COUNT, count);
-    at + 16
-}
-
-fn write_header(out: &mut [u8], clock: u64, count: u32) -> usize
-    requires { ⌜ headerSize ≤ length (now out) ⌝ }
-    ensures { λ r. ⌜ Puts headerSize (group responseHeader (headerItems clock count) nil) (now (out .entry)) (now (out .exit)) r ⌝ }
-{
-    let n = write_header_items(&mut out[8..], clock, count);
-    ttlv_put::write_structure(out, tags::RESPONSE_HEADER, n);
-    8 + n
-}
-
-// What stands in front of n bytes of batch items, which are a length of items.
-pub fn write_front(out: &mut [u8], clock: u64, count: u32, n: usize)
-    requires { ⌜ (frameSize ≤ length (now out)) × (n ≤ batchMost * longestItem) × (n % 8 ≡ 0) ⌝ }
-    ensures { λ _. ⌜ now (out .exit) ≡ over (front clock count n) (now (out .entry)) ⌝ }
-{
-    ttlv_put::write_structure(out, tags::RESPONSE_MESSAGE, HEADER_SIZE + n);
-    write_header(&mut out[8..], clock, count);
 }

@@ -167,7 +167,7 @@ pub fn serve(request: &[u8], table: &mut [u8], fresh: &[u8], clock: i64, out: &m
         &mut out[FRAME_SIZE..],
     );
     let used = done.used;
-    answer_write::write_front(out, bits, done.count, used);
+    front_write::write_front(out, bits, done.count, used);
     Served {
         number: 0,
         length: FRAME_SIZE + used,

@@ -1,4 +1,4 @@
--- `answer_write::write_front`. The head of the message, and the header behind it.
+-- `front_write::write_front`. The head of the message, and the header behind it.
 -- Assumes nothing.
 use native.Mathlib.Omega.{arith}
 use mathlib.Core.Path.{refl}
@@ -8,8 +8,8 @@ use Rattle.ttlv_put.proofs.Holds.{holds-then}
 use Rattle.answer.specs.Front.{headerSize, front}
 use Rattle.attributes_write.proofs.Compose.{holds-structure}
 use borrow.Author.Needs.{needs}
-use Rattle.answer_write.proofs.write_front.Statement.{statement}
-use Rattle.answer_write.proofs.write_front.Tie as tie
+use Rattle.front_write.proofs.write_front.Statement.{statement}
+use Rattle.front_write.proofs.write_front.Tie as tie
 
 add-write-structure : tie.Need-add-write-structure
 add-write-structure c = search needs

@@ -1,4 +1,4 @@
--- `answer_write::write_version_body`. The two numbers, one behind the other.
+-- `front_write::write_version_body`. The two numbers, one behind the other.
 -- Assumes nothing.
 use native.Mathlib.Omega.{arith}
 use Rattle.ttlv_types.specs.Types.{integer}
@@ -6,8 +6,8 @@ use Rattle.tags.specs.Tags.{protocolVersionMajor, protocolVersionMinor}
 use Rattle.ttlv_put.specs.Write.{join}
 use Rattle.attributes_write.proofs.Compose.{puts-word, then-word}
 use borrow.Author.Needs.{needs}
-use Rattle.answer_write.proofs.write_version_body.Statement.{statement}
-use Rattle.answer_write.proofs.write_version_body.Tie as tie
+use Rattle.front_write.proofs.write_version_body.Statement.{statement}
+use Rattle.front_write.proofs.write_version_body.Tie as tie
 
 write-integer-requires : tie.Need-write-integer-requires
 write-integer-requires c κs = search needs

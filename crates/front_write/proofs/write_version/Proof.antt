@@ -1,4 +1,4 @@
--- `answer_write::write_version`. The body, and its head in front.
+-- `front_write::write_version`. The body, and its head in front.
 -- Assumes nothing.
 use native.Mathlib.Omega.{arith}
 use mathlib.Core.Path.{refl}
@@ -6,8 +6,8 @@ use Rattle.tags.specs.Tags.{protocolVersion}
 use Rattle.answer.specs.Respond.{versionItems}
 use Rattle.attributes_write.proofs.Compose.{puts-group}
 use borrow.Author.Needs.{needs}
-use Rattle.answer_write.proofs.write_version.Statement.{statement}
-use Rattle.answer_write.proofs.write_version.Tie as tie
+use Rattle.front_write.proofs.write_version.Statement.{statement}
+use Rattle.front_write.proofs.write_version.Tie as tie
 
 sub-write-version-body : tie.Need-sub-write-version-body
 sub-write-version-body c = search needs

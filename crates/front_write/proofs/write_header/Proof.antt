@@ -1,12 +1,12 @@
--- `answer_write::write_header`. The body, and its head in front.
+-- `front_write::write_header`. The body, and its head in front.
 -- Assumes nothing.
 use native.Mathlib.Omega.{arith}
 use mathlib.Core.Path.{refl}
 use Rattle.tags.specs.Tags.{responseHeader}
 use Rattle.attributes_write.proofs.Compose.{puts-group}
 use borrow.Author.Needs.{needs}
-use Rattle.answer_write.proofs.write_header.Statement.{statement}
-use Rattle.answer_write.proofs.write_header.Tie as tie
+use Rattle.front_write.proofs.write_header.Statement.{statement}
+use Rattle.front_write.proofs.write_header.Tie as tie
 
 sub-write-header-items : tie.Need-sub-write-header-items
 sub-write-header-items c = search needs

@@ -1,4 +1,4 @@
--- `answer_write::write_header_items`. The version, then Time Stamp, then Batch Count.
+-- `front_write::write_header_items`. The version, then Time Stamp, then Batch Count.
 -- Assumes nothing.
 use native.Mathlib.Omega.{arith}
 use Rattle.ttlv_types.specs.Types.{integer, dateTime}
@@ -7,8 +7,8 @@ use Rattle.ttlv_put.specs.Write.{join}
 use Rattle.answer.specs.Respond.{headerItems, versionItems}
 use Rattle.attributes_write.proofs.Compose.{then-long, then-word}
 use borrow.Author.Needs.{needs}
-use Rattle.answer_write.proofs.write_header_items.Statement.{statement}
-use Rattle.answer_write.proofs.write_header_items.Tie as tie
+use Rattle.front_write.proofs.write_header_items.Statement.{statement}
+use Rattle.front_write.proofs.write_header_items.Tie as tie
 
 write-version-requires : tie.Need-write-version-requires
 write-version-requires c κs = search needs
