@@ -3,7 +3,7 @@
 // card is printed as a bad one. Empty lines and comments say nothing. Assumes nothing; every
 // function is proved safe and ends. The first cards are the examples of KMIP 1.x, section 9.1.2,
 // which 2.1 does not print; the rest follow from 01's rules.
-use script::Bytes;
+use hex_text::Bytes;
 
 // The most bytes that a card has.
 const CARD_MOST: usize = 512;
@@ -32,7 +32,7 @@ fn card(line: &[u8]) -> bool {
     }
     let from = lines::past(line, stop);
     let mut bytes = [0u8; CARD_MOST];
-    let Bytes::Count(n) = script::bytes_in(&line[from..], &mut bytes) else {
+    let Bytes::Count(n) = hex_text::bytes_in(&line[from..], &mut bytes) else {
         return false;
     };
     printlib::name(&line[..stop]);

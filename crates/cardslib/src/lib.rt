@@ -8,7 +8,7 @@ use commands::Buffer;
 use commands::Done;
 use commands::Setting;
 use commands::Verb;
-use script::Bytes;
+use hex_text::Bytes;
 use script::Number;
 use script::Span;
 use table::Layout;
@@ -74,7 +74,7 @@ fn put(rest: &[u8], table: &mut [u8]) -> bool {
         return false;
     };
     let mut bytes = [0u8; Layout::SIZE];
-    let Bytes::Count(n) = script::bytes_in(&rest[gap..], &mut bytes) else {
+    let Bytes::Count(n) = hex_text::bytes_in(&rest[gap..], &mut bytes) else {
         return false;
     };
     if n == 0 {
@@ -145,7 +145,7 @@ fn request(rest: &[u8], table: &mut [u8], strip: &[u8], out: &mut [u8], setting:
     }
     let from = lines::past(rest, stop);
     let mut bytes = [0u8; REQUEST_ROOM];
-    let Bytes::Count(n) = script::bytes_in(&rest[from..], &mut bytes) else {
+    let Bytes::Count(n) = hex_text::bytes_in(&rest[from..], &mut bytes) else {
         return false;
     };
     printlib::name(&rest[..stop]);

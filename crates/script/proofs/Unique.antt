@@ -1,12 +1,10 @@
 -- No second outcome meets a public function's contract, as the checker reads it.
 -- Assumes nothing.
 use mathlib.Core.Path.{sym, _∙_}
-use denote.Ref.{now}
-use Rattle.outcomes.specs.Outcomes.{OneAnswer, OneOutcome}
+use Rattle.outcomes.specs.Outcomes.{OneAnswer}
 use Rattle.script.proofs.number_in.Reads as number-in
 use Rattle.script.proofs.clock_in.Reads as clock-in
 use Rattle.script.proofs.span_in.Reads as span-in
-use Rattle.script.proofs.bytes_in.Reads as bytes-in
 
 pub number-in-unique : OneAnswer number-in.Post
 number-in-unique κs a r r′ s s′ p q = p ∙ sym q
@@ -16,6 +14,3 @@ clock-in-unique κs a r r′ s s′ p q = p ∙ sym q
 
 pub span-in-unique : OneAnswer span-in.Post
 span-in-unique κs a r r′ s s′ p q = p ∙ sym q
-
-pub bytes-in-unique : OneOutcome bytes-in.Post (λ κs s. now (s .1 .0))
-bytes-in-unique κs a r r′ s s′ p q = (p .count ∙ sym (q .count), p .bytes ∙ sym (q .bytes))

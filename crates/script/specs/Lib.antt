@@ -1,4 +1,3 @@
 -- What stands in the lines of a script.
 -- Assumes nothing.
 pub mod Numbers
-pub mod Bytes

@@ -5,7 +5,7 @@ use mathlib.Core.Path.{sym}
 use native.Mathlib.Omega.{arith}
 use lib.ListN.{length}
 use lib.Seq.{length-take-le}
-use Rattle.script.proofs.Texts.{count-within}
+use Rattle.hex_text.proofs.Texts.{count-within}
 use borrow.Author.Needs.{needs}
 use Rattle.cards_ttlv.proofs.card.Statement.{statement}
 use Rattle.cards_ttlv.proofs.card.Tie as tie

@@ -5,7 +5,7 @@ use mathlib.Core.Path.{_≡_, sym}
 use lib.ListN.{length, take}
 use native.Mathlib.Omega.{arith}
 use lib.Seq.{length-take-le}
-use Rattle.script.proofs.Texts.{count-within}
+use Rattle.hex_text.proofs.Texts.{count-within}
 use borrow.Author.Needs.{needs}
 use Rattle.cardslib.proofs.put.Statement.{statement}
 use Rattle.cardslib.proofs.put.Tie as tie

@@ -4,7 +4,7 @@ use Prim.Native.Nat.{ℕ, _≤_}
 use mathlib.Core.Path.{sym}
 use native.Mathlib.Omega.{arith}
 use lib.Seq.{length-take-le}
-use Rattle.script.proofs.Texts.{count-within}
+use Rattle.hex_text.proofs.Texts.{count-within}
 use borrow.Author.Needs.{needs}
 use Rattle.cardslib.proofs.request.Statement.{statement}
 use Rattle.cardslib.proofs.request.Tie as tie

@@ -10,8 +10,8 @@ use Rattle.octets.specs.If.{ifb}
 use Rattle.octets.specs.Octets.{over}
 use Rattle.hex.specs.Hex.{isDigit, digitOf}
 use Rattle.hex.specs.Texts.{Pairs, pairsIn}
-use Rattle.script.specs.declared.Bytes.{Bytes}
-use Rattle.script.specs.declared.Bytes.the-variants.{Count, NoBytes}
+use Rattle.hex_text.specs.declared.Bytes.{Bytes}
+use Rattle.hex_text.specs.declared.Bytes.the-variants.{Count, NoBytes}
 
 -- the byte that two characters spell; 256, which is none, where one of them is no digit
 abbrev pub byteOf : ℕ → ℕ → ℕ

@@ -1,4 +1,4 @@
--- `script::byte_of`. By whether each character is a digit.
+-- `hex_text::byte_of`. By whether each character is a digit.
 -- Assumes nothing.
 use mathlib.Core.Path.{sym, _∙_}
 use mathlib.Core.Bool.{and-false}
@@ -8,8 +8,8 @@ use Rattle.octets.proofs.If.{ifb-true, ifb-false}
 use Rattle.hex.specs.Hex.{isDigit}
 use Rattle.hex.proofs.Digits.{spells-value, none-value, value-most}
 use borrow.Author.Needs.{needs}
-use Rattle.script.proofs.byte_of.Statement.{statement}
-use Rattle.script.proofs.byte_of.Tie as tie
+use Rattle.hex_text.proofs.byte_of.Statement.{statement}
+use Rattle.hex_text.proofs.byte_of.Tie as tie
 
 value-of-requires : tie.Need-value-of-requires
 value-of-requires c κs = search needs

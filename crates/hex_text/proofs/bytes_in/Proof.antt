@@ -1,15 +1,15 @@
--- `script::bytes_in`. What is left decides, and what is read is written.
+-- `hex_text::bytes_in`. What is left decides, and what is read is written.
 -- Assumes nothing.
 use Prim.Native.Nat.{ℕ, _-_, _<_}
 use mathlib.Core.Path.{_≡_, sym, ap, _∙_}
 use mathlib.Core.List.{List}
 use native.Mathlib.Omega.{arith}
 use lib.ListN.{length, drop, set}
-use Rattle.script.specs.Bytes.{firstByte}
-use Rattle.script.proofs.Texts.{Mid, first-low, two-left, mid-start, mid-size, mid-gap, mid-end, mid-broken, mid-full, mid-byte}
+use Rattle.hex_text.specs.Bytes.{firstByte}
+use Rattle.hex_text.proofs.Texts.{Mid, first-low, two-left, mid-start, mid-size, mid-gap, mid-end, mid-broken, mid-full, mid-byte}
 use borrow.Author.Needs.{needs}
-use Rattle.script.proofs.bytes_in.Statement.{statement}
-use Rattle.script.proofs.bytes_in.Tie as tie
+use Rattle.hex_text.proofs.bytes_in.Statement.{statement}
+use Rattle.hex_text.proofs.bytes_in.Tie as tie
 
 abbrev Inv-loop : tie.InvT-loop
 Inv-loop s out₀ n₀ i₀ out n i = Mid s out₀ out n i

@@ -1,11 +1,11 @@
--- `script::pair_at`. By whether there are two characters.
+-- `hex_text::pair_at`. By whether there are two characters.
 -- Assumes nothing.
 use mathlib.Core.Path.{sym, _∙_}
 use native.Mathlib.Omega.{arith}
-use Rattle.script.proofs.Texts.{first-two, first-cut}
+use Rattle.hex_text.proofs.Texts.{first-two, first-cut}
 use borrow.Author.Needs.{needs}
-use Rattle.script.proofs.pair_at.Statement.{statement}
-use Rattle.script.proofs.pair_at.Tie as tie
+use Rattle.hex_text.proofs.pair_at.Statement.{statement}
+use Rattle.hex_text.proofs.pair_at.Tie as tie
 
 sub-if1 : tie.Need-sub-if1
 sub-if1 c = search needs

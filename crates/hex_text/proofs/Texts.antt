@@ -18,9 +18,9 @@ use Rattle.octets.proofs.If.{ifb-true, ifb-false, on-bool}
 use Rattle.hex.specs.Hex.{isDigit, digitOf}
 use Rattle.hex.specs.Texts.{Pairs, Mark, gap, half, other, markOf, marksOf, pairsBy, pairsIn, ended, broken, behind}
 use Rattle.hex.proofs.Digits.{character-spells}
-use Rattle.script.specs.Bytes.{byteOf, firstByte, countIn, BytesRead}
-use Rattle.script.specs.declared.Bytes.{Bytes}
-use Rattle.script.specs.declared.Bytes.the-variants.{Count, NoBytes}
+use Rattle.hex_text.specs.Bytes.{byteOf, firstByte, countIn, BytesRead}
+use Rattle.hex_text.specs.declared.Bytes.{Bytes}
+use Rattle.hex_text.specs.declared.Bytes.the-variants.{Count, NoBytes}
 
 -- ---- what a character is
 

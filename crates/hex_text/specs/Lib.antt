@@ -1,0 +1,3 @@
+-- Bytes written as hex.
+-- Assumes nothing.
+pub mod Bytes
