@@ -12,8 +12,8 @@ use Rattle.ttlv_put.specs.Write.{join, WroteValue}
 use Rattle.tags.specs.Tags.{uniqueBatchItemId}
 use Rattle.plans.specs.declared.Outcome.{Outcome}
 use Rattle.answer.specs.Respond.{idItems, outcomeItems}
-use Rattle.attributes_write.specs.Puts.{Puts}
-use Rattle.attributes_write.proofs.Compose.{puts-nil, puts-value}
+use Rattle.named_write.specs.Puts.{Puts}
+use Rattle.named_write.proofs.Compose.{puts-nil, puts-value}
 
 -- ---- the Unique Batch Item ID
 

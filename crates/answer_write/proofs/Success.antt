@@ -19,9 +19,9 @@ use Rattle.tags.specs.Tags.{resultStatus, responsePayload, uniqueIdentifier}
 use Rattle.identifier.specs.Identifier.{identifier}
 use Rattle.rules.specs.Numbers.{success}
 use Rattle.answer.specs.Respond.{word, named, succeeded}
-use Rattle.attributes_write.specs.Puts.{Puts}
-use Rattle.attributes_write.proofs.Compose.{number-size, puts-eights}
-use Rattle.attributes_write.proofs.Parts.{puts-named}
+use Rattle.named_write.specs.Puts.{Puts}
+use Rattle.named_write.proofs.Compose.{number-size, puts-eights}
+use Rattle.named_write.proofs.Named.{puts-named}
 use Rattle.answer_write.specs.Answers.{opening}
 
 opening-size : (n : ℕ) → length (opening n) ≡ 24

@@ -12,7 +12,7 @@ ghost use Rattle.batch_item.specs.Item.{idMost};
 ghost use Rattle.plans.specs.declared.Outcome.the-variants.{Failed};
 ghost use Rattle.answer.specs.Respond.{word, named, attributeItems, keyItems, outcomeItems, idItems, answerItems};
 ghost use Rattle.answer.specs.Front.{longestItem};
-ghost use Rattle.attributes_write.specs.Puts.{Puts};
+ghost use Rattle.named_write.specs.Puts.{Puts};
 ghost use Rattle.answer_write.specs.Answers.{opening, answerOf};
 use batch_item::ItemId;
 use plans::Key;
@@ -35,7 +35,7 @@ fn write_created(out: &mut [u8], serial: u32) -> usize
     ensures { λ r. ⌜ Puts 32 (word objectType enumeration symmetricKey (named uniqueIdentifier serial nil)) (now (out .entry)) (now (out .exit)) r ⌝ }
 {
     ttlv_write::write_enumeration(out, tags::OBJECT_TYPE, SYMMETRIC_KEY);
-    let n = attributes_write::write_named(&mut out[16..], tags::UNIQUE_IDENTIFIER, serial);
+    let n = named_write::write_named(&mut out[16..], tags::UNIQUE_IDENTIFIER, serial);
     16 + n
 }
 
@@ -44,7 +44,7 @@ fn write_showed(out: &mut [u8], shown: Shown) -> usize
     requires { ⌜ 224 ≤ length (now out) ⌝ }
     ensures { λ r. ⌜ Puts 224 (named uniqueIdentifier (shown .serial) (group attributes (attributeItems shown) nil)) (now (out .entry)) (now (out .exit)) r ⌝ }
 {
-    let n = attributes_write::write_named(out, tags::UNIQUE_IDENTIFIER, shown.serial);
+    let n = named_write::write_named(out, tags::UNIQUE_IDENTIFIER, shown.serial);
     let m = attributes_write::write_attributes(&mut out[n..], shown);
     n + m
 }
@@ -97,7 +97,7 @@ fn write_outcome(out: &mut [u8], outcome: Outcome) -> usize
             write_success(out, n)
         }
         Outcome::Done { serial } => {
-            let n = attributes_write::write_named(&mut out[24..], tags::UNIQUE_IDENTIFIER, serial);
+            let n = named_write::write_named(&mut out[24..], tags::UNIQUE_IDENTIFIER, serial);
             write_success(out, n)
         }
         Outcome::Showed { shown } => {

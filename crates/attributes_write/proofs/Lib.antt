@@ -1,5 +1,4 @@
--- How the writers of items compose.
+-- The parts of a key's attributes, and the uniqueness of what is written.
 -- Assumes nothing.
-pub mod Compose
 pub mod Parts
 pub mod Unique

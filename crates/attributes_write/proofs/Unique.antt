@@ -3,12 +3,7 @@
 use mathlib.Core.Path.{sym, _∙_}
 use denote.Ref.{now}
 use Rattle.outcomes.specs.Outcomes.{OneOutcome}
-use Rattle.ttlv_put.proofs.Unique.{wrote-unique}
-use Rattle.attributes_write.proofs.write_named.Reads as write-named
 use Rattle.attributes_write.proofs.write_attributes.Reads as write-attributes
-
-pub write-named-unique : OneOutcome write-named.Post (λ k s. now (s .0))
-write-named-unique κs a r r′ s s′ p q = wrote-unique p q
 
 pub write-attributes-unique : OneOutcome write-attributes.Post (λ k s. now (s .0))
 write-attributes-unique κs a r r′ s s′ p q = (p .holds .size ∙ sym (q .holds .size), p .holds .bytes ∙ sym (q .holds .bytes))

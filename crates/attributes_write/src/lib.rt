@@ -1,17 +1,14 @@
-// The writer of a key's attributes, and of an identifier, in lent room.
+// The writer of a key's attributes in lent room.
 // What a function asks is shown by its callers: here, or for `write_attributes` in the writer of
 // answers.
-ghost use mathlib.Core.Bool.{true};
 ghost use Prim.Native.Nat.{_≤_};
 ghost use lib.ListN.{length};
-ghost use Rattle.ttlv_types.specs.Types.{integer, longInteger, enumeration, textString};
+ghost use Rattle.ttlv_types.specs.Types.{integer, longInteger, enumeration};
 ghost use Rattle.ttlv.specs.Items.{nil, group};
-ghost use Rattle.ttlv_put.specs.Write.{WroteValue};
 ghost use Rattle.tags.specs.Tags.{attributes, cryptographicAlgorithm, cryptographicLength, cryptographicUsageMask, usageLimitsCount, usageLimitsTotal, usageLimitsUnit, linkType, linkedObjectIdentifier, stateTag};
 ghost use Rattle.attributes_read.specs.Attributes.{aes};
-ghost use Rattle.identifier.specs.Identifier.{identifier};
 ghost use Rattle.answer.specs.Respond.{word, long, named, limitItems, linkItems, attributeItems, replacedObjectLink, replacementObjectLink};
-ghost use Rattle.attributes_write.specs.Puts.{Puts};
+ghost use Rattle.named_write.specs.Puts.{Puts};
 use plans::Shown;
 
 // Values of Enumerations.
@@ -21,21 +18,13 @@ const REPLACED_OBJECT_LINK: u32 = 0x107;
 
 const REPLACEMENT_OBJECT_LINK: u32 = 0x106;
 
-// An identifier as a Text String. It asks nothing: it writes as the TTLV writers do, or answers 0.
-pub fn write_named(out: &mut [u8], tag: u32, serial: u32) -> usize
-    ensures { λ r. ⌜ WroteValue true tag textString (identifier serial) (now (out .entry)) (now (out .exit)) r ⌝ }
-{
-    let text = identifier::text_of(serial);
-    ttlv_write::write_text(out, tag, &text)
-}
-
 // The body of a link.
 fn write_link_body(out: &mut [u8], kind: u32, serial: u32) -> usize
     requires { ⌜ 32 ≤ length (now out) ⌝ }
     ensures { λ r. ⌜ Puts 32 (word linkType enumeration kind (named linkedObjectIdentifier serial nil)) (now (out .entry)) (now (out .exit)) r ⌝ }
 {
     ttlv_write::write_enumeration(out, tags::LINK_TYPE, kind);
-    let n = write_named(&mut out[16..], tags::LINKED_OBJECT_IDENTIFIER, serial);
+    let n = named_write::write_named(&mut out[16..], tags::LINKED_OBJECT_IDENTIFIER, serial);
     16 + n
 }
 

@@ -28,7 +28,7 @@ use Rattle.plans.specs.Plans.{Did, leaves, isFailed}
 use Rattle.act.specs.Act.{performing}
 use Rattle.answer.specs.Respond.{Answer, answerItems}
 use Rattle.answer.specs.Front.{longestItem}
-use Rattle.attributes_write.specs.Puts.{Puts}
+use Rattle.named_write.specs.Puts.{Puts}
 use Rattle.answer_write.specs.Answers.{answerOf}
 use Rattle.engine.specs.Batch.{answerTo}
 use Rattle.engine.specs.Calls.{askedOr, askedIn, answerBytes, doing, RunsOne, ItemIs}

@@ -11,7 +11,7 @@ ghost use Rattle.tags.specs.Tags.{protocolVersionMajor, protocolVersionMinor, r
 ghost use Rattle.frame.specs.Frame.{batchMost};
 ghost use Rattle.answer.specs.Respond.{word, versionItems, headerItems};
 ghost use Rattle.answer.specs.Front.{headerSize, frameSize, longestItem, front};
-ghost use Rattle.attributes_write.specs.Puts.{Puts};
+ghost use Rattle.named_write.specs.Puts.{Puts};
 
 // The header of a response: its head, version, Time Stamp, Batch Count.
 const HEADER_SIZE: usize = 80;

@@ -8,7 +8,7 @@ ghost use Rattle.ttlv.specs.Items.{nil, value, group};
 ghost use Rattle.tags.specs.Tags.{cryptographicAlgorithm, cryptographicLength, keyBlock, keyMaterial};
 ghost use Rattle.attributes_read.specs.Attributes.{aes};
 ghost use Rattle.answer.specs.Respond.{word, materialOf, keyValueItems, keyBlockItems, keyItems};
-ghost use Rattle.attributes_write.specs.Puts.{Puts};
+ghost use Rattle.named_write.specs.Puts.{Puts};
 use plans::Key;
 
 // Values of Enumerations.

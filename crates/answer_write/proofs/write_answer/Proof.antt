@@ -3,7 +3,7 @@
 use native.Mathlib.Omega.{arith}
 use mathlib.Core.Path.{refl}
 use Rattle.tags.specs.Tags.{batchItem}
-use Rattle.attributes_write.proofs.Compose.{puts-group}
+use Rattle.named_write.proofs.Compose.{puts-group}
 use borrow.Author.Needs.{needs}
 use Rattle.answer_write.proofs.write_answer.Statement.{statement}
 use Rattle.answer_write.proofs.write_answer.Tie as tie

@@ -6,7 +6,7 @@ use Rattle.tags.specs.Tags.{operationTag}
 use lib.ListN.{take}
 use Rattle.ttlv_put.specs.Write.{join}
 use Rattle.answer.specs.Respond.{answerItems, outcomeItems}
-use Rattle.attributes_write.proofs.Compose.{puts-word, puts-then}
+use Rattle.named_write.proofs.Compose.{puts-word, puts-then}
 use Rattle.answer_write.proofs.Parts.{id-join}
 use borrow.Author.Needs.{needs}
 use Rattle.answer_write.proofs.write_answer_items.Statement.{statement}

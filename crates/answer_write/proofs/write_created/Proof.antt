@@ -7,8 +7,8 @@ use Rattle.tags.specs.Tags.{objectType, uniqueIdentifier}
 use Rattle.payload.specs.Payload.{symmetricKey}
 use Rattle.ttlv_put.specs.Write.{join}
 use Rattle.ttlv_put.proofs.Holds.{holds-left}
-use Rattle.attributes_write.proofs.Parts.{puts-named}
-use Rattle.attributes_write.proofs.Compose.{puts-word, puts-then}
+use Rattle.named_write.proofs.Named.{puts-named}
+use Rattle.named_write.proofs.Compose.{puts-word, puts-then}
 use borrow.Author.Needs.{needs}
 use Rattle.answer_write.proofs.write_created.Statement.{statement}
 use Rattle.answer_write.proofs.write_created.Tie as tie

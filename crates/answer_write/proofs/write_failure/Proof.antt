@@ -7,7 +7,7 @@ use Rattle.rules.specs.Numbers.{reasonNumber, operationFailed}
 use Rattle.tags.specs.Tags.{resultStatus, resultReason}
 use Rattle.ttlv_put.specs.Write.{join}
 use Rattle.answer.specs.Respond.{outcomeItems}
-use Rattle.attributes_write.proofs.Compose.{puts-word, then-word}
+use Rattle.named_write.proofs.Compose.{puts-word, then-word}
 use borrow.Author.Needs.{needs}
 use Rattle.answer_write.proofs.write_failure.Statement.{statement}
 use Rattle.answer_write.proofs.write_failure.Tie as tie

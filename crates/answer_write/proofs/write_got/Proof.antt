@@ -3,7 +3,7 @@
 use native.Mathlib.Omega.{arith}
 use Rattle.ttlv_put.specs.Write.{join}
 use Rattle.ttlv_put.proofs.Holds.{holds-left}
-use Rattle.attributes_write.proofs.Compose.{puts-then}
+use Rattle.named_write.proofs.Compose.{puts-then}
 use borrow.Author.Needs.{needs}
 use Rattle.answer_write.proofs.write_got.Statement.{statement}
 use Rattle.answer_write.proofs.write_got.Tie as tie

@@ -8,8 +8,8 @@ use borrow.Rule.Slice.PartMut.{midOf}
 use Rattle.tags.specs.Tags.{uniqueIdentifier}
 use Rattle.ttlv.specs.Items.{nil}
 use Rattle.answer.specs.Respond.{named, outcomeItems}
-use Rattle.attributes_write.specs.Puts.{Puts}
-use Rattle.attributes_write.proofs.Compose.{puts-within}
+use Rattle.named_write.specs.Puts.{Puts}
+use Rattle.named_write.proofs.Compose.{puts-within}
 use Rattle.answer_write.proofs.Success.{puts-name, opening-room, puts-succeeded}
 use Rattle.answer_write.proofs.Parts.{puts-outcome}
 use borrow.Author.Needs.{needs}

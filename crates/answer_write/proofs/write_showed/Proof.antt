@@ -8,9 +8,9 @@ use Rattle.ttlv.specs.Items.{nil}
 use Rattle.ttlv_put.specs.Write.{join}
 use Rattle.ttlv_put.proofs.Holds.{holds-left}
 use Rattle.answer.specs.Respond.{named}
-use Rattle.attributes_write.specs.Puts.{Puts}
-use Rattle.attributes_write.proofs.Parts.{puts-named}
-use Rattle.attributes_write.proofs.Compose.{puts-then}
+use Rattle.named_write.specs.Puts.{Puts}
+use Rattle.named_write.proofs.Named.{puts-named}
+use Rattle.named_write.proofs.Compose.{puts-then}
 use borrow.Author.Needs.{needs}
 use Rattle.answer_write.proofs.write_showed.Statement.{statement}
 use Rattle.answer_write.proofs.write_showed.Tie as tie

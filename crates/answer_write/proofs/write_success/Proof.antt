@@ -6,7 +6,7 @@ use Rattle.ttlv_types.specs.Types.{enumeration}
 use Rattle.tags.specs.Tags.{resultStatus, responsePayload}
 use Rattle.ttlv_put.proofs.Holds.{holds-then, holds-left}
 use Rattle.rules.specs.Numbers.{success}
-use Rattle.attributes_write.proofs.Compose.{puts-word, holds-structure}
+use Rattle.named_write.proofs.Compose.{puts-word, holds-structure}
 use borrow.Author.Needs.{needs}
 use Rattle.answer_write.proofs.write_success.Statement.{statement}
 use Rattle.answer_write.proofs.write_success.Tie as tie

@@ -5,7 +5,7 @@ use Rattle.ttlv_types.specs.Types.{integer, enumeration}
 use Rattle.tags.specs.Tags.{cryptographicAlgorithm, cryptographicLength, cryptographicUsageMask, stateTag}
 use Rattle.attributes_read.specs.Attributes.{aes}
 use Rattle.ttlv_put.specs.Write.{join}
-use Rattle.attributes_write.proofs.Compose.{puts-word, then-word}
+use Rattle.named_write.proofs.Compose.{puts-word, then-word}
 use borrow.Author.Needs.{needs}
 use Rattle.attributes_write.proofs.write_always.Statement.{statement}
 use Rattle.attributes_write.proofs.write_always.Tie as tie

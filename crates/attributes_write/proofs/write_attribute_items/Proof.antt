@@ -3,7 +3,7 @@
 use Rattle.ttlv_put.specs.Write.{join}
 use Rattle.answer.specs.Respond.{attributeItems, linkItems, replacedObjectLink, replacementObjectLink}
 use Rattle.ttlv.specs.Items.{nil}
-use Rattle.attributes_write.proofs.Compose.{puts-then}
+use Rattle.named_write.proofs.Compose.{puts-then}
 use Rattle.attributes_write.proofs.Parts.{limit-join}
 use borrow.Author.Needs.{needs}
 use Rattle.attributes_write.proofs.write_attribute_items.Statement.{statement}

@@ -3,7 +3,7 @@
 use native.Mathlib.Omega.{arith}
 use mathlib.Core.Path.{refl}
 use Rattle.tags.specs.Tags.{attributes}
-use Rattle.attributes_write.proofs.Compose.{puts-group}
+use Rattle.named_write.proofs.Compose.{puts-group}
 use borrow.Author.Needs.{needs}
 use Rattle.attributes_write.proofs.write_attributes.Statement.{statement}
 use Rattle.attributes_write.proofs.write_attributes.Tie as tie

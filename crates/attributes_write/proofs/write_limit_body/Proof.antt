@@ -4,7 +4,7 @@ use native.Mathlib.Omega.{arith}
 use Rattle.ttlv_types.specs.Types.{longInteger, enumeration}
 use Rattle.tags.specs.Tags.{usageLimitsTotal, usageLimitsCount, usageLimitsUnit}
 use Rattle.ttlv_put.specs.Write.{join}
-use Rattle.attributes_write.proofs.Compose.{puts-long, then-long, then-word}
+use Rattle.named_write.proofs.Compose.{puts-long, then-long, then-word}
 use borrow.Author.Needs.{needs}
 use Rattle.attributes_write.proofs.write_limit_body.Statement.{statement}
 use Rattle.attributes_write.proofs.write_limit_body.Tie as tie

@@ -5,7 +5,7 @@ use mathlib.Core.Path.{refl}
 use Rattle.tags.specs.Tags.{link}
 use borrow.Author.Tests.{eq-eqb, ne-eqb}
 use Rattle.answer.specs.Respond.{linkItems}
-use Rattle.attributes_write.proofs.Compose.{puts-absent, puts-present, puts-group}
+use Rattle.named_write.proofs.Compose.{puts-absent, puts-present, puts-group}
 use borrow.Author.Needs.{needs}
 use Rattle.attributes_write.proofs.write_link.Statement.{statement}
 use Rattle.attributes_write.proofs.write_link.Tie as tie

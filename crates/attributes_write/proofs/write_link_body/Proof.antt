@@ -6,8 +6,8 @@ use Rattle.ttlv_types.specs.Types.{enumeration}
 use Rattle.tags.specs.Tags.{linkType, linkedObjectIdentifier}
 use Rattle.ttlv_put.specs.Write.{join}
 use Rattle.ttlv_put.proofs.Holds.{holds-left}
-use Rattle.attributes_write.proofs.Parts.{puts-named}
-use Rattle.attributes_write.proofs.Compose.{puts-word, puts-then}
+use Rattle.named_write.proofs.Named.{puts-named}
+use Rattle.named_write.proofs.Compose.{puts-word, puts-then}
 use borrow.Author.Needs.{needs}
 use Rattle.attributes_write.proofs.write_link_body.Statement.{statement}
 use Rattle.attributes_write.proofs.write_link_body.Tie as tie

@@ -2,7 +2,7 @@
 -- Assumes nothing.
 use Rattle.ttlv.specs.Items.{nil}
 use Rattle.answer.specs.Respond.{linkItems, replacedObjectLink, replacementObjectLink}
-use Rattle.attributes_write.proofs.Compose.{puts-then}
+use Rattle.named_write.proofs.Compose.{puts-then}
 use Rattle.attributes_write.proofs.Parts.{link-join}
 use borrow.Author.Needs.{needs}
 use Rattle.attributes_write.proofs.write_links.Statement.{statement}

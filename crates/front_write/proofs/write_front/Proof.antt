@@ -6,7 +6,7 @@ use Prim.Native.Nat.{_+_}
 use Rattle.tags.specs.Tags.{responseMessage}
 use Rattle.ttlv_put.proofs.Holds.{holds-then}
 use Rattle.answer.specs.Front.{headerSize, front}
-use Rattle.attributes_write.proofs.Compose.{holds-structure}
+use Rattle.named_write.proofs.Compose.{holds-structure}
 use borrow.Author.Needs.{needs}
 use Rattle.front_write.proofs.write_front.Statement.{statement}
 use Rattle.front_write.proofs.write_front.Tie as tie

@@ -3,7 +3,7 @@
 use native.Mathlib.Omega.{arith}
 use mathlib.Core.Path.{refl}
 use Rattle.tags.specs.Tags.{responseHeader}
-use Rattle.attributes_write.proofs.Compose.{puts-group}
+use Rattle.named_write.proofs.Compose.{puts-group}
 use borrow.Author.Needs.{needs}
 use Rattle.front_write.proofs.write_header.Statement.{statement}
 use Rattle.front_write.proofs.write_header.Tie as tie

@@ -5,7 +5,7 @@ use Rattle.ttlv_types.specs.Types.{integer, dateTime}
 use Rattle.tags.specs.Tags.{batchCount, timeStamp}
 use Rattle.ttlv_put.specs.Write.{join}
 use Rattle.answer.specs.Respond.{headerItems, versionItems}
-use Rattle.attributes_write.proofs.Compose.{then-long, then-word}
+use Rattle.named_write.proofs.Compose.{then-long, then-word}
 use borrow.Author.Needs.{needs}
 use Rattle.front_write.proofs.write_header_items.Statement.{statement}
 use Rattle.front_write.proofs.write_header_items.Tie as tie

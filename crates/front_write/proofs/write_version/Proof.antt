@@ -4,7 +4,7 @@ use native.Mathlib.Omega.{arith}
 use mathlib.Core.Path.{refl}
 use Rattle.tags.specs.Tags.{protocolVersion}
 use Rattle.answer.specs.Respond.{versionItems}
-use Rattle.attributes_write.proofs.Compose.{puts-group}
+use Rattle.named_write.proofs.Compose.{puts-group}
 use borrow.Author.Needs.{needs}
 use Rattle.front_write.proofs.write_version.Statement.{statement}
 use Rattle.front_write.proofs.write_version.Tie as tie

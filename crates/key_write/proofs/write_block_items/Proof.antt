@@ -5,7 +5,7 @@ use Rattle.tags.specs.Tags.{keyFormatType}
 use Rattle.ttlv_types.specs.Types.{enumeration}
 use Rattle.ttlv_put.specs.Write.{join}
 use Rattle.answer.specs.Respond.{raw}
-use Rattle.attributes_write.proofs.Compose.{puts-word, puts-then}
+use Rattle.named_write.proofs.Compose.{puts-word, puts-then}
 use borrow.Author.Needs.{needs}
 use Rattle.key_write.proofs.write_block_items.Statement.{statement}
 use Rattle.key_write.proofs.write_block_items.Tie as tie

@@ -5,7 +5,7 @@ use Rattle.tags.specs.Tags.{cryptographicAlgorithm, cryptographicLength}
 use Rattle.ttlv_types.specs.Types.{integer, enumeration}
 use Rattle.ttlv_put.specs.Write.{join}
 use Rattle.attributes_read.specs.Attributes.{aes}
-use Rattle.attributes_write.proofs.Compose.{puts-word, then-word}
+use Rattle.named_write.proofs.Compose.{puts-word, then-word}
 use borrow.Author.Needs.{needs}
 use Rattle.key_write.proofs.write_form.Statement.{statement}
 use Rattle.key_write.proofs.write_form.Tie as tie

@@ -3,7 +3,7 @@
 use native.Mathlib.Omega.{arith}
 use mathlib.Core.Path.{refl}
 use Rattle.tags.specs.Tags.{symmetricKeyTag}
-use Rattle.attributes_write.proofs.Compose.{puts-group}
+use Rattle.named_write.proofs.Compose.{puts-group}
 use Rattle.answer.specs.Respond.{keyItems}
 use borrow.Author.Needs.{needs}
 use Rattle.key_write.proofs.write_key.Statement.{statement}

@@ -9,7 +9,7 @@ use Rattle.ttlv_types.specs.Types.{byteString}
 use Rattle.words.proofs.Laws.{length-words}
 use Rattle.answer.specs.Respond.{materialOf}
 use Rattle.answer.proofs.Sizes.{material-length}
-use Rattle.attributes_write.proofs.Compose.{puts-value}
+use Rattle.named_write.proofs.Compose.{puts-value}
 use Rattle.key_write.proofs.Material.{material-taken}
 use borrow.Author.Needs.{needs}
 use Rattle.key_write.proofs.write_material.Statement.{statement}

@@ -1,9 +1,9 @@
--- `attributes_write::write_named`. The text of the serial.
+-- `named_write::write_named`. The text of the serial.
 -- Assumes nothing.
-use Rattle.attributes_write.proofs.Parts.{wrote-named}
+use Rattle.named_write.proofs.Named.{wrote-named}
 use borrow.Author.Needs.{needs}
-use Rattle.attributes_write.proofs.write_named.Statement.{statement}
-use Rattle.attributes_write.proofs.write_named.Tie as tie
+use Rattle.named_write.proofs.write_named.Statement.{statement}
+use Rattle.named_write.proofs.write_named.Tie as tie
 
 text-of-requires : tie.Need-text-of-requires
 text-of-requires c κs = search needs

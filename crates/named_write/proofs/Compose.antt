@@ -22,7 +22,7 @@ use Rattle.ttlv.proofs.Sizes.{length-head}
 use Rattle.ttlv_put.proofs.Sizes.{length-value, encode-nil}
 use Rattle.ttlv_put.proofs.Holds.{wrote-size, holds-none, holds-wrote, holds-value, holds-then, holds-front, holds-join, holds-group, holds-length, holds-left}
 use Rattle.answer.specs.Respond.{word, long}
-use Rattle.attributes_write.specs.Puts.{Puts}
+use Rattle.named_write.specs.Puts.{Puts}
 
 -- ---- one item
 
