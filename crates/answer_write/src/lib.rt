@@ -40,7 +40,7 @@ fn write_created(out: &mut [u8], serial: u32) -> usize
     requires { ⌜ 32 ≤ length (now out) ⌝ }
     ensures { λ r. ⌜ Puts 32 (word objectType enumeration symmetricKey (named uniqueIdentifier serial nil)) (now (out .entry)) (now (out .exit)) r ⌝ }
 {
-    ttlv_write::write_enumeration(out, tags::OBJECT_TYPE, SYMMETRIC_KEY);
+    ttlv_numbers::write_enumeration(out, tags::OBJECT_TYPE, SYMMETRIC_KEY);
     let n = attributes_write::write_named(&mut out[16..], tags::UNIQUE_IDENTIFIER, serial);
     16 + n
 }
@@ -73,7 +73,7 @@ fn write_success(out: &mut [u8], n: usize) -> usize
     requires { ⌜ (24 + n ≤ length (now out)) × (n ≤ 224) × (n % 8 ≡ 0) ⌝ }
     ensures { λ r. ⌜ (r ≡ 24 + n) × Holds (opening n) (now (out .entry)) (now (out .exit)) 24 ⌝ }
 {
-    ttlv_write::write_enumeration(out, tags::RESULT_STATUS, SUCCESS);
+    ttlv_numbers::write_enumeration(out, tags::RESULT_STATUS, SUCCESS);
     ttlv_put::write_structure(&mut out[16..], tags::RESPONSE_PAYLOAD, n);
     24 + n
 }
@@ -82,8 +82,8 @@ fn write_failure(out: &mut [u8], reason: Reason) -> usize
     requires { ⌜ 32 ≤ length (now out) ⌝ }
     ensures { λ r. ⌜ Puts 32 (outcomeItems (Failed reason)) (now (out .entry)) (now (out .exit)) r ⌝ }
 {
-    ttlv_write::write_enumeration(out, tags::RESULT_STATUS, OPERATION_FAILED);
-    ttlv_write::write_enumeration(
+    ttlv_numbers::write_enumeration(out, tags::RESULT_STATUS, OPERATION_FAILED);
+    ttlv_numbers::write_enumeration(
         &mut out[16..],
         tags::RESULT_REASON,
         rules::reason_number(reason),
@@ -136,7 +136,7 @@ fn write_answer_items(out: &mut [u8], operation: u32, id: ItemId, outcome: Outco
     requires { ⌜ (288 ≤ length (now out)) × (id .len ≤ idMost) ⌝ }
     ensures { λ r. ⌜ Puts 288 (answerItems (answerOf operation id outcome)) (now (out .entry)) (now (out .exit)) r ⌝ }
 {
-    ttlv_write::write_enumeration(out, tags::OPERATION, operation);
+    ttlv_numbers::write_enumeration(out, tags::OPERATION, operation);
     let n = write_id(&mut out[16..], id);
     let at = 16 + n;
     let m = write_outcome(&mut out[at..], outcome);
@@ -160,8 +160,8 @@ fn write_version_body(out: &mut [u8]) -> usize
     requires { ⌜ 32 ≤ length (now out) ⌝ }
     ensures { λ r. ⌜ Puts 32 (word protocolVersionMajor integer 2 (word protocolVersionMinor integer 1 nil)) (now (out .entry)) (now (out .exit)) r ⌝ }
 {
-    ttlv_write::write_integer(out, tags::PROTOCOL_VERSION_MAJOR, 2);
-    ttlv_write::write_integer(&mut out[16..], tags::PROTOCOL_VERSION_MINOR, 1);
+    ttlv_numbers::write_integer(out, tags::PROTOCOL_VERSION_MAJOR, 2);
+    ttlv_numbers::write_integer(&mut out[16..], tags::PROTOCOL_VERSION_MINOR, 1);
     32
 }
 
@@ -179,9 +179,9 @@ fn write_header_items(out: &mut [u8], clock: u64, count: u32) -> usize
     ensures { λ r. ⌜ Puts 72 (headerItems clock count) (now (out .entry)) (now (out .exit)) r ⌝ }
 {
     let n = write_version(out);
-    ttlv_write::write_date_time(&mut out[n..], tags::TIME_STAMP, clock);
+    ttlv_numbers::write_date_time(&mut out[n..], tags::TIME_STAMP, clock);
     let at = n + 16;
-    ttlv_write::write_integer(&mut out[at..], tags::BATCH_COUNT, count);
+    ttlv_numbers::write_integer(&mut out[at..], tags::BATCH_COUNT, count);
     at + 16
 }
 
