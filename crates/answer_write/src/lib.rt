@@ -34,7 +34,7 @@ fn write_created(out: &mut [u8], serial: u32) -> usize
     requires { ⌜ 32 ≤ length (now out) ⌝ }
     ensures { λ r. ⌜ Puts 32 (word objectType enumeration symmetricKey (named uniqueIdentifier serial nil)) (now (out .entry)) (now (out .exit)) r ⌝ }
 {
-    ttlv_write::write_enumeration(out, tags::OBJECT_TYPE, SYMMETRIC_KEY);
+    ttlv_numbers::write_enumeration(out, tags::OBJECT_TYPE, SYMMETRIC_KEY);
     let n = named_write::write_named(&mut out[16..], tags::UNIQUE_IDENTIFIER, serial);
     16 + n
 }
@@ -67,7 +67,7 @@ fn write_success(out: &mut [u8], n: usize) -> usize
     requires { ⌜ (24 + n ≤ length (now out)) × (n ≤ 224) × (n % 8 ≡ 0) ⌝ }
     ensures { λ r. ⌜ (r ≡ 24 + n) × Holds (opening n) (now (out .entry)) (now (out .exit)) 24 ⌝ }
 {
-    ttlv_write::write_enumeration(out, tags::RESULT_STATUS, SUCCESS);
+    ttlv_numbers::write_enumeration(out, tags::RESULT_STATUS, SUCCESS);
     ttlv_put::write_structure(&mut out[16..], tags::RESPONSE_PAYLOAD, n);
     24 + n
 }
@@ -76,8 +76,8 @@ fn write_failure(out: &mut [u8], reason: Reason) -> usize
     requires { ⌜ 32 ≤ length (now out) ⌝ }
     ensures { λ r. ⌜ Puts 32 (outcomeItems (Failed reason)) (now (out .entry)) (now (out .exit)) r ⌝ }
 {
-    ttlv_write::write_enumeration(out, tags::RESULT_STATUS, OPERATION_FAILED);
-    ttlv_write::write_enumeration(
+    ttlv_numbers::write_enumeration(out, tags::RESULT_STATUS, OPERATION_FAILED);
+    ttlv_numbers::write_enumeration(
         &mut out[16..],
         tags::RESULT_REASON,
         rules::reason_number(reason),
@@ -130,7 +130,7 @@ fn write_answer_items(out: &mut [u8], operation: u32, id: ItemId, outcome: Outco
     requires { ⌜ (288 ≤ length (now out)) × (id .len ≤ idMost) ⌝ }
     ensures { λ r. ⌜ Puts 288 (answerItems (answerOf operation id outcome)) (now (out .entry)) (now (out .exit)) r ⌝ }
 {
-    ttlv_write::write_enumeration(out, tags::OPERATION, operation);
+    ttlv_numbers::write_enumeration(out, tags::OPERATION, operation);
     let n = write_id(&mut out[16..], id);
     let at = 16 + n;
     let m = write_outcome(&mut out[at..], outcome);

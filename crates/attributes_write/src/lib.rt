@@ -23,7 +23,7 @@ fn write_link_body(out: &mut [u8], kind: u32, serial: u32) -> usize
     requires { ⌜ 32 ≤ length (now out) ⌝ }
     ensures { λ r. ⌜ Puts 32 (word linkType enumeration kind (named linkedObjectIdentifier serial nil)) (now (out .entry)) (now (out .exit)) r ⌝ }
 {
-    ttlv_write::write_enumeration(out, tags::LINK_TYPE, kind);
+    ttlv_numbers::write_enumeration(out, tags::LINK_TYPE, kind);
     let n = named_write::write_named(&mut out[16..], tags::LINKED_OBJECT_IDENTIFIER, serial);
     16 + n
 }
@@ -46,9 +46,9 @@ fn write_limit_body(out: &mut [u8], unit: u32, total: u64, count: u64) -> usize
     requires { ⌜ 48 ≤ length (now out) ⌝ }
     ensures { λ r. ⌜ Puts 48 (long usageLimitsTotal longInteger total (long usageLimitsCount longInteger count (word usageLimitsUnit enumeration unit nil))) (now (out .entry)) (now (out .exit)) r ⌝ }
 {
-    ttlv_write::write_long(out, tags::USAGE_LIMITS_TOTAL, total);
-    ttlv_write::write_long(&mut out[16..], tags::USAGE_LIMITS_COUNT, count);
-    ttlv_write::write_enumeration(&mut out[32..], tags::USAGE_LIMITS_UNIT, unit);
+    ttlv_numbers::write_long(out, tags::USAGE_LIMITS_TOTAL, total);
+    ttlv_numbers::write_long(&mut out[16..], tags::USAGE_LIMITS_COUNT, count);
+    ttlv_numbers::write_enumeration(&mut out[32..], tags::USAGE_LIMITS_UNIT, unit);
     48
 }
 
@@ -57,10 +57,10 @@ fn write_always(out: &mut [u8], bits: u32, mask: u32, state: u32) -> usize
     requires { ⌜ 64 ≤ length (now out) ⌝ }
     ensures { λ r. ⌜ Puts 64 (word cryptographicAlgorithm enumeration aes (word cryptographicLength integer bits (word cryptographicUsageMask integer mask (word stateTag enumeration state nil)))) (now (out .entry)) (now (out .exit)) r ⌝ }
 {
-    ttlv_write::write_enumeration(out, tags::CRYPTOGRAPHIC_ALGORITHM, AES);
-    ttlv_write::write_integer(&mut out[16..], tags::CRYPTOGRAPHIC_LENGTH, bits);
-    ttlv_write::write_integer(&mut out[32..], tags::CRYPTOGRAPHIC_USAGE_MASK, mask);
-    ttlv_write::write_enumeration(&mut out[48..], tags::STATE, state);
+    ttlv_numbers::write_enumeration(out, tags::CRYPTOGRAPHIC_ALGORITHM, AES);
+    ttlv_numbers::write_integer(&mut out[16..], tags::CRYPTOGRAPHIC_LENGTH, bits);
+    ttlv_numbers::write_integer(&mut out[32..], tags::CRYPTOGRAPHIC_USAGE_MASK, mask);
+    ttlv_numbers::write_enumeration(&mut out[48..], tags::STATE, state);
     64
 }
 

@@ -21,8 +21,8 @@ fn write_version_body(out: &mut [u8]) -> usize
     requires { ⌜ 32 ≤ length (now out) ⌝ }
     ensures { λ r. ⌜ Puts 32 (word protocolVersionMajor integer 2 (word protocolVersionMinor integer 1 nil)) (now (out .entry)) (now (out .exit)) r ⌝ }
 {
-    ttlv_write::write_integer(out, tags::PROTOCOL_VERSION_MAJOR, 2);
-    ttlv_write::write_integer(&mut out[16..], tags::PROTOCOL_VERSION_MINOR, 1);
+    ttlv_numbers::write_integer(out, tags::PROTOCOL_VERSION_MAJOR, 2);
+    ttlv_numbers::write_integer(&mut out[16..], tags::PROTOCOL_VERSION_MINOR, 1);
     32
 }
 
@@ -42,9 +42,9 @@ fn write_header_items(out: &mut [u8], clock: u64, count: u32) -> usize
     ensures { λ r. ⌜ Puts 72 (headerItems clock count) (now (out .entry)) (now (out .exit)) r ⌝ }
 {
     let n = write_version(out);
-    ttlv_write::write_date_time(&mut out[n..], tags::TIME_STAMP, clock);
+    ttlv_numbers::write_date_time(&mut out[n..], tags::TIME_STAMP, clock);
     let at = n + 16;
-    ttlv_write::write_integer(&mut out[at..], tags::BATCH_COUNT, count);
+    ttlv_numbers::write_integer(&mut out[at..], tags::BATCH_COUNT, count);
     at + 16
 }
 

@@ -45,8 +45,8 @@ fn write_form(out: &mut [u8], bits: u32) -> usize
     requires { ⌜ 32 ≤ length (now out) ⌝ }
     ensures { λ r. ⌜ Puts 32 (word cryptographicAlgorithm enumeration aes (word cryptographicLength integer bits nil)) (now (out .entry)) (now (out .exit)) r ⌝ }
 {
-    ttlv_write::write_enumeration(out, tags::CRYPTOGRAPHIC_ALGORITHM, AES);
-    ttlv_write::write_integer(&mut out[16..], tags::CRYPTOGRAPHIC_LENGTH, bits);
+    ttlv_numbers::write_enumeration(out, tags::CRYPTOGRAPHIC_ALGORITHM, AES);
+    ttlv_numbers::write_integer(&mut out[16..], tags::CRYPTOGRAPHIC_LENGTH, bits);
     32
 }
 
@@ -55,7 +55,7 @@ fn write_block_items(out: &mut [u8], key: Key) -> usize
     requires { ⌜ 96 ≤ length (now out) ⌝ }
     ensures { λ r. ⌜ Puts 96 (keyBlockItems (materialOf key) (key .bits)) (now (out .entry)) (now (out .exit)) r ⌝ }
 {
-    ttlv_write::write_enumeration(out, tags::KEY_FORMAT_TYPE, RAW);
+    ttlv_numbers::write_enumeration(out, tags::KEY_FORMAT_TYPE, RAW);
     let n = write_key_value(&mut out[16..], key);
     let at = 16 + n;
     let m = write_form(&mut out[at..], key.bits as u32);

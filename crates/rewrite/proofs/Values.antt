@@ -18,7 +18,7 @@ use Rattle.tags.specs.Tags.{tagOk}
 use Rattle.ttlv_types.specs.Types.{structure, integer, longInteger, bigInteger, enumeration, boolean, textString, byteString, dateTime, interval, dateTimeExtended, padded, isWord, isLong, lengthOk, valueOk, text}
 use Rattle.ttlv.specs.Items.{encode}
 use Rattle.ttlv_put.specs.Write.{item, spellable, fits, Wrote, WroteNumber, WroteValue}
-use Rattle.ttlv_write.specs.Writable.{bit}
+use Rattle.ttlv_numbers.specs.Bit.{bit}
 
 -- ---- what is left when the others are ruled out
 

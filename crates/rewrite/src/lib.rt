@@ -16,12 +16,12 @@ fn rewrite_word(out: &mut [u8], tag: u32, kind: u8, bits: u32) -> usize
     ensures { λ r. ⌜ WroteNumber 4 tag kind bits (now (out .entry)) (now (out .exit)) r ⌝ }
 {
     if kind == ttlv_types::INTEGER {
-        return ttlv_write::write_integer(out, tag, bits);
+        return ttlv_numbers::write_integer(out, tag, bits);
     }
     if kind == ttlv_types::ENUMERATION {
-        return ttlv_write::write_enumeration(out, tag, bits);
+        return ttlv_numbers::write_enumeration(out, tag, bits);
     }
-    ttlv_write::write_interval(out, tag, bits)
+    ttlv_numbers::write_interval(out, tag, bits)
 }
 
 // A number of eight bytes by the writer of its type. `rewrite_value` shows that the type has eight,
@@ -31,15 +31,15 @@ fn rewrite_long(out: &mut [u8], tag: u32, kind: u8, bits: u64) -> usize
     ensures { λ r. ⌜ WroteNumber 8 tag kind bits (now (out .entry)) (now (out .exit)) r ⌝ }
 {
     if kind == ttlv_types::BOOLEAN {
-        return ttlv_write::write_boolean(out, tag, bits == 1);
+        return ttlv_numbers::write_boolean(out, tag, bits == 1);
     }
     if kind == ttlv_types::LONG_INTEGER {
-        return ttlv_write::write_long(out, tag, bits);
+        return ttlv_numbers::write_long(out, tag, bits);
     }
     if kind == ttlv_types::DATE_TIME {
-        return ttlv_write::write_date_time(out, tag, bits);
+        return ttlv_numbers::write_date_time(out, tag, bits);
     }
-    ttlv_write::write_date_time_extended(out, tag, bits)
+    ttlv_numbers::write_date_time_extended(out, tag, bits)
 }
 
 // A value by the writer of its type. `rewrite_first` shows that the type allows it.

@@ -2,7 +2,7 @@
 // Each answers the bytes written, or 0 with the room as it was; so it does where the tag is none.
 // `spell_number` and `spell_value` are inner parts and no writers for a host: they spell what they
 // are given, also where the type does not allow such a value and the item would not read back. The
-// writers of ttlv_write, one for each type, see to that.
+// writers of ttlv_numbers and ttlv_write, one for each type, see to that.
 ghost use mathlib.Core.Path.{_≡_};
 ghost use mathlib.Core.Bool.{true};
 ghost use Prim.Native.Nat.{_≤_, _<_};

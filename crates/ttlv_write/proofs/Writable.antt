@@ -21,7 +21,8 @@ use Rattle.ttlv.specs.Parse.{parse}
 use Rattle.ttlv.proofs.Back.{parse-back}
 use Rattle.octets.proofs.Bools.{both}
 use Rattle.ttlv_put.specs.Write.{item, numberItem, fits, spellable, valueFits, Wrote}
-use Rattle.ttlv_write.specs.Writable.{bit, writable}
+use Rattle.ttlv_numbers.specs.Bit.{bit}
+use Rattle.ttlv_write.specs.Writable.{writable}
 use Rattle.ttlv_put.proofs.Sizes.{length-value}
 use Rattle.ttlv_put.proofs.Holds.{wrote-size, wrote-bytes}
 

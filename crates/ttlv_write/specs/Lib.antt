@@ -1,3 +1,3 @@
--- The value of a Boolean, and when an item is written.
+-- When an item is written.
 -- Assumes nothing.
 pub mod Writable

@@ -1,16 +1,11 @@
--- 01, "TTLV", written type by type: the value of a Boolean, and when an item is written at all.
+-- 01, "TTLV", written type by type: when an item is written at all.
 -- Assumes nothing.
 use Prim.Native.Nat.{ℕ}
 use mathlib.Core.Bool.{Bool, _&&_}
 use mathlib.Core.List.{List}
 use lib.ListN.{length}
-use Rattle.octets.specs.If.{ifb}
 use Rattle.ttlv.specs.Items.{Items, encode, wellFormed}
 use Rattle.ttlv_put.specs.Write.{fits}
-
--- the value of a Boolean: 0 or 1
-unfoldable pub bit : Bool → ℕ
-bit b = ifb b 1 0
 
 -- what the tests of all writers say: the item reads back, and the room has place for it
 abbrev pub writable : Items → List ℕ → Bool

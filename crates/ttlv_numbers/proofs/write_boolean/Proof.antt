@@ -1,11 +1,11 @@
--- `ttlv_write::write_boolean`. Each value by its arm.
+-- `ttlv_numbers::write_boolean`. Each value by its arm.
 -- Assumes nothing.
 use Prim.Native.Nat.{ℕ}
 use Rattle.octets.proofs.If.{ifb-true, ifb-false}
-use Rattle.ttlv_write.specs.Writable.{bit}
+use Rattle.ttlv_numbers.specs.Bit.{bit}
 use borrow.Author.Needs.{needs}
-use Rattle.ttlv_write.proofs.write_boolean.Statement.{statement}
-use Rattle.ttlv_write.proofs.write_boolean.Tie as tie
+use Rattle.ttlv_numbers.proofs.write_boolean.Statement.{statement}
+use Rattle.ttlv_numbers.proofs.write_boolean.Tie as tie
 
 spell-number-requires : tie.Need-spell-number-requires
 spell-number-requires c κs = search needs

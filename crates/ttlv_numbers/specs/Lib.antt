@@ -1,0 +1,3 @@
+-- The value of a Boolean.
+-- Assumes nothing.
+pub mod Bit
