@@ -67,11 +67,11 @@ module _ (i : ℕ) (t : List ℕ) (held : Held placeCount t) (l : materialSize *
   fits = omega (arith, strip-length)
 
   pub grown-born : Born placeCount t (newRecord (nextSerial t) wanted (own i .fresh)) (grown i t)
-  grown-born = born-leaves placeCount t held room (own i .fresh) (own-bytes placeCount 0 (countedFrom 0 512) 0 strip-bytes i fits) wanted wanted-allowed
+  grown-born = born-leaves placeCount t held room (own i .fresh) (own-bytes placeCount (countedFrom 0 512) 0 strip-bytes i fits) wanted wanted-allowed
 
   pub grown-held : Held placeCount (grown i t)
   grown-held =
-      keeps-born placeCount t held room (own i .fresh) (own-bytes placeCount 0 (countedFrom 0 512) 0 strip-bytes i fits) (own-long placeCount 0 (countedFrom 0 512) 0 strip-bytes i fits) wanted wanted-allowed
+      keeps-born placeCount t held room (own i .fresh) (own-bytes placeCount (countedFrom 0 512) 0 strip-bytes i fits) (own-long placeCount (countedFrom 0 512) 0 strip-bytes i fits) wanted wanted-allowed
 
 -- ---- k keys
 

@@ -128,22 +128,22 @@ take-bytes = refl
 
 module _ (option i holder : ℕ) (t : List ℕ) (asked : Asked) (did : Did) (is : step (own i) holder t asked ≡ did) where
   abbrev pub behind : List Asked → Ran
-  behind later = batch placeCount 0 (countedFrom 0 512) option (i + 1) (did .holder) (did .table) later
+  behind later = batch placeCount (countedFrom 0 512) option (i + 1) (did .holder) (did .table) later
 
   -- the batch goes on with what is given for what the item did
   turned : (later : List Asked)
-      → batch placeCount 0 (countedFrom 0 512) option i holder t (asked ∷ later)
+      → batch placeCount (countedFrom 0 512) option i holder t (asked ∷ later)
       ≡ ifb (endsBatch option did) (lastly (answerTo asked did) (did .table)) (firstly (answerTo asked did) (behind later))
   unfolding batch
   turned later =
       ap (λ (d : Did). ifb (endsBatch option d) (lastly (answerTo asked d) (d .table))
-      (firstly (answerTo asked d) (batch placeCount 0 (countedFrom 0 512) option (i + 1) (d .holder) (d .table) later))) is
+      (firstly (answerTo asked d) (batch placeCount (countedFrom 0 512) option (i + 1) (d .holder) (d .table) later))) is
 
-  pub batch-last : batch placeCount 0 (countedFrom 0 512) option i holder t (asked ∷ []) ≡ lastly (answerTo asked did) (did .table)
+  pub batch-last : batch placeCount (countedFrom 0 512) option i holder t (asked ∷ []) ≡ lastly (answerTo asked did) (did .table)
   unfolding batch
   batch-last = turned [] ∙ on-if (λ (r : Ran). r ≡ lastly (answerTo asked did) (did .table)) (λ h. refl) (λ h. refl)
 
-  pub batch-on : (later : List Asked) → isFailed (did .outcome) ≡ false → batch placeCount 0 (countedFrom 0 512) option i holder t (asked ∷ later) ≡ firstly (answerTo asked did) (behind later)
+  pub batch-on : (later : List Asked) → isFailed (did .outcome) ≡ false → batch placeCount (countedFrom 0 512) option i holder t (asked ∷ later) ≡ firstly (answerTo asked did) (behind later)
   unfolding endsBatch
   batch-on later h = turned later ∙ ifb-false _ _ _ (and-no (isFailed (did .outcome)) _ h)
 
