@@ -34,6 +34,13 @@ const SOUNDNESS: &str = "\
 Soundness check: an empty request is refused with 4 once the check has passed and before anything else is looked at, so
 the time of that refusal is the time of the check. Of the ordinary engine the check is also called by itself.";
 
+const IDENTIFIER: &str = "\
+Identifier text: nanoseconds for turning one text into a serial, read off whole calls. A call is 16 Activate items under
+Continue on the blank table, each with a text of its own; all of them answer Object Not Found. A text of seven digits is
+not read, eight zeros are read and not searched for, 00000001 is searched for. So reading is the difference to seven
+digits, divided by 16; the search is the difference of 00000001 to eight zeros, and it is taken off where a text names a
+serial. All texts are made anew for each round, so that no engine meets one for the second time.";
+
 const CONTROL: &str = "\
 Control: the ordinary engine in both columns, to show how far a ratio strays by chance.";
 
@@ -54,6 +61,7 @@ fn main() {
         run(proved, &scene, restore);
     }
     soundness(proved, restore);
+    identifiers(proved);
     control(restore);
 }
 
@@ -160,6 +168,107 @@ fn soundness(proved: Engine, restore: f64) {
         run(proved, &Scene { name, request: Vec::new(), table }, restore);
         println!("{:44} {:>9} {alone:>9.0}", "  the check by itself", "");
     }
+}
+
+/// A kind of identifier text: how one is made from a random number, and whether it names a serial, which is searched for.
+struct Texts {
+    name: &'static str,
+    searched: bool,
+    text: fn(u32) -> String,
+}
+
+/// The first three are what the others are measured against.
+const TEXTS: [Texts; 9] = [
+    Texts { name: "seven digits", searched: false, text: |_| "0000000".to_string() },
+    Texts { name: "eight zeros", searched: false, text: |_| identifier(0) },
+    Texts { name: "00000001", searched: true, text: |_| identifier(1) },
+    Texts { name: "small serials, 1 to 64", searched: true, text: |any| identifier(any % 64 + 1) },
+    Texts { name: "any serials", searched: true, text: |any| identifier(any.max(1)) },
+    Texts {
+        name: "any, the last character no digit",
+        searched: false,
+        text: |any| identifier(any)[..7].to_string() + "G",
+    },
+    Texts { name: "any, one character no digit", searched: false, text: one_wrong },
+    Texts { name: "any, in lower case", searched: false, text: |any| format!("{:08x}", any | 0xA) },
+    Texts {
+        name: "any, the first character no digit",
+        searched: false,
+        text: |any| format!("G{}", &identifier(any)[1..]),
+    },
+];
+
+/// The requests of a round, with 16 texts each.
+const REQUESTS: usize = 64;
+
+/// A text of a serial with one of its characters, any of them, made to be no digit.
+fn one_wrong(any: u32) -> String {
+    let mut text = identifier(any);
+    let at = (any % 8) as usize;
+    text.replace_range(at..=at, "G");
+    text
+}
+
+/// The reading of the identifier text, for both engines, a line for each kind of texts.
+fn identifiers(proved: Engine) {
+    println!("\n{IDENTIFIER}");
+    println!("{:44} {:>9} {:>9} {:>6}", "", "proved", "ordinary", "ratio");
+    let engines = [proved, ordinary::serve];
+    let mut seed = 1;
+    let mut times = [[f64::INFINITY; 2]; TEXTS.len()];
+    for round in 0..ROUNDS {
+        for (texts, times) in TEXTS.iter().zip(&mut times) {
+            let requests: Vec<Vec<u8>> = (0..REQUESTS).map(|_| activations(texts, &mut seed)).collect();
+            if round == 0 {
+                let (name, request) = (texts.name.to_string(), requests[0].clone());
+                assert_eq!(compare(proved, &Scene { name, request, table: Table::blank().encode() }), "0 of 16");
+            }
+            for (engine, time) in engines.into_iter().zip(times) {
+                *time = time.min(answering(engine, &requests));
+            }
+        }
+    }
+    let text = |kind: usize, engine: usize| times[kind][engine] / 16.0;
+    let search = |engine: usize| text(2, engine) - text(1, engine);
+    for (kind, texts) in TEXTS.iter().enumerate().filter(|(kind, _)| ![0, 2].contains(kind)) {
+        let [proved, plain] = [0, 1].map(|engine| {
+            let other = if texts.searched { search(engine) } else { 0.0 };
+            text(kind, engine) - text(0, engine) - other
+        });
+        println!("{:44} {proved:>9.1} {plain:>9.1} {:>6.2}", texts.name, proved / plain);
+    }
+    println!(
+        "{:44} {:>9.1} {:>9.1} {:>6.2}",
+        "the search, 64 free places",
+        search(0),
+        search(1),
+        search(0) / search(1)
+    );
+}
+
+/// A request of 16 Activate items with texts of this kind.
+fn activations(texts: &Texts, seed: &mut u64) -> Vec<u8> {
+    let items = (0..16).map(|_| item(0x12, Some(b"A1"), target(Some(&(texts.text)(random(seed))))));
+    request(Some(1), items.collect()).encode()
+}
+
+/// The next number of a generator (xorshift).
+fn random(seed: &mut u64) -> u32 {
+    *seed ^= *seed << 13;
+    *seed ^= *seed >> 7;
+    *seed ^= *seed << 17;
+    (*seed >> 32) as u32
+}
+
+/// Nanoseconds a call of these requests, each served once on the blank table, which they leave as it is.
+fn answering(engine: Engine, requests: &[Vec<u8>]) -> f64 {
+    let mut lent = buffers(&Table::blank().encode());
+    let start = Instant::now();
+    for request in requests {
+        let _ = black_box(engine(black_box(request), &mut lent.table, &lent.fresh, black_box(0), &mut lent.out));
+        black_box(&mut lent.out);
+    }
+    start.elapsed().as_nanos() as f64 / requests.len() as f64
 }
 
 /// How far a ratio strays by chance: the ordinary engine against itself.
