@@ -1,3 +1,4 @@
 -- Identifier text.
 -- Assumes nothing.
 pub mod Identifier
+pub mod Words

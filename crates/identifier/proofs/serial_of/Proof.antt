@@ -1,92 +1,72 @@
--- `identifier::serial_of`. What is read and what is left give the whole.
+-- `identifier::serial_of`. The number of the text says what it names.
 -- Assumes nothing.
-use mathlib.Core.Path.{_≡_, sym, _∙_}
-use Prim.Native.Nat.{_-_, _^_, _≤_, _<_}
+use mathlib.Core.Path.{_≡_, sym, ap, _∙_}
+use Prim.Native.Nat.{ℕ}
 use native.Mathlib.Omega.{arith}
-use lib.ListN.{drop, getD}
+use mathlib.Core.List.{List}
+use lib.ListN.{length}
+use lib.Seq.{take-all}
 use borrow.Author.Needs.{needs}
-use Rattle.identifier.specs.Identifier.{serialOf}
-use Rattle.hex.proofs.Digits.{Spells, value-most, spells-value, none-value}
+use Rattle.octets.specs.Octets.{Bytes, fromBe}
+use Rattle.octets.proofs.Numbers.{bytes-of}
+use Rattle.identifier.specs.Words.{digitsIn, charactersIn, sideBySide}
 use Rattle.identifier.proofs.Texts.{serial-length}
-use Rattle.identifier.proofs.Turns.{reading, reading-starts, reading-goes, reading-stops, reading-ends, more-lt, more-fits}
+use Rattle.identifier.proofs.Words.{word-names, word-none}
 use Rattle.identifier.proofs.serial_of.Statement.{statement}
 use Rattle.identifier.proofs.serial_of.Tie as tie
 
-abbrev Inv-loop : tie.InvT-loop
-Inv-loop text serial₀ k₀ serial k = (k ≤ 8) × ((serial < 16 ^ k) × (serialOf text ≡ reading serial (drop k text)))
+-- the text where its number is known
+abbrev Text : tie.After-number → List ℕ
+Text c = c .before .before .before .args .text .now
 
-abbrev μ-loop : tie.MeasureT-loop
-μ-loop text serial₀ k₀ serial k = 8 - k
+eight : (c : tie.After-number) → length (Text c) ≡ 8
+eight c = omega arith
 
-returns : tie.Need-returns Inv-loop μ-loop
+bytes : (c : tie.After-number) → Bytes (Text c)
+bytes c = bytes-of (Text c) (λ i. c .before .before .shared-slice-known .given i .fits)
+
+number-is : (c : tie.After-number) → c .number .result ≡ fromBe (Text c)
+number-is c = c .number .ensures .0 ∙ ap fromBe (take-all 8 (Text c) (omega arith))
+
+-- what the digits are written as
+written-is : (c : tie.After-characters-in) → c .characters-in .result ≡ charactersIn (digitsIn (c .before .before .number .result))
+written-is c = c .characters-in .ensures ∙ ap charactersIn (c .before .digits-in .ensures .0)
+
+returns : tie.Need-returns
 returns c = sym (serial-length (c .before .before .args .text .now) (λ e. omega arith))
 
-loop-holds : tie.Need-loop-holds Inv-loop μ-loop
-loop-holds c = (omega arith, (omega arith, reading-starts (c .before .before .args .text .now) (omega arith)))
+number-requires : tie.Need-number-requires
+number-requires c κs = search needs
 
-shared-slice-read-value-of : tie.Need-shared-slice-read-value-of Inv-loop μ-loop
-shared-slice-read-value-of c = omega arith
+digits-in-requires : tie.Need-digits-in-requires
+digits-in-requires c κs = search needs
 
-value-of-requires : tie.Need-value-of-requires Inv-loop μ-loop
-value-of-requires c κs = search needs
+characters-in-requires : tie.Need-characters-in-requires
+characters-in-requires c κs = search needs
 
-cast-d : tie.Need-cast-d Inv-loop μ-loop
-cast-d c = search needs
-
-returns-2 : tie.Need-returns-2 Inv-loop μ-loop
+returns-2 : tie.Need-returns-2
 returns-2 c =
-    let l = c .before .before .before .before .loop in
-    let v = c .before .before .before .before .before .before .before .args .text .now in
-    let d = c .before .value-of in
-    sym (l .inv .1 .1 ∙ reading-stops v (l .k) (l .serial) (omega arith) (none-value (getD v (l .k) 0) (d .result) (d .ensures) (c .if2 .taken)))
+    let at-number = c .before .before .before in
+    sym (word-none (Text at-number) (bytes at-number) (eight at-number) (at-number .number .result) (number-is at-number) (λ e. c .if2 .taken (written-is (c .before) ∙ e)))
 
-mul-serial : tie.Need-mul-serial Inv-loop μ-loop
-mul-serial c =
-    let l = c .before .before .before .before .loop in
-    omega (arith, more-fits (l .serial) (l .k) (l .inv .1 .0) (omega arith))
+side-by-side-requires : tie.Need-side-by-side-requires
+side-by-side-requires c κs = search needs
 
-add-serial : tie.Need-add-serial Inv-loop μ-loop
-add-serial c =
-    let l = c .before .before .before .before .loop in
-    let v = c .before .before .before .before .before .before .before .args .text .now in
-    let d : c .before .value-of .result ≤ 16 = rw (c .before .value-of .ensures) (value-most (getD v (l .k) 0)) in
-    omega (arith, more-fits (l .serial) (l .k) (l .inv .1 .0) (omega arith))
-
-add-k : tie.Need-add-k Inv-loop μ-loop
-add-k c = omega arith
-
-loop-less : tie.Need-loop-less Inv-loop μ-loop
-loop-less c = omega arith
-
-loop-again : tie.Need-loop-again Inv-loop μ-loop
-loop-again c =
-    let l = c .before .before .before .before .loop in
-    let v = c .before .before .before .before .before .before .before .args .text .now in
-    let d = c .before .value-of in
-    let s : Spells (getD v (l .k) 0) (d .result) = spells-value (getD v (l .k) 0) (d .result) (d .ensures) (c .if2 .left) in
-    (omega arith, (omega (arith, more-lt (l .serial) (l .k) (d .result) (l .inv .1 .0) (s .low)), l .inv .1 .1 ∙ reading-goes v (l .k) (l .serial) (d .result) (omega arith) s))
-
-returns-3 : tie.Need-returns-3 Inv-loop μ-loop
+returns-3 : tie.Need-returns-3
 returns-3 c =
-    let l = c .before .loop in
-    let v = c .before .before .before .before .args .text .now in
-    sym (l .inv .1 .1 ∙ reading-ends v (l .k) (l .serial) (omega arith))
+    let at-number = c .before .before .before .before in
+    let names = word-names (Text at-number) (bytes at-number) (eight at-number) (at-number .number .result) (number-is at-number) in
+    let fits = sym (written-is (c .before .before)) ∙ c .before .if2 .left in
+    c .side-by-side .ensures ∙ ap sideBySide (c .before .before .before .digits-in .ensures .0) ∙ sym (names fits)
 
 pub serial-of-spec : {M : Type 1} → statement M
 serial-of-spec =
     tie.close
     (tie.spec
-    Inv-loop
-    μ-loop
     returns
-    loop-holds
-    shared-slice-read-value-of
-    value-of-requires
-    cast-d
+    number-requires
+    digits-in-requires
+    characters-in-requires
     returns-2
-    mul-serial
-    add-serial
-    add-k
-    loop-less
-    loop-again
+    side-by-side-requires
     returns-3)
