@@ -995,6 +995,11 @@ def cards_of_identifiers(s):
         ("FFFFFFFF", "FFFFFFFF"),
     ]:
         s.fails(f"identifier {name}", attributes(letters), GET_ATTRIBUTES, OBJECT_NOT_FOUND)
+    # the neighbours of 0 to 9 and of A to F; then characters whose low half is ten, or that of the letter A
+    for character in "/:@G*JQ":
+        s.fails(f"identifier of seven zeros and {ord(character):02X}", attributes("0000000" + character), GET_ATTRIBUTES, OBJECT_NOT_FOUND)
+    for letters in ["G000000A", "000G000A", "000000GA"]:
+        s.fails(f"identifier {letters}", attributes(letters), GET_ATTRIBUTES, OBJECT_NOT_FOUND)
     for name, first in [
         ("as Enumeration", enumeration(UNIQUE_IDENTIFIER, 1)),
         ("as Integer", integer(UNIQUE_IDENTIFIER, 10)),
@@ -1005,6 +1010,14 @@ def cards_of_identifiers(s):
     twice = ask(GET_ATTRIBUTES, identifier("0000000A"), identifier("0000000A"))
     s.fails("identifier given twice", twice, GET_ATTRIBUTES, INVALID_FIELD)
     s.fails("identifier under another tag", ask(GET_ATTRIBUTES, text(OTHER, "0000000A")), GET_ATTRIBUTES, INVALID_FIELD)
+    s.about("Every digit, highest first: keys 01234567 and 89ABCDEF.")
+    s.put(0, lead(0x89ABCDEF)[:4])
+    s.key(0, line(0x01234567, 2), body())
+    s.key(1, line(0x89ABCDEF, 2), body())
+    for name in ["01234567", "89ABCDEF"]:
+        s.card(f"identifier {name}", (attributes(name), shown(name, 2)))
+    for letters in ["76543210", "89abcdef"]:
+        s.fails(f"identifier {letters}", attributes(letters), GET_ATTRIBUTES, OBJECT_NOT_FOUND)
 
 
 def cards_of_the_placeholder(s):

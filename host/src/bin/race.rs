@@ -212,7 +212,7 @@ fn one_wrong(any: u32) -> String {
 /// The reading of the identifier text, for both engines, a line for each kind of texts.
 fn identifiers(proved: Engine) {
     println!("\n{IDENTIFIER}");
-    println!("{:44} {:>9} {:>9} {:>6}", "", "proved", "ordinary", "ratio");
+    println!("{:44} {:>9} {:>9}", "", "proved", "ordinary");
     let engines = [proved, ordinary::serve];
     let mut seed = 1;
     let mut times = [[f64::INFINITY; 2]; TEXTS.len()];
@@ -235,15 +235,9 @@ fn identifiers(proved: Engine) {
             let other = if texts.searched { search(engine) } else { 0.0 };
             text(kind, engine) - text(0, engine) - other
         });
-        println!("{:44} {proved:>9.1} {plain:>9.1} {:>6.2}", texts.name, proved / plain);
+        println!("{:44} {proved:>9.1} {plain:>9.1}", texts.name);
     }
-    println!(
-        "{:44} {:>9.1} {:>9.1} {:>6.2}",
-        "the search, 64 free places",
-        search(0),
-        search(1),
-        search(0) / search(1)
-    );
+    println!("{:44} {:>9.1} {:>9.1}", "the search, 64 free places", search(0), search(1));
 }
 
 /// A request of 16 Activate items with texts of this kind.
