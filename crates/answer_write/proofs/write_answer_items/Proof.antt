@@ -51,9 +51,12 @@ same-length c = search needs
 returns : tie.Need-returns
 unfolding answerItems join
 returns c =
-    let a = c .before .before .before .before .before .before .before .before .before .before .before .before .before .args in
-    let operation = puts-word operationTag enumeration (a .operation) (c .before .before .before .before .before .before .before .before .before .before .write-enumeration .ensures) (omega arith) in
-    rw (← id-join (take (a .id .len) (a .id .bytes)) (outcomeItems (a .outcome))) (puts-then (puts-then operation (c .before .before .before .before .before .before .write-id .ensures)) (c .before .before .write-outcome .ensures))
+    let at-outcome = c .before .before in
+    let at-id = at-outcome .before .before .before .before in
+    let at-operation = at-id .before .before .before .before in
+    let a = at-operation .before .before .before .args in
+    let operation = puts-word operationTag enumeration (a .operation) (at-operation .write-enumeration .ensures) (omega arith) in
+    rw (← id-join (take (a .id .len) (a .id .bytes)) (outcomeItems (a .outcome))) (puts-then (puts-then operation (at-id .write-id .ensures)) (at-outcome .write-outcome .ensures))
 
 pub write-answer-items-spec : {M : Type 1} → statement M
 write-answer-items-spec =

@@ -36,10 +36,13 @@ same-length c = search needs
 returns : tie.Need-returns
 unfolding outcomeItems join
 returns c =
-    let a = c .before .before .before .before .before .before .before .before .before .before .args in
-    let status = puts-word resultStatus enumeration operationFailed (c .before .before .before .before .before .before .before .write-enumeration .ensures) (omega arith) in
-    let number : c .before .before .before .reason-number .result ≡ reasonNumber (a .reason) = c .before .before .before .reason-number .ensures in
-    rw (← number) (then-word status resultReason enumeration (c .before .before .before .reason-number .result) (c .before .before .write-enumeration2 .ensures) (omega arith))
+    let at-reason = c .before .before in
+    let at-number = at-reason .before in
+    let at-status = at-number .before .before .before .before in
+    let a = at-status .before .before .before .args in
+    let status = puts-word resultStatus enumeration operationFailed (at-status .write-enumeration .ensures) (omega arith) in
+    let number : at-number .reason-number .result ≡ reasonNumber (a .reason) = at-number .reason-number .ensures in
+    rw (← number) (then-word status resultReason enumeration (at-number .reason-number .result) (at-reason .write-enumeration2 .ensures) (omega arith))
 
 pub write-failure-spec : {M : Type 1} → statement M
 write-failure-spec =

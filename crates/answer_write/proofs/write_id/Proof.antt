@@ -8,22 +8,20 @@ use borrow.Author.Needs.{needs}
 use Rattle.answer_write.proofs.write_id.Statement.{statement}
 use Rattle.answer_write.proofs.write_id.Tie as tie
 
+-- the ID's bytes are sixteen, as many as its type says
+sixteen : (s : tie.Start) → length (s .args .id .bytes) ≡ 16
+sixteen s = sym (length-map (s .args .id .bytes) (λ v. v)) ∙ s .good .1 .0 .1 .1 .0 .1 .0 .1
+
 returns : tie.Need-returns
 returns c =
     let a = c .before .before .before .args in
     puts-no-id (a .id .bytes) (a .id .len) (c .if1 .taken)
 
 array-share-prefix-bytes : tie.Need-array-share-prefix-bytes
-array-share-prefix-bytes c =
-    let a = c .before .before .before .before .args in
-    let l : length (a .id .bytes) ≡ 16 = sym (length-map (a .id .bytes) (λ v. v)) ∙ c .before .before .before .before .good .1 .0 .1 .1 .0 .1 .0 .1 in
-    omega arith
+array-share-prefix-bytes c = let l = sixteen (c .before .before .before .before) in omega arith
 
 slice-aggregate-write-bytes : tie.Need-slice-aggregate-write-bytes
-slice-aggregate-write-bytes c =
-    let a = c .before .before .before .before .before .args in
-    let l : length (a .id .bytes) ≡ 16 = sym (length-map (a .id .bytes) (λ v. v)) ∙ c .before .before .before .before .before .good .1 .0 .1 .1 .0 .1 .0 .1 in
-    rw length-take (omega arith)
+slice-aggregate-write-bytes c = let l = sixteen (c .before .before .before .before .before) in rw length-take (omega arith)
 
 write-bytes-requires : tie.Need-write-bytes-requires
 write-bytes-requires c κs = search needs
@@ -33,10 +31,13 @@ same-length c = search needs
 
 returns-2 : tie.Need-returns-2
 returns-2 c =
-    let a = c .before .before .before .before .before .before .before .before .args in
-    let l : length (a .id .bytes) ≡ 16 = sym (length-map (a .id .bytes) (λ v. v)) ∙ c .before .before .before .before .before .before .before .before .good .1 .0 .1 .1 .0 .1 .0 .1 in
-    let k : length (take (a .id .len) (a .id .bytes)) ≡ a .id .len = rw length-take (omega arith) in
-    puts-id (take (a .id .len) (a .id .bytes)) (c .before .before .write-bytes .ensures) (omega (arith, c .before .before .before .before .before .if1 .left)) (omega arith) (omega arith)
+    let at-bytes = c .before .before in
+    let at-left = at-bytes .before .before .before in
+    let start = at-left .before .before .before in
+    let id = start .args .id in
+    let l = sixteen start in
+    let n : length (take (id .len) (id .bytes)) ≡ id .len = rw length-take (omega arith) in
+    puts-id (take (id .len) (id .bytes)) (at-bytes .write-bytes .ensures) (omega (arith, at-left .if1 .left)) (omega arith) (omega arith)
 
 pub write-id-spec : {M : Type 1} → statement M
 write-id-spec =

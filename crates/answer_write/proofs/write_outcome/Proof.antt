@@ -141,9 +141,9 @@ same-length-2 c = search needs
 returns-2 : tie.Need-returns-2
 unfolding outcomeItems
 returns-2 c =
-    let opened = c .before .before in
-    let written = opened .before .before .before .before in
-    puts-outcome (created-arm written .outcome2 .given .1) (puts-succeeded 248 (created-room written) (written .write-created .ensures) (opened .write-success .ensures) (omega arith) (omega arith))
+    let created-opened = c .before .before in
+    let created-written = created-opened .before .before .before .before in
+    puts-outcome (created-arm created-written .outcome2 .given .1) (puts-succeeded 248 (created-room created-written) (created-written .write-created .ensures) (created-opened .write-success .ensures) (omega arith) (omega arith))
 
 same-length-3 : tie.Need-same-length-3
 same-length-3 c = search needs
@@ -151,9 +151,9 @@ same-length-3 c = search needs
 returns-3 : tie.Need-returns-3
 unfolding outcomeItems
 returns-3 c =
-    let opened = c .before .before in
-    let written = opened .before .before .before .before in
-    puts-outcome (name-arm written .outcome3 .given .1) (puts-succeeded 248 (name-room written) (name written) (opened .write-success2 .ensures) (omega arith) (omega arith))
+    let name-opened = c .before .before in
+    let name-written = name-opened .before .before .before .before in
+    puts-outcome (name-arm name-written .outcome3 .given .1) (puts-succeeded 248 (name-room name-written) (name name-written) (name-opened .write-success2 .ensures) (omega arith) (omega arith))
 
 same-length-4 : tie.Need-same-length-4
 same-length-4 c = search needs
@@ -161,9 +161,9 @@ same-length-4 c = search needs
 returns-4 : tie.Need-returns-4
 unfolding outcomeItems
 returns-4 c =
-    let opened = c .before .before in
-    let written = opened .before .before .before .before in
-    puts-outcome (showed-arm written .outcome4 .given .1) (puts-succeeded 248 (showed-room written) (written .write-showed .ensures) (opened .write-success3 .ensures) (omega arith) (omega arith))
+    let showed-opened = c .before .before in
+    let showed-written = showed-opened .before .before .before .before in
+    puts-outcome (showed-arm showed-written .outcome4 .given .1) (puts-succeeded 248 (showed-room showed-written) (showed-written .write-showed .ensures) (showed-opened .write-success3 .ensures) (omega arith) (omega arith))
 
 same-length-5 : tie.Need-same-length-5
 same-length-5 c = search needs
@@ -171,9 +171,9 @@ same-length-5 c = search needs
 returns-5 : tie.Need-returns-5
 unfolding outcomeItems
 returns-5 c =
-    let opened = c .before .before in
-    let written = opened .before .before .before .before in
-    puts-outcome (got-arm written .outcome5 .given .1) (puts-succeeded 248 (got-room written) (written .write-got .ensures) (opened .write-success4 .ensures) (omega arith) (omega arith))
+    let got-opened = c .before .before in
+    let got-written = got-opened .before .before .before .before in
+    puts-outcome (got-arm got-written .outcome5 .given .1) (puts-succeeded 248 (got-room got-written) (got-written .write-got .ensures) (got-opened .write-success4 .ensures) (omega arith) (omega arith))
 
 pub write-outcome-spec : {M : Type 1} → statement M
 write-outcome-spec =

@@ -55,11 +55,15 @@ same-length c = search needs
 returns : tie.Need-returns
 unfolding join
 returns c =
-    let a = c .before .before .before .before .before .before .before .before .before .before .before .before .before .before .before .before .before .args in
-    let algorithm = puts-word cryptographicAlgorithm enumeration aes (c .before .before .before .before .before .before .before .before .before .before .before .before .before .before .write-enumeration .ensures) (omega arith) in
-    let bits = then-word algorithm cryptographicLength integer (a .bits) (c .before .before .before .before .before .before .before .before .before .before .write-integer .ensures) (omega arith) in
-    let mask = then-word bits cryptographicUsageMask integer (a .mask) (c .before .before .before .before .before .before .write-integer2 .ensures) (omega arith) in
-    then-word mask stateTag enumeration (a .state) (c .before .before .write-enumeration2 .ensures) (omega arith)
+    let at-state = c .before .before in
+    let at-mask = at-state .before .before .before .before in
+    let at-bits = at-mask .before .before .before .before in
+    let at-algorithm = at-bits .before .before .before .before in
+    let a = at-algorithm .before .before .before .args in
+    let algorithm = puts-word cryptographicAlgorithm enumeration aes (at-algorithm .write-enumeration .ensures) (omega arith) in
+    let bits = then-word algorithm cryptographicLength integer (a .bits) (at-bits .write-integer .ensures) (omega arith) in
+    let mask = then-word bits cryptographicUsageMask integer (a .mask) (at-mask .write-integer2 .ensures) (omega arith) in
+    then-word mask stateTag enumeration (a .state) (at-state .write-enumeration2 .ensures) (omega arith)
 
 pub write-always-spec : {M : Type 1} → statement M
 write-always-spec =

@@ -54,9 +54,12 @@ same-length c = search needs
 returns : tie.Need-returns
 unfolding attributeItems join
 returns c =
-    let s = c .before .before .before .before .before .before .before .before .before .before .before .before .before .before .before .args .shown in
+    let at-links = c .before .before in
+    let at-limits = at-links .before .before .before .before in
+    let at-always = at-limits .before .before .before .before in
+    let s = at-always .before .before .before .before .before .args .shown in
     let links = linkItems replacedObjectLink (s .replaced) (linkItems replacementObjectLink (s .replacement) nil) in
-    rw (← limit-join s links) (puts-then (puts-then (c .before .before .before .before .before .before .before .before .before .before .write-always .ensures) (c .before .before .before .before .before .before .write-limits .ensures)) (c .before .before .write-links .ensures))
+    rw (← limit-join s links) (puts-then (puts-then (at-always .write-always .ensures) (at-limits .write-limits .ensures)) (at-links .write-links .ensures))
 
 pub write-attribute-items-spec : {M : Type 1} → statement M
 write-attribute-items-spec =

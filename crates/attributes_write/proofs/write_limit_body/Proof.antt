@@ -42,10 +42,13 @@ same-length c = search needs
 returns : tie.Need-returns
 unfolding join
 returns c =
-    let a = c .before .before .before .before .before .before .before .before .before .before .before .before .before .args in
-    let total = puts-long usageLimitsTotal longInteger (a .total) (c .before .before .before .before .before .before .before .before .before .before .write-long .ensures) (omega arith) in
-    let count = then-long total usageLimitsCount longInteger (a .count) (c .before .before .before .before .before .before .write-long2 .ensures) (omega arith) in
-    then-word count usageLimitsUnit enumeration (a .unit) (c .before .before .write-enumeration .ensures) (omega arith)
+    let at-unit = c .before .before in
+    let at-count = at-unit .before .before .before .before in
+    let at-total = at-count .before .before .before .before in
+    let a = at-total .before .before .before .args in
+    let total = puts-long usageLimitsTotal longInteger (a .total) (at-total .write-long .ensures) (omega arith) in
+    let count = then-long total usageLimitsCount longInteger (a .count) (at-count .write-long2 .ensures) (omega arith) in
+    then-word count usageLimitsUnit enumeration (a .unit) (at-unit .write-enumeration .ensures) (omega arith)
 
 pub write-limit-body-spec : {M : Type 1} → statement M
 write-limit-body-spec =

@@ -31,8 +31,10 @@ same-length c = search needs
 
 returns : tie.Need-returns
 returns c =
-    let a = c .before .before .before .before .before .before .before .before .before .args in
-    rw (← link-join replacedObjectLink (a .replaced) (linkItems replacementObjectLink (a .replacement) nil)) (puts-then (c .before .before .before .before .before .before .write-link .ensures) (c .before .before .write-link2 .ensures))
+    let at-replacement = c .before .before in
+    let at-replaced = at-replacement .before .before .before .before in
+    let a = at-replaced .before .before .before .args in
+    rw (← link-join replacedObjectLink (a .replaced) (linkItems replacementObjectLink (a .replacement) nil)) (puts-then (at-replaced .write-link .ensures) (at-replacement .write-link2 .ensures))
 
 pub write-links-spec : {M : Type 1} → statement M
 write-links-spec =

@@ -49,9 +49,12 @@ same-length c = search needs
 returns : tie.Need-returns
 unfolding headerItems versionItems join
 returns c =
-    let a = c .before .before .before .before .before .before .before .before .before .before .before .before .before .args in
-    let stamp = then-long (c .before .before .before .before .before .before .before .before .before .before .write-version .ensures) timeStamp dateTime (a .clock) (c .before .before .before .before .before .before .write-date-time .ensures) (omega arith) in
-    then-word stamp batchCount integer (a .count) (c .before .before .write-integer .ensures) (omega arith)
+    let at-count = c .before .before in
+    let at-stamp = at-count .before .before .before .before in
+    let at-version = at-stamp .before .before .before .before in
+    let a = at-version .before .before .before .args in
+    let stamp = then-long (at-version .write-version .ensures) timeStamp dateTime (a .clock) (at-stamp .write-date-time .ensures) (omega arith) in
+    then-word stamp batchCount integer (a .count) (at-count .write-integer .ensures) (omega arith)
 
 pub write-header-items-spec : {M : Type 1} → statement M
 write-header-items-spec =

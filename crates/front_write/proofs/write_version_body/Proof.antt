@@ -30,8 +30,10 @@ same-length c = search needs
 returns : tie.Need-returns
 unfolding join
 returns c =
-    let major = puts-word protocolVersionMajor integer 2 (c .before .before .before .before .before .before .write-integer .ensures) (omega arith) in
-    then-word major protocolVersionMinor integer 1 (c .before .before .write-integer2 .ensures) (omega arith)
+    let at-minor = c .before .before in
+    let at-major = at-minor .before .before .before .before in
+    let major = puts-word protocolVersionMajor integer 2 (at-major .write-integer .ensures) (omega arith) in
+    then-word major protocolVersionMinor integer 1 (at-minor .write-integer2 .ensures) (omega arith)
 
 pub write-version-body-spec : {M : Type 1} → statement M
 write-version-body-spec =
