@@ -11,7 +11,7 @@ use Rattle.table.specs.declared.Record.{Record}
 use Rattle.search.specs.declared.Found.{Found}
 use Rattle.search.specs.declared.Found.the-variants.{At, Nothing}
 use Rattle.table.specs.Layout.{bodyStart, bodySize, materialSize}
-use Rattle.table.specs.Records.{recordOf, placeAt, withPlace}
+use Rattle.table.specs.Records.{recordOf, placeAt, withPlace, latestClock}
 use Rattle.search.specs.Search.{find, newPlace}
 use Rattle.table.proofs.Lines.{bytes-part}
 use Rattle.table.proofs.Places.{length-with, bytes-with}
@@ -20,7 +20,7 @@ use Rattle.rules.specs.declared.Reason.{Reason}
 use Rattle.rules.specs.Numbers.{activate, revoke, destroy}
 use Rattle.rules.specs.Tests.{due}
 use Rattle.rules.specs.States.{movedState}
-use Rattle.changes.specs.Records.{newRecord, heirOf, linkedTo, inState, movedTo, withCount}
+use Rattle.changes.specs.Records.{newRecord, heirOf, linkedTo, inState, withDates, movedTo, withCount}
 use Rattle.changes.specs.Changes.{nextSerial, bornAt, withBorn, withHeir}
 use Rattle.changes.proofs.Material.{bytes-material}
 use Rattle.octets.proofs.Zeros.{bytes-zeros}
@@ -58,15 +58,16 @@ module _ (n : ℕ) (t : List ℕ) (h : Bytes t) where
   unfolding placeAt recordOf
   bytes-place i = bytes-part (part t (bodyStart n i) bodySize) 24 materialSize (bytes-part t (bodyStart n i) bodySize h)
 
-  bytes-moved : (operation state i : ℕ) → Bytes (movedTo operation state (placeAt n t i) .material)
-  unfolding movedTo inState
-  bytes-moved operation state i = on-if (λ (m : List ℕ). Bytes m) (λ e. bytes-zeros materialSize) (λ e. bytes-place i)
+  bytes-moved : (operation code clock state i : ℕ) → Bytes (movedTo operation code clock state (placeAt n t i) .material)
+  unfolding movedTo inState withDates
+  bytes-moved operation code clock state i = on-if (λ (m : List ℕ). Bytes m) (λ e. bytes-zeros materialSize) (λ e. bytes-place i)
 
 -- ---- operation by operation
 
 module _ (env : Env) (holder : ℕ) (t : List ℕ) (h : Bytes t) (g : Bytes (env .fresh)) where
-  kept-moved : (operation code i : ℕ) → Kept t (withPlace (env .places) t i (movedTo operation (movedState operation code (placeAt (env .places) t i .state)) (placeAt (env .places) t i)))
-  kept-moved operation code i = kept-with (env .places) t h i _ (bytes-moved (env .places) t h operation _ i)
+  kept-moved : (operation code i : ℕ)
+      → Kept t (withPlace (env .places) t i (movedTo operation code (latestClock t) (movedState operation code (placeAt (env .places) t i .state)) (placeAt (env .places) t i)))
+  kept-moved operation code i = kept-with (env .places) t h i _ (bytes-moved (env .places) t h operation code _ _ i)
 
   kept-heir : (i : ℕ) → Kept t (withHeir (env .places) t i (heirOf (nextSerial t) (placeAt (env .places) t i) (env .fresh)))
   unfolding withHeir heirOf linkedTo

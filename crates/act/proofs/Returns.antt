@@ -1,9 +1,10 @@
 -- What each return of the functions of this crate leaves, from what the functions that it called answered.
 -- Assumes nothing.
-use mathlib.Core.Path.{_≡_, sym, ap, _∙_}
+use mathlib.Core.Path.{_≡_, refl, sym, ap, _∙_}
 use Prim.Native.Nat.{ℕ}
 use mathlib.Core.List.{List}
 use Rattle.octets.specs.If.{ifb}
+use Rattle.table.specs.declared.Record.{Record}
 use Rattle.table.specs.Layout.{Table, Place}
 use Rattle.table.specs.Records.{placeAt}
 use Rattle.search.specs.declared.Found.{Found}
@@ -20,11 +21,11 @@ use Rattle.payload.specs.declared.Command.the-variants.{Unsupported, Invalid, C
 use Rattle.plans.specs.declared.Performed.{Performed}
 use Rattle.deeds.specs.declared.Deed.{Deed}
 use Rattle.deeds.specs.declared.Deed.the-variants.{Replace, Allocate, Move, Show, Give}
-use Rattle.plans.specs.Plans.{Did, emptyHolder, carriedOut, createPlan, activatePlan, revokePlan, destroyPlan, inPlaces, leaves, failed}
+use Rattle.plans.specs.Plans.{Did, Plan, emptyHolder, carriedOut, createPlan, activatePlan, revokePlan, destroyPlan, inPlaces, leaves, failed}
 use Rattle.act.specs.Act.{sought, onFound, plan, performing}
 use Rattle.deeds.specs.Deeds.{movePlan, deedPlan}
 use Rattle.act.specs.Perform.{aboutPlan}
-use Rattle.plans.proofs.Plans.{fails, refused}
+use Rattle.plans.proofs.Plans.{fails, goes-on, refused}
 
 -- ---- the record that an item is about
 
@@ -49,6 +50,13 @@ module _ (n holder : ℕ) (t : List ℕ) (target : Target) (serial : ℕ) (named
     about-none nowhere r e = fails t e ∙ sym (ap about (sym found-is ∙ nowhere) ∙ refused t ObjectNotFound)
 
 -- ---- commands
+
+-- plans of which each leaves what the other leaves, on whatever record they are
+same-found : (n : ℕ) (fresh : List ℕ) (holder : ℕ) (t : List ℕ) (own other : ℕ → Record → Plan) → ((i : ℕ) (r : Record) → carriedOut t (own i r) ≡ carriedOut t (other i r)) → (f : Found)
+    → carriedOut t (onFound (inPlaces n fresh) holder t own f) ≡ carriedOut t (onFound (inPlaces n fresh) holder t other f)
+unfolding onFound
+same-found n fresh holder t own other h (At i) = h i (placeAt n t i)
+same-found n fresh holder t own other h Nothing = refl
 
 module _ (n : ℕ) (fresh : List ℕ) (holder : ℕ) (t : List ℕ) (command : Command) where
   -- what is left where the command is this one
@@ -87,11 +95,17 @@ module _ (n : ℕ) (fresh : List ℕ) (holder : ℕ) (t : List ℕ) (command : C
 
       pub performs-revoke : (code : ℕ) → command ≡ Revoke target code → done ≡ meets (Move revoke code) target → done ≡ performed command
       unfolding performing plan deedPlan movePlan revokePlan moveTests ifb
-      performs-revoke code c e = e ∙ sym (ap performed c)
+      performs-revoke code c e =
+          e
+          ∙ same-found n fresh holder t (movePlan n holder t revoke code) (revokePlan (inPlaces n fresh) holder t code) (λ i r. goes-on t _ _ _ refl) (find n t (sought holder target))
+          ∙ sym (ap performed c)
 
       pub performs-destroy : command ≡ Destroy target → done ≡ meets (Move destroy 0) target → done ≡ performed command
       unfolding performing plan deedPlan movePlan destroyPlan moveTests ifb
-      performs-destroy c e = e ∙ sym (ap performed c)
+      performs-destroy c e =
+          e
+          ∙ same-found n fresh holder t (movePlan n holder t destroy 0) (destroyPlan (inPlaces n fresh) holder t) (λ i r. goes-on t _ _ _ refl) (find n t (sought holder target))
+          ∙ sym (ap performed c)
 
       pub performs-show : command ≡ GetAttributes target → done ≡ meets Show target → done ≡ performed command
       unfolding performing plan deedPlan

@@ -11,16 +11,17 @@ use Rattle.octets.proofs.If.{on-if}
 use Rattle.table.specs.declared.Record.{Record}
 use Rattle.search.specs.declared.Found.{Found}
 use Rattle.search.specs.declared.Found.the-variants.{At, Nothing}
-use Rattle.table.specs.Records.{placeAt}
+use Rattle.table.specs.Records.{placeAt, latestClock}
 use Rattle.search.specs.Search.{find, isDestroyed}
 use Rattle.rules.specs.declared.Reason.{Reason}
-use Rattle.rules.specs.declared.Reason.the-variants.{OperationNotSupported, InvalidField, ObjectNotFound, ObjectDestroyed, PermissionDenied, ServerLimitExceeded}
+use Rattle.rules.specs.declared.Reason.the-variants.{OperationNotSupported, InvalidField, ObjectNotFound, ObjectDestroyed, PermissionDenied, ServerLimitExceeded, WrongKeyLifecycleState}
 use Rattle.rules.specs.declared.Attributes.{Attributes}
 use Rattle.rules.specs.declared.Next.the-variants.{To}
 use Rattle.rules.specs.declared.Granted.the-variants.{Left}
 use Rattle.rules.specs.Numbers.{activate, revoke, destroy}
 use Rattle.rules.specs.Tests.{due}
 use Rattle.rules.specs.States.{activateTests, revokeTests, destroyTests, moveTests, movedState, nextUnless, nextState, grantTests, leftUnless, granting}
+use Rattle.date_rules.specs.Dates.{isLate}
 use Rattle.changes.specs.Records.{movedTo, withCount}
 use Rattle.changes.specs.Changes.{isFull}
 use Rattle.batch_item.specs.Item.{Asked}
@@ -52,7 +53,8 @@ module _ (env : Env) (holder : ℕ) (t : List ℕ) where
         → granting (placeAt (env .places) t i .state) (placeAt (env .places) t i .unit) (placeAt (env .places) t i .count) amount ≡ Left (placeAt (env .places) t i .count - amount)
         → Kind (GetUsageAllocation target amount) (changed env holder t i (withCount (placeAt (env .places) t i .count - amount) (placeAt (env .places) t i)))
     moves : {c : Command} {operation code : ℕ} {target : Target} (m : Moving c operation code target) (i next : ℕ) → find (env .places) t (sought holder target) ≡ At i
-        → nextState operation code (placeAt (env .places) t i .state) ≡ To next → Kind c (changed env holder t i (movedTo operation next (placeAt (env .places) t i)))
+        → isLate operation (latestClock t) (placeAt (env .places) t i .deactivation) ≡ false → nextState operation code (placeAt (env .places) t i .state) ≡ To next
+        → Kind c (changed env holder t i (movedTo operation code (latestClock t) next (placeAt (env .places) t i)))
     shows : (target : Target) (i : ℕ) → find (env .places) t (sought holder target) ≡ At i
         → Kind (GetAttributes target) (record { outcome = Showed (shownOf (placeAt (env .places) t i)); table = t; holder = holder })
     gets : (target : Target) (i : ℕ) → find (env .places) t (sought holder target) ≡ At i → isDestroyed (placeAt (env .places) t i .state) ≡ false
@@ -90,12 +92,18 @@ module _ (env : Env) (holder : ℕ) (t : List ℕ) where
           granted q = ap (leftUnless (r .count - amount)) q
       go (some reason) q = fails reason
 
-  by-move : {c : Command} {operation code : ℕ} {target : Target} → Moving c operation code target → (i : ℕ) → find n t (sought holder target) ≡ At i → (o : Option Reason)
-      → due (moveTests operation code (placeAt n t i .state)) ≡ o
-      → Kind c (carried t (changed env holder t i (movedTo operation (movedState operation code (placeAt n t i .state)) (placeAt n t i))) o)
+  by-move : {c : Command} {operation code : ℕ} {target : Target} → Moving c operation code target → (i : ℕ) → find n t (sought holder target) ≡ At i
+      → isLate operation (latestClock t) (placeAt n t i .deactivation) ≡ false → (o : Option Reason) → due (moveTests operation code (placeAt n t i .state)) ≡ o
+      → Kind c (carried t (changed env holder t i (movedTo operation code (latestClock t) (movedState operation code (placeAt n t i .state)) (placeAt n t i))) o)
   unfolding carried nextState nextUnless
-  by-move {operation} {code} m i e none q = moves m i (movedState operation code (placeAt n t i .state)) e (ap (nextUnless (movedState operation code (placeAt n t i .state))) q)
-  by-move m i e (some reason) q = fails reason
+  by-move {operation} {code} m i e l none q = moves m i (movedState operation code (placeAt n t i .state)) e l (ap (nextUnless (movedState operation code (placeAt n t i .state))) q)
+  by-move m i e l (some reason) q = fails reason
+
+  by-activate : (target : Target) (i : ℕ) → find n t (sought holder target) ≡ At i → Kind (Activate target) (decided (activatePlan env holder t i (placeAt n t i)))
+  unfolding activatePlan due carried moveTests ifb
+  by-activate target i e =
+      on-if (λ (o : Option Reason). Kind (Activate target) (carried t (activatePlan env holder t i (placeAt n t i) .did) o)) (λ l. fails WrongKeyLifecycleState)
+      (λ l. by-move activating i e l (due (activateTests (placeAt n t i .state))) refl)
 
   by-get : (target : Target) (i : ℕ) → find n t (sought holder target) ≡ At i → Kind (Get target) (decided (getPlan env holder t i (placeAt n t i)))
   unfolding getPlan due carried
@@ -115,9 +123,9 @@ module _ (env : Env) (holder : ℕ) (t : List ℕ) where
   kind (Create wanted) = by-create wanted
   kind (Rekey target) = by-found (rekeyPlan env holder t) target (by-rekey target) (find n t (sought holder target)) refl
   kind (GetUsageAllocation target amount) = by-found (allocationPlan env holder t amount) target (by-grant target amount) (find n t (sought holder target)) refl
-  kind (Activate target) = by-found (activatePlan env holder t) target (λ i e. by-move activating i e (due (activateTests (placeAt n t i .state))) refl) (find n t (sought holder target)) refl
-  kind (Revoke target code) = by-found (revokePlan env holder t code) target (λ i e. by-move revoking i e (due (revokeTests code (placeAt n t i .state))) refl) (find n t (sought holder target)) refl
-  kind (Destroy target) = by-found (destroyPlan env holder t) target (λ i e. by-move destroying i e (due (destroyTests (placeAt n t i .state))) refl) (find n t (sought holder target)) refl
+  kind (Activate target) = by-found (activatePlan env holder t) target (by-activate target) (find n t (sought holder target)) refl
+  kind (Revoke target code) = by-found (revokePlan env holder t code) target (λ i e. by-move revoking i e refl (due (revokeTests code (placeAt n t i .state))) refl) (find n t (sought holder target)) refl
+  kind (Destroy target) = by-found (destroyPlan env holder t) target (λ i e. by-move destroying i e refl (due (destroyTests (placeAt n t i .state))) refl) (find n t (sought holder target)) refl
   kind (GetAttributes target) = by-found (showPlan env holder t) target (λ i e. shows target i e) (find n t (sought holder target)) refl
   kind (Get target) = by-found (getPlan env holder t) target (by-get target) (find n t (sought holder target)) refl
 

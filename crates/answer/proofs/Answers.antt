@@ -17,6 +17,7 @@ use Rattle.ttlv.specs.Items.{Items, nil, value, group, ended}
 use Rattle.fields.specs.Fields.{startsWith, bytesOf, bodyOf, optional}
 use Rattle.octets.proofs.Bools.{both, and-i}
 use Rattle.tags.specs.Tags.{batchCount, batchItem, operationTag, protocolVersion, protocolVersionMajor, protocolVersionMinor, uniqueBatchItemId, responseHeader, responseMessage, timeStamp}
+use Rattle.values.specs.Values.{notNegative, aboveZero}
 use Rattle.batch_item.specs.Item.{idMost, idOk, idBytes}
 use Rattle.frame.specs.Frame.{batchMost}
 use Rattle.plans.specs.declared.Outcome.{Outcome}
@@ -150,9 +151,10 @@ unfolding allowed
 allowed-facts r h =
     let p3 = both _ (all answerOk (r .answers)) h in
     let p2 = both _ (leb (length (r .answers)) batchMost) (p3 .0) in
-    let p1 = both (ltb (r .clock) (2 ^ 64)) (leb 1 (length (r .answers))) (p2 .0) in
+    let p1 = both (aboveZero (r .clock)) (leb 1 (length (r .answers))) (p2 .0) in
+    let clock = ltb-true (r .clock) (2 ^ 63) (both (leb 1 (r .clock)) (notNegative (r .clock)) (p1 .0) .1) in
     record {
-      clock-short = ltb-true (r .clock) (2 ^ 64) (p1 .0);
+      clock-short = omega arith;
       some-answers = leb-true 1 (length (r .answers)) (p1 .1);
       few-answers = leb-true (length (r .answers)) batchMost (p2 .1);
       answers-ok = p3 .1;

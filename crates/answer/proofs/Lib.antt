@@ -4,6 +4,7 @@ pub mod Worked
 pub mod Tests
 pub mod Fields
 pub mod Links
+pub mod Dates
 pub mod Limits
 pub mod Payloads
 pub mod Keys

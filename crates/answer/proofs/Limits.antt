@@ -1,7 +1,7 @@
 -- Usage limits read back, present or absent.
 -- Assumes nothing.
 use mathlib.Core.Path.{_≡_, refl, sym, ap, _∙_}
-use Prim.Native.Nat.{_^_, _<_}
+use Prim.Native.Nat.{ℕ, _^_, _<_}
 use native.Mathlib.Omega.{arith}
 use mathlib.Core.Bool.{Bool, true, false, _&&_, false≢true}
 use mathlib.Core.Option.{Option, none, some}
@@ -9,7 +9,7 @@ use lib.Dec.{leb, eqb}
 use borrow.Author.Tests.{eqb-true, not-true, leb-true}
 use Rattle.octets.specs.If.{ifb}
 use Rattle.octets.specs.Maybe.{_>>=_, _>>_}
-use Rattle.octets.proofs.If.{ifb-true, ifb-false, on-bool}
+use Rattle.octets.proofs.If.{ifb-true, ifb-false, on-if, on-bool}
 use Rattle.ttlv_types.specs.Types.{longInteger, enumeration}
 use Rattle.ttlv.specs.Items.{Items, nil, group, ended}
 use Rattle.fields.specs.Fields.{startsWith, bodyOf, optional}
@@ -135,3 +135,8 @@ limits-spells t s h =
   where
     none-is : {l : Limits} → l ≡ limitsOf s → eqb (s .unit) 0 ≡ eqb (l .unit) 0
     none-is e = ap (λ (l : Limits). eqb (l .unit) 0) (sym e)
+
+-- a field of another tag does not stand in front of a usage limit
+pub no-limit-first : (tag : ℕ) (s : Shown) (rest : Items) → eqb usageLimits tag ≡ false → startsWith tag rest ≡ false → startsWith tag (limitItems s rest) ≡ false
+unfolding limitItems startsWith
+no-limit-first tag s rest d h = on-if (λ (t : Items). startsWith tag t ≡ false) {b = eqb (s .unit) 0} (λ e. h) (λ e. d)

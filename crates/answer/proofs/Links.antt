@@ -14,7 +14,7 @@ use Rattle.ttlv_types.specs.Types.{enumeration}
 use Rattle.ttlv.specs.Items.{Items, nil, group, ended}
 use Rattle.fields.specs.Fields.{startsWith, bodyOf}
 use Rattle.octets.proofs.Bools.{and-i}
-use Rattle.tags.specs.Tags.{usageLimits, link, linkType, linkedObjectIdentifier}
+use Rattle.tags.specs.Tags.{link, linkType, linkedObjectIdentifier}
 use Rattle.changes.specs.Changes.{serialMost}
 use Rattle.answer.specs.Respond.{word, named, linkItems, replacedObjectLink, replacementObjectLink}
 use Rattle.answer.specs.Read.{linkFirst, orNoLink, linkIn, linkOk, serialOk}
@@ -76,7 +76,7 @@ not-replaced serial =
     (λ e. unfold linkFirst bodyOf _>>=_ in refl)
     (λ e. link-first-other replacedObjectLink replacementObjectLink serial nil (omega arith) refl)
 
--- in front of links stands no usage limit
-pub no-limits : (kind serial : ℕ) (rest : Items) → startsWith usageLimits rest ≡ false → startsWith usageLimits (linkItems kind serial rest) ≡ false
+-- a field of another tag does not stand in front of a link
+pub no-link-first : (tag kind serial : ℕ) (rest : Items) → eqb link tag ≡ false → startsWith tag rest ≡ false → startsWith tag (linkItems kind serial rest) ≡ false
 unfolding linkItems startsWith
-no-limits kind serial rest h = on-if (λ (t : Items). startsWith usageLimits t ≡ false) {b = eqb serial 0} (λ e. h) (λ e. refl)
+no-link-first tag kind serial rest d h = on-if (λ (t : Items). startsWith tag t ≡ false) {b = eqb serial 0} (λ e. h) (λ e. d)

@@ -6,27 +6,28 @@ use native.Mathlib.Omega.{arith}
 use mathlib.Core.Bool.{true, false, _&&_, _||_}
 use mathlib.Core.Option.{none, some}
 use lib.Dec.{leb, eqb}
-use borrow.Author.Tests.{eqb-true, leb-true}
+use borrow.Author.Tests.{eqb-true, leb-true, ltb-true}
 use Rattle.octets.specs.If.{ifb}
 use Rattle.octets.specs.Maybe.{_>>=_, _>>_}
 use Rattle.ttlv_types.specs.Types.{integer, enumeration}
 use Rattle.ttlv.specs.Items.{Items, nil, group, ended}
 use Rattle.fields.specs.Fields.{startsWith, bodyOf}
 use Rattle.octets.proofs.Bools.{both}
-use Rattle.tags.specs.Tags.{attributes, cryptographicAlgorithm, cryptographicLength, cryptographicUsageMask, objectType, uniqueIdentifier, usageLimits, stateTag}
+use Rattle.tags.specs.Tags.{activationDate, attributes, cryptographicAlgorithm, cryptographicLength, cryptographicUsageMask, deactivationDate, objectType, uniqueIdentifier, usageLimits, link, stateTag}
 use Rattle.attributes_read.specs.Attributes.{aes}
 use Rattle.payload.specs.Payload.{symmetricKey}
-use Rattle.values.specs.Values.{bitsOk, maskOk}
+use Rattle.values.specs.Values.{bitsOk, maskOk, notNegative, inOrder}
 use Rattle.plans.specs.declared.Shown.{Shown}
 use Rattle.plans.specs.declared.Outcome.{Outcome}
 use Rattle.plans.specs.declared.Outcome.the-variants.{Created, Done, Showed}
-use Rattle.answer.specs.Respond.{word, named, limitItems, linkItems, attributeItems, replacedObjectLink, replacementObjectLink}
+use Rattle.answer.specs.Respond.{word, named, dateItems, limitItems, linkItems, attributeItems, replacedObjectLink, replacementObjectLink}
 use Rattle.answer.specs.Read.{linkFirst, shownIn, createdIn, doneIn, showedIn, linkOk, serialOk, shownOk}
 use Rattle.octets.proofs.Maybe.{some-is, on-bind, on-test}
 use Rattle.answer.proofs.Fields.{ended-is, body-spells, spelled-back, spelled-spells, fixed-back, fixed-spells, serial-in-back, serial-in-spells}
 use Rattle.answer.proofs.Tests.{on-or}
-use Rattle.answer.proofs.Links.{link-in-back, link-in-spells, not-replaced, no-limits}
-use Rattle.answer.proofs.Limits.{limitsOf, LimitsFacts, limitsOk, limits-facts, limits-back, limits-spells}
+use Rattle.answer.proofs.Links.{link-in-back, link-in-spells, not-replaced, no-link-first}
+use Rattle.answer.proofs.Dates.{date-back, date-spells, no-date-first}
+use Rattle.answer.proofs.Limits.{limitsOf, LimitsFacts, limitsOk, limits-facts, limits-back, limits-spells, no-limit-first}
 
 -- ---- what is shown
 
@@ -36,6 +37,8 @@ pub record ShownFacts (s : Shown) : Type 0 where
   pub bits-short : s .bits < 256 ^ 4
   pub mask-short : s .mask < 256 ^ 4
   pub state-short : s .state < 256 ^ 4
+  pub activation-short : s .activation < 256 ^ 8
+  pub deactivation-short : s .deactivation < 256 ^ 8
   pub limits-ok : LimitsFacts (limitsOf s)
   pub replaced-ok : linkOk (s .replaced) ≡ true
   pub replacement-ok : linkOk (s .replacement) ≡ true
@@ -50,9 +53,12 @@ bits-most bits h =
 pub shown-facts : (s : Shown) → shownOk s ≡ true → ShownFacts s
 unfolding shownOk
 shown-facts s h =
-    let p6 = both _ (linkOk (s .replacement)) h in
-    let p5 = both _ (linkOk (s .replaced)) (p6 .0) in
-    let p4 = both _ (limitsOk (limitsOf s)) (p5 .0) in
+    let p9 = both _ (linkOk (s .replacement)) h in
+    let p8 = both _ (linkOk (s .replaced)) (p9 .0) in
+    let p7 = both _ (limitsOk (limitsOf s)) (p8 .0) in
+    let p6 = both _ (inOrder (s .activation) (s .deactivation)) (p7 .0) in
+    let p5 = both _ (notNegative (s .deactivation)) (p6 .0) in
+    let p4 = both _ (notNegative (s .activation)) (p5 .0) in
     let p3 = both _ (leb 1 (s .state) && leb (s .state) 6) (p4 .0) in
     let p2 = both _ (maskOk (s .mask)) (p3 .0) in
     let p1 = both (serialOk (s .serial)) (bitsOk (s .bits)) (p2 .0) in
@@ -62,45 +68,61 @@ shown-facts s h =
       bits-short = omega (arith, bits-most (s .bits) (p1 .1));
       mask-short = omega (arith, leb-true);
       state-short = omega (arith, leb-true);
-      limits-ok = limits-facts (limitsOf s) (p4 .1);
-      replaced-ok = p5 .1;
-      replacement-ok = p6 .1;
+      activation-short = let m = ltb-true (s .activation) (2 ^ 63) (p4 .1) in omega arith;
+      deactivation-short = let m = ltb-true (s .deactivation) (2 ^ 63) (p5 .1) in omega arith;
+      limits-ok = limits-facts (limitsOf s) (p7 .1);
+      replaced-ok = p8 .1;
+      replacement-ok = p9 .1;
     }
+
+-- a field of another tag does not stand in front of the links
+before-links : (tag : ℕ) (s : Shown) → eqb link tag ≡ false → startsWith tag (linkItems replacedObjectLink (s .replaced) (linkItems replacementObjectLink (s .replacement) nil)) ≡ false
+unfolding startsWith
+before-links tag s d = no-link-first tag replacedObjectLink (s .replaced) _ d (no-link-first tag replacementObjectLink (s .replacement) nil d refl)
 
 pub shown-back : (s : Shown) → ShownFacts s → shownIn (s .serial) (attributeItems s) ≡ some s
 unfolding shownIn attributeItems ended _>>=_ _>>_
 shown-back s f =
     let second = linkItems replacementObjectLink (s .replacement) nil in
     let first = linkItems replacedObjectLink (s .replaced) second in
-    let no : startsWith usageLimits nil ≡ false = unfold startsWith in refl in
-    let l = limits-back s first (f .limits-ok) (no-limits replacedObjectLink (s .replaced) second (no-limits replacementObjectLink (s .replacement) nil no)) in
+    let limit = limitItems s first in
+    let stop = dateItems deactivationDate (s .deactivation) limit in
+    let a = date-back activationDate (s .activation) stop (f .activation-short) (no-date-first activationDate deactivationDate (s .deactivation) limit refl (no-limit-first activationDate s first refl (before-links activationDate s refl))) in
+    let d = date-back deactivationDate (s .deactivation) limit (f .deactivation-short) (no-limit-first deactivationDate s first refl (before-links deactivationDate s refl)) in
+    let l = limits-back s first (f .limits-ok) (before-links usageLimits s refl) in
     let none-left : linkFirst replacementObjectLink nil ≡ none = unfold linkFirst bodyOf in refl in
     rw (
       fixed-back cryptographicAlgorithm enumeration aes _ (omega arith),
       spelled-back 4 cryptographicLength integer (s .bits) _ (f .bits-short),
       spelled-back 4 cryptographicUsageMask integer (s .mask) _ (f .mask-short),
       spelled-back 4 stateTag enumeration (s .state) _ (f .state-short),
+      a .read,
+      d .read,
       l .read,
       link-in-back replacedObjectLink (s .replaced) second (omega arith) (f .replaced-ok) (not-replaced (s .replacement)),
       link-in-back replacementObjectLink (s .replacement) nil (omega arith) (f .replacement-ok) none-left,
+      a .means,
+      d .means,
       l .means,
     )
 
 pub shown-spells : (serial : ℕ) (t : Items) {s : Shown} → shownIn serial t ≡ some s → (s .serial ≡ serial) × (t ≡ attributeItems s)
 unfolding shownIn attributeItems
 shown-spells serial t {s} h =
-    on-bind h (λ r e1 h1. on-bind h1 (λ bits e2 h2. on-bind h2 (λ mask e3 h3. on-bind h3 (λ state e4 h4. on-bind h4 (λ limits e5 h5.
-    on-bind h5 (λ replaced e6 h6. on-bind h6 (λ replacement e7 h7. on-test h7 (λ o w.
+    on-bind h (λ r e1 h1. on-bind h1 (λ bits e2 h2. on-bind h2 (λ mask e3 h3. on-bind h3 (λ state e4 h4. on-bind h4 (λ starts e5 h5.
+    on-bind h5 (λ stops e6 h6. on-bind h6 (λ limits e7 h7. on-bind h7 (λ replaced e8 h8. on-bind h8 (λ replacement e9 h9. on-test h9 (λ o w.
     let t1 = fixed-spells cryptographicAlgorithm enumeration aes t e1 in
     let t2 = spelled-spells 4 cryptographicLength integer r e2 in
     let t3 = spelled-spells 4 cryptographicUsageMask integer (bits .1) e3 in
     let t4 = spelled-spells 4 stateTag enumeration (mask .1) e4 in
-    let t6 = link-in-spells replacedObjectLink (limits .1) e6 in
-    let t7 = link-in-spells replacementObjectLink (replaced .1) e7 in
-    let t8 = ended-is (replacement .1) o in
+    let t5 = date-spells activationDate (state .1) e5 in
+    let t6 = date-spells deactivationDate (starts .1) e6 in
+    let t8 = link-in-spells replacedObjectLink (limits .1) e8 in
+    let t9 = link-in-spells replacementObjectLink (replaced .1) e9 in
+    let t10 = ended-is (replacement .1) o in
     let i = some-is w in
-    let t5 : state .1 ≡ limitItems s (limits .1) = limits-spells (state .1) s e5 (ap limitsOf i) in
-    (ap (λ (x : Shown). x .serial) (sym i), cc)))))))))
+    let t7 : stops .1 ≡ limitItems s (limits .1) = limits-spells (stops .1) s e7 (ap limitsOf i) in
+    (ap (λ (x : Shown). x .serial) (sym i), cc)))))))))))
 
 -- ---- the payload of each kind of success
 

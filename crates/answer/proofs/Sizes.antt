@@ -16,14 +16,14 @@ use Rattle.ttlv.proofs.Sizes.{size, size-nil, size-value, size-group}
 use Rattle.octets.proofs.Bools.{both}
 use Rattle.identifier.specs.Identifier.{identifier}
 use Rattle.identifier.proofs.Texts.{length-identifier}
-use Rattle.tags.specs.Tags.{batchItem, keyMaterial}
+use Rattle.tags.specs.Tags.{activationDate, batchItem, deactivationDate, keyMaterial}
 use Rattle.batch_item.specs.Item.{idMost}
 use Rattle.words.proofs.Laws.{length-words}
 use Rattle.plans.specs.declared.Shown.{Shown}
 use Rattle.plans.specs.declared.Key.{Key}
 use Rattle.plans.specs.declared.Outcome.{Outcome}
 use Rattle.plans.specs.declared.Outcome.the-variants.{Failed, Created, Done, Showed, Got}
-use Rattle.answer.specs.Respond.{Answer, word, long, named, limitItems, linkItems, attributeItems, materialOf, keyBlockItems, keyItems, outcomeItems, idItems, answerItems, batchItems, replacedObjectLink, replacementObjectLink}
+use Rattle.answer.specs.Respond.{Answer, word, long, named, dateItems, limitItems, linkItems, attributeItems, materialOf, keyBlockItems, keyItems, outcomeItems, idItems, answerItems, batchItems, replacedObjectLink, replacementObjectLink}
 use Rattle.answer.specs.Read.{answerOk}
 use Rattle.answer.specs.Front.{longestItem}
 use Rattle.answer.proofs.Answers.{answer-facts}
@@ -44,6 +44,11 @@ pub ruleset sizes = (size-word, size-long, size-named, size-group, size-nil)
 
 -- ---- answers
 
+date-size : (tag date : ℕ) (rest : Items) → size (dateItems tag date rest) ≤ 16 + size rest
+unfolding dateItems
+date-size tag date rest =
+    on-if (λ (t : Items). size t ≤ 16 + size rest) {b = eqb date 0} (λ e. omega arith) (λ e. simp sizes (omega arith))
+
 link-size : (kind serial : ℕ) (rest : Items) → size (linkItems kind serial rest) ≤ 40 + size rest
 unfolding linkItems
 link-size kind serial rest =
@@ -54,12 +59,14 @@ unfolding limitItems
 limit-size s rest =
     on-if (λ (t : Items). size t ≤ 56 + size rest) {b = eqb (s .unit) 0} (λ e. omega arith) (λ e. simp sizes (omega arith))
 
-pub attributes-size : (s : Shown) → size (attributeItems s) ≤ 200
+pub attributes-size : (s : Shown) → size (attributeItems s) ≤ 232
 unfolding attributeItems
 attributes-size s =
     let second = linkItems replacementObjectLink (s .replacement) nil in
     let first = linkItems replacedObjectLink (s .replaced) second in
-    simp sizes (omega (arith, limit-size s first, link-size replacedObjectLink (s .replaced) second, link-size replacementObjectLink (s .replacement) nil, size-nil))
+    let limit = limitItems s first in
+    let stop = dateItems deactivationDate (s .deactivation) limit in
+    simp sizes (omega (arith, date-size activationDate (s .activation) stop, date-size deactivationDate (s .deactivation) limit, limit-size s first, link-size replacedObjectLink (s .replaced) second, link-size replacementObjectLink (s .replacement) nil, size-nil))
 
 pub material-length : (k : Key) → length (materialOf k) ≤ 32
 unfolding materialOf
@@ -76,7 +83,7 @@ pub key-size : (k : Key) → size (keyItems k) ≤ 112
 unfolding keyItems
 key-size k = simp (size-group, size-nil) (omega (arith, block-size k))
 
-pub outcome-size : (o : Outcome) → size (outcomeItems o) ≤ 248
+pub outcome-size : (o : Outcome) → size (outcomeItems o) ≤ 280
 unfolding outcomeItems
 outcome-size (Failed reason) = simp sizes (omega arith)
 outcome-size (Created serial) = simp sizes (omega arith)
@@ -89,7 +96,7 @@ unfolding idItems
 id-size [] rest h = omega arith
 id-size (x ∷ id) rest h = rw size-value (omega arith)
 
-pub answer-items-size : (a : Answer) → length (a .id) ≤ idMost → size (answerItems a) ≤ 288
+pub answer-items-size : (a : Answer) → length (a .id) ≤ idMost → size (answerItems a) ≤ 320
 unfolding answerItems
 answer-items-size a h = rw size-word (omega (arith, id-size (a .id) (outcomeItems (a .outcome)) h, outcome-size (a .outcome)))
 

@@ -13,7 +13,7 @@ use Rattle.octets.specs.Octets.{be, all}
 use Rattle.octets.proofs.If.{on-if}
 use Rattle.octets.proofs.Numbers.{length-be}
 use Rattle.ttlv_types.specs.Types.{structure, integer, longInteger, enumeration, textString, byteString, dateTime, lengthOk, text, valueOk}
-use Rattle.tags.specs.Tags.{tagLead, tagOk, batchCount, batchItem, operationTag, protocolVersion, protocolVersionMajor, protocolVersionMinor, uniqueBatchItemId, attributes, cryptographicAlgorithm, cryptographicLength, cryptographicUsageMask, keyBlock, keyFormatType, keyMaterial, keyValue, objectType, uniqueIdentifier, usageLimits, usageLimitsCount, usageLimitsTotal, usageLimitsUnit, link, linkType, linkedObjectIdentifier, responseHeader, responseMessage, responsePayload, resultReason, resultStatus, stateTag, symmetricKeyTag, timeStamp}
+use Rattle.tags.specs.Tags.{tagLead, tagOk, activationDate, batchCount, batchItem, operationTag, protocolVersion, protocolVersionMajor, protocolVersionMinor, uniqueBatchItemId, attributes, cryptographicAlgorithm, cryptographicLength, cryptographicUsageMask, deactivationDate, keyBlock, keyFormatType, keyMaterial, keyValue, objectType, uniqueIdentifier, usageLimits, usageLimitsCount, usageLimitsTotal, usageLimitsUnit, link, linkType, linkedObjectIdentifier, responseHeader, responseMessage, responsePayload, resultReason, resultStatus, stateTag, symmetricKeyTag, timeStamp}
 use Rattle.attributes_read.specs.Attributes.{aes}
 use Rattle.payload.specs.Payload.{symmetricKey}
 use Rattle.ttlv.specs.Items.{Items, nil, value, group, itemOk, wellFormed}
@@ -28,7 +28,7 @@ use Rattle.plans.specs.declared.Shown.{Shown}
 use Rattle.plans.specs.declared.Key.{Key}
 use Rattle.plans.specs.declared.Outcome.{Outcome}
 use Rattle.plans.specs.declared.Outcome.the-variants.{Failed, Created, Done, Showed, Got}
-use Rattle.answer.specs.Respond.{Answer, Response, word, long, named, limitItems, linkItems, attributeItems, raw, materialOf, keyValueItems, keyItems, succeeded, outcomeItems, idItems, answerItems, batchItems, versionItems, headerItems, respond, replacedObjectLink, replacementObjectLink}
+use Rattle.answer.specs.Respond.{Answer, Response, word, long, named, dateItems, limitItems, linkItems, attributeItems, raw, materialOf, keyValueItems, keyItems, succeeded, outcomeItems, idItems, answerItems, batchItems, versionItems, headerItems, respond, replacedObjectLink, replacementObjectLink}
 use Rattle.answer.specs.Read.{Limits, answerOk, allowed}
 use Rattle.answer.specs.Front.{responseMost}
 use Rattle.answer.proofs.Links.{linked}
@@ -102,6 +102,10 @@ limit-well : (s : Shown) (rest : Items) → Well 4 rest → Well 4 (limitItems s
 unfolding limitItems
 limit-well s rest w = on-if (Well 4) {b = eqb (s .unit) 0} (λ e. w) (λ e. limited-well (limitsOf s) rest w)
 
+date-well : (tag date : ℕ) (rest : Items) → shapeOk tag dateTime 8 ≡ true → Well 4 rest → Well 4 (dateItems tag date rest)
+unfolding dateItems valueOk ifb
+date-well tag date rest h w = on-if (Well 4) {b = eqb date 0} (λ e. w) (λ e. long-well 3 tag dateTime date rest h refl w)
+
 attributes-well : (s : Shown) → Well 4 (attributeItems s)
 unfolding attributeItems lengthOk valueOk ifb
 attributes-well s =
@@ -109,9 +113,11 @@ attributes-well s =
     (word-well 3 cryptographicLength integer (s .bits) _ refl refl
     (word-well 3 cryptographicUsageMask integer (s .mask) _ refl refl
     (word-well 3 stateTag enumeration (s .state) _ refl refl
+    (date-well activationDate (s .activation) _ refl
+    (date-well deactivationDate (s .deactivation) _ refl
     (limit-well s _
     (link-well replacedObjectLink (s .replaced) _
-    (link-well replacementObjectLink (s .replacement) nil (nil-well 4)))))))
+    (link-well replacementObjectLink (s .replacement) nil (nil-well 4)))))))))
 
 -- the fields of a Symmetric Key are at 4, those of its Key Block at 3, those of the Key Value at 2
 value-well : (k : Key) (rest : Items) → Well 3 rest → Well 3 (keyValueItems (materialOf k) rest)

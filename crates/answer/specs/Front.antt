@@ -16,9 +16,9 @@ headerSize = 80
 abbrev pub frameSize : ℕ
 frameSize = 8 + headerSize
 
--- the longest answer: Get Attributes with a usage limit, both links and a 16-byte ID
+-- the longest answer: Get Attributes with both dates, a usage limit, both links and a 16-byte ID
 abbrev pub longestItem : ℕ
-longestItem = 296
+longestItem = 328
 
 -- the longest response
 abbrev pub responseMost : ℕ

@@ -12,11 +12,11 @@ use Rattle.octets.specs.Octets.{be, fromBe, same, all, allZero}
 use Rattle.ttlv_types.specs.Types.{integer, longInteger, enumeration, textString, byteString, dateTime}
 use Rattle.ttlv.specs.Items.{Items, nil, value, group, ended}
 use Rattle.fields.specs.Fields.{bytesOf, bodyOf, optional}
-use Rattle.tags.specs.Tags.{batchCount, batchItem, operationTag, protocolVersion, protocolVersionMajor, protocolVersionMinor, uniqueBatchItemId, attributes, cryptographicAlgorithm, cryptographicLength, cryptographicUsageMask, keyBlock, keyFormatType, keyMaterial, keyValue, objectType, uniqueIdentifier, usageLimits, usageLimitsCount, usageLimitsTotal, usageLimitsUnit, link, linkType, linkedObjectIdentifier, responseHeader, responseMessage, responsePayload, resultReason, resultStatus, stateTag, symmetricKeyTag, timeStamp}
-use Rattle.attributes_read.specs.Attributes.{aes}
+use Rattle.tags.specs.Tags.{activationDate, batchCount, batchItem, operationTag, protocolVersion, protocolVersionMajor, protocolVersionMinor, uniqueBatchItemId, attributes, cryptographicAlgorithm, cryptographicLength, cryptographicUsageMask, deactivationDate, keyBlock, keyFormatType, keyMaterial, keyValue, objectType, uniqueIdentifier, usageLimits, usageLimitsCount, usageLimitsTotal, usageLimitsUnit, link, linkType, linkedObjectIdentifier, responseHeader, responseMessage, responsePayload, resultReason, resultStatus, stateTag, symmetricKeyTag, timeStamp}
+use Rattle.attributes_read.specs.Attributes.{aes, orUnset}
 use Rattle.payload.specs.Payload.{symmetricKey}
 use Rattle.identifier.specs.Identifier.{serialOf}
-use Rattle.values.specs.Values.{bitsOk, maskOk, unitOk, totalOk}
+use Rattle.values.specs.Values.{bitsOk, maskOk, unitOk, totalOk, notNegative, aboveZero, inOrder}
 use Rattle.rules.specs.declared.Reason.{Reason}
 use Rattle.rules.specs.declared.Reason.the-variants.{OperationNotSupported, InvalidField, ObjectNotFound, ObjectDestroyed, PermissionDenied, WrongKeyLifecycleState, UsageLimitExceeded, ServerLimitExceeded}
 use Rattle.rules.specs.Numbers.{reasonNumber, create, rekey, get, getAttributes, getUsageAllocation, activate, revoke, destroy, success, operationFailed}
@@ -54,6 +54,13 @@ serialIn tag t = do
   some (serialOf v, rest)
 
 -- ---- payloads
+
+-- a date that is set, in front
+unfoldable pub setDate : ℕ → Items → Option (ℕ × Items)
+setDate tag t = do
+  (date, rest) ← spelled 8 tag dateTime t
+  not (eqb date 0)
+  some (date, rest)
 
 -- unit, total and count of a usage limit; all 0 where there is none
 pub record Limits : Type 0 where
@@ -98,15 +105,19 @@ shownIn serial t = do
   (bits, s) ← spelled 4 cryptographicLength integer r
   (mask, u) ← spelled 4 cryptographicUsageMask integer s
   (state, v) ← spelled 4 stateTag enumeration u
-  (given, w) ← optional usageLimits limitsFirst v
-  (replaced, x) ← linkIn replacedObjectLink w
-  (replacement, y) ← linkIn replacementObjectLink x
-  ended y
+  (activation, w) ← optional activationDate (setDate activationDate) v
+  (deactivation, x) ← optional deactivationDate (setDate deactivationDate) w
+  (given, y) ← optional usageLimits limitsFirst x
+  (replaced, z) ← linkIn replacedObjectLink y
+  (replacement, after) ← linkIn replacementObjectLink z
+  ended after
   some (record {
     serial = serial;
     bits = bits;
     mask = mask;
     state = state;
+    activation = orUnset activation;
+    deactivation = orUnset deactivation;
     unit = orNoLimits given .unit;
     total = orNoLimits given .total;
     count = orNoLimits given .count;
@@ -252,13 +263,16 @@ serialOk serial = leb 1 serial && leb serial serialMost
 abbrev pub linkOk : ℕ → Bool
 linkOk serial = leb serial serialMost
 
--- "each success has its operation's payload with values in 01's ranges"
+-- "each success has its operation's payload with values in 01's ranges"; dates as a sound table has them
 unfoldable pub shownOk : Shown → Bool
 shownOk s =
     serialOk (s .serial)
     && bitsOk (s .bits)
     && maskOk (s .mask)
     && (leb 1 (s .state) && leb (s .state) 6)
+    && notNegative (s .activation)
+    && notNegative (s .deactivation)
+    && inOrder (s .activation) (s .deactivation)
     && ifb (eqb (s .unit) 0) (eqb (s .total) 0 && eqb (s .count) 0) (unitOk (s .unit) && totalOk (s .total) && leb (s .count) (s .total))
     && linkOk (s .replaced)
     && linkOk (s .replacement)
@@ -278,9 +292,9 @@ outcomeOk operation (Got key) = eqb operation get && keyOk key
 unfoldable pub answerOk : Answer → Bool
 answerOk a = ltb (a .operation) (2 ^ 32) && leb (length (a .id)) idMost && outcomeOk (a .operation) (a .outcome)
 
--- 1 to 16 answers, each allowed, and a clock of 64 bits
+-- 1 to 16 answers, each allowed, and a clock from 1 up
 unfoldable pub allowed : Response → Bool
-allowed r = ltb (r .clock) (2 ^ 64) && leb 1 (length (r .answers)) && leb (length (r .answers)) batchMost && all answerOk (r .answers)
+allowed r = aboveZero (r .clock) && leb 1 (length (r .answers)) && leb (length (r .answers)) batchMost && all answerOk (r .answers)
 
 -- a response, if it is allowed
 unfoldable pub ifAllowed : Response → Option Response

@@ -1,4 +1,4 @@
--- 01, "Response Message": the answers to a request as items. With `encode` it is the one spelling of a response.
+-- 01, "Response Message", and 02, L1 and L3: the answers to a request as items. With `encode` it is the one spelling of a response.
 -- Assumes nothing.
 use Prim.Native.Nat.{ℕ, _/_}
 use mathlib.Core.List.{List, [], _∷_}
@@ -8,7 +8,7 @@ use Rattle.octets.specs.If.{ifb}
 use Rattle.octets.specs.Octets.{be}
 use Rattle.ttlv_types.specs.Types.{integer, longInteger, enumeration, textString, byteString, dateTime}
 use Rattle.ttlv.specs.Items.{Items, nil, value, group}
-use Rattle.tags.specs.Tags.{batchCount, batchItem, operationTag, protocolVersion, protocolVersionMajor, protocolVersionMinor, uniqueBatchItemId, attributes, cryptographicAlgorithm, cryptographicLength, cryptographicUsageMask, keyBlock, keyFormatType, keyMaterial, keyValue, objectType, uniqueIdentifier, usageLimits, usageLimitsCount, usageLimitsTotal, usageLimitsUnit, link, linkType, linkedObjectIdentifier, responseHeader, responseMessage, responsePayload, resultReason, resultStatus, stateTag, symmetricKeyTag, timeStamp}
+use Rattle.tags.specs.Tags.{activationDate, batchCount, batchItem, operationTag, protocolVersion, protocolVersionMajor, protocolVersionMinor, uniqueBatchItemId, attributes, cryptographicAlgorithm, cryptographicLength, cryptographicUsageMask, deactivationDate, keyBlock, keyFormatType, keyMaterial, keyValue, objectType, uniqueIdentifier, usageLimits, usageLimitsCount, usageLimitsTotal, usageLimitsUnit, link, linkType, linkedObjectIdentifier, responseHeader, responseMessage, responsePayload, resultReason, resultStatus, stateTag, symmetricKeyTag, timeStamp}
 use Rattle.attributes_read.specs.Attributes.{aes}
 use Rattle.payload.specs.Payload.{symmetricKey}
 use Rattle.identifier.specs.Identifier.{identifier}
@@ -48,6 +48,10 @@ named tag serial rest = value tag textString (identifier serial) rest
 
 -- ---- payloads
 
+-- a date if it is set, and the rest
+unfoldable pub dateItems : ℕ → ℕ → Items → Items
+dateItems tag date rest = ifb (eqb date 0) rest (long tag dateTime date rest)
+
 -- "Usage Limits (total, count, unit) if any"
 unfoldable pub limitItems : Shown → Items → Items
 limitItems s rest =
@@ -71,16 +75,19 @@ linkItems kind serial rest =
     ifb (eqb serial 0) rest
     (group link (word linkType enumeration kind (named linkedObjectIdentifier serial nil)) rest)
 
--- "Attributes with algorithm, length, mask, State, Usage Limits if any, Links: 107 hex replaced, then 106 hex replacement"
+-- "Attributes with algorithm, length, mask, State, Usage Limits if any, Links: 107 hex replaced, then 106 hex replacement"; the dates
+-- "that are set, after State"
 unfoldable pub attributeItems : Shown → Items
 attributeItems s =
     word cryptographicAlgorithm enumeration aes
     (word cryptographicLength integer (s .bits)
     (word cryptographicUsageMask integer (s .mask)
     (word stateTag enumeration (s .state)
+    (dateItems activationDate (s .activation)
+    (dateItems deactivationDate (s .deactivation)
     (limitItems s
     (linkItems replacedObjectLink (s .replaced)
-    (linkItems replacementObjectLink (s .replacement) nil))))))
+    (linkItems replacementObjectLink (s .replacement) nil))))))))
 
 -- "Key Format Type Raw"
 abbrev pub raw : ℕ

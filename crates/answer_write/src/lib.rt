@@ -41,8 +41,8 @@ fn write_created(out: &mut [u8], serial: u32) -> usize
 
 // The payload of Get Attributes.
 fn write_showed(out: &mut [u8], shown: Shown) -> usize
-    requires { ⌜ 224 ≤ length (now out) ⌝ }
-    ensures { λ r. ⌜ Puts 224 (named uniqueIdentifier (shown .serial) (group attributes (attributeItems shown) nil)) (now (out .entry)) (now (out .exit)) r ⌝ }
+    requires { ⌜ 256 ≤ length (now out) ⌝ }
+    ensures { λ r. ⌜ Puts 256 (named uniqueIdentifier (shown .serial) (group attributes (attributeItems shown) nil)) (now (out .entry)) (now (out .exit)) r ⌝ }
 {
     let n = named_write::write_named(out, tags::UNIQUE_IDENTIFIER, shown.serial);
     let m = attributes_write::write_attributes(&mut out[n..], shown);
@@ -64,7 +64,7 @@ fn write_got(out: &mut [u8], key: Key) -> usize
 // The status of a success and the head of its payload, in front of the payload's n bytes. Each
 // caller shows that n is a length of items.
 fn write_success(out: &mut [u8], n: usize) -> usize
-    requires { ⌜ (24 + n ≤ length (now out)) × (n ≤ 224) × (n % 8 ≡ 0) ⌝ }
+    requires { ⌜ (24 + n ≤ length (now out)) × (n ≤ 256) × (n % 8 ≡ 0) ⌝ }
     ensures { λ r. ⌜ (r ≡ 24 + n) × Holds (opening n) (now (out .entry)) (now (out .exit)) 24 ⌝ }
 {
     ttlv_numbers::write_enumeration(out, tags::RESULT_STATUS, SUCCESS);
@@ -87,8 +87,8 @@ fn write_failure(out: &mut [u8], reason: Reason) -> usize
 
 // What became of an item: a reason, or a payload.
 fn write_outcome(out: &mut [u8], outcome: Outcome) -> usize
-    requires { ⌜ 248 ≤ length (now out) ⌝ }
-    ensures { λ r. ⌜ Puts 248 (outcomeItems outcome) (now (out .entry)) (now (out .exit)) r ⌝ }
+    requires { ⌜ 280 ≤ length (now out) ⌝ }
+    ensures { λ r. ⌜ Puts 280 (outcomeItems outcome) (now (out .entry)) (now (out .exit)) r ⌝ }
 {
     match outcome {
         Outcome::Failed { reason } => write_failure(out, reason),
@@ -127,8 +127,8 @@ fn write_id(out: &mut [u8], id: ItemId) -> usize
 }
 
 fn write_answer_items(out: &mut [u8], operation: u32, id: ItemId, outcome: Outcome) -> usize
-    requires { ⌜ (288 ≤ length (now out)) × (id .len ≤ idMost) ⌝ }
-    ensures { λ r. ⌜ Puts 288 (answerItems (answerOf operation id outcome)) (now (out .entry)) (now (out .exit)) r ⌝ }
+    requires { ⌜ (320 ≤ length (now out)) × (id .len ≤ idMost) ⌝ }
+    ensures { λ r. ⌜ Puts 320 (answerItems (answerOf operation id outcome)) (now (out .entry)) (now (out .exit)) r ⌝ }
 {
     ttlv_numbers::write_enumeration(out, tags::OPERATION, operation);
     let n = write_id(&mut out[16..], id);

@@ -1,23 +1,49 @@
 -- What the readers' answers say in the papers' terms: a part of Attributes that cannot be read is Invalid Field.
 -- Assumes nothing. The promises are of the answers themselves; these laws say what the definitions of the same name in specs give of them.
-use mathlib.Core.Path.{_≡_, refl}
+use Prim.Native.Nat.{ℕ}
+use mathlib.Core.Path.{_≡_, refl, sym, ap}
+use mathlib.Core.Bool.{true}
 use mathlib.Core.Option.{Option, none, some}
+use mathlib.Core.List.{List}
+use Rattle.ttlv.specs.Tree.{isRun, treeOf}
+use Rattle.fields.specs.Fields.{optional}
+use Rattle.tags.specs.Tags.{usageLimits}
 use Rattle.rules.specs.Tests.{readReason}
 use Rattle.rules.specs.declared.Attributes.{Attributes}
-use Rattle.attributes_read.specs.Attributes.{Limit}
-use Rattle.attributes_read.specs.Readers.{limitRead, limitsRead, attributesRead}
-use Rattle.attributes_read.specs.Reasons.{limitReason, attributesReason}
+use Rattle.attributes_read.specs.Attributes.{Limit, limitFirst, dateFirst}
+use Rattle.attributes_read.specs.Readers.{limitRead, limitsAt, dateAt, datesRead, attributesRead}
+use Rattle.attributes_read.specs.Reasons.{limitReason, limitsReason, dateReason, datesReason, attributesReason}
+use Rattle.attributes_read.specs.declared.LimitsRead.{LimitsRead}
+use Rattle.attributes_read.specs.declared.LimitsRead.the-variants.{Limits, InvalidField as InvalidLimits}
+use Rattle.attributes_read.specs.declared.DateRead.{DateRead}
+use Rattle.attributes_read.specs.declared.DateRead.the-variants.{Date, InvalidField as InvalidDate}
+use Rattle.attributes_read.proofs.Given.{limits-is, limits-not, date-is, date-not}
 
 pub limit-reason : (o : Option Limit) → limitReason (limitRead o) ≡ readReason o
 unfolding limitReason limitRead readReason
 limit-reason none = refl
 limit-reason (some limit) = refl
 
-pub limits-reason : (o : Option (Option Limit)) → limitReason (limitsRead o) ≡ readReason o
-unfolding limitReason limitsRead readReason
-limits-reason none = refl
-limits-reason (some none) = refl
-limits-reason (some (some limit)) = refl
+pub limits-reason : (s : List ℕ) (run : isRun s ≡ true) → limitsReason (limitsAt s) ≡ readReason (optional usageLimits limitFirst (treeOf s))
+unfolding limitsReason readReason
+limits-reason s run = go (limitsAt s) refl
+  where
+    go : (r : LimitsRead) → limitsAt s ≡ r → limitsReason r ≡ readReason (optional usageLimits limitFirst (treeOf s))
+    go (Limits unit total next) e = sym (ap readReason (limits-is s run e .read))
+    go InvalidLimits e = sym (ap readReason (limits-not s run e))
+
+pub date-reason : (s : List ℕ) (run : isRun s ≡ true) (tag : ℕ) → dateReason (dateAt s tag) ≡ readReason (optional tag (dateFirst tag) (treeOf s))
+unfolding dateReason readReason
+date-reason s run tag = go (dateAt s tag) refl
+  where
+    go : (r : DateRead) → dateAt s tag ≡ r → dateReason r ≡ readReason (optional tag (dateFirst tag) (treeOf s))
+    go (Date date next) e = sym (ap readReason (date-is s run tag e .read))
+    go InvalidDate e = sym (ap readReason (date-not s run tag e))
+
+pub dates-reason : (o : Option (ℕ × ℕ)) → datesReason (datesRead o) ≡ readReason o
+unfolding datesReason datesRead readReason
+dates-reason none = refl
+dates-reason (some (activation, deactivation)) = refl
 
 pub attributes-reason : (o : Option Attributes) → attributesReason (attributesRead o) ≡ readReason o
 unfolding attributesReason attributesRead readReason

@@ -1,7 +1,7 @@
 -- The attributes of a new key that bytes stand for, by what the readers of their parts answer: one law for each way through.
 -- Assumes nothing.
 use mathlib.Core.Path.{_≡_, refl, ap, ap₂, _∙_}
-use Prim.Native.Nat.{ℕ, _-_, _≤_}
+use Prim.Native.Nat.{ℕ, _≤_}
 use native.Mathlib.Omega.{arith}
 use mathlib.Core.Bool.{true, false, false≢true}
 use mathlib.Core.Option.{Option, none, some}
@@ -10,28 +10,25 @@ use lib.ListN.{length}
 use lib.Dec.{eqb}
 use borrow.Author.Tests.{eq-eqb, ne-eqb, eqb-true, leb-true}
 use Rattle.octets.specs.Maybe.{_>>=_, _>>_}
-use Rattle.octets.specs.Octets.{part}
-use Rattle.octets.proofs.If.{ifb-true, on-bool}
+use Rattle.octets.proofs.If.{on-bool}
 use Rattle.ttlv_types.specs.Types.{integer, longInteger, enumeration}
 use Rattle.ttlv.specs.Items.{Items, ended}
-use Rattle.ttlv.specs.Parse.{firstOf}
 use Rattle.ttlv.specs.Tree.{isRun, treeOf}
-use Rattle.fields.specs.Fields.{numberOf}
-use Rattle.fields.specs.Found.{startsIn, startsAt, numberAt, bodyAt}
+use Rattle.fields.specs.Fields.{numberOf, optional}
+use Rattle.fields.specs.Found.{numberAt}
 use Rattle.fields.specs.declared.NumberField.the-variants.{Number, NoNumber}
-use Rattle.fields.specs.declared.BodyField.the-variants.{Body, NoBody}
-use Rattle.fields.proofs.Lift.{ended-lifts, body-rest}
-use Rattle.fields.proofs.Runs.{tail, ended-yes, ended-not, body-some, body-none, optional-there, optional-absent}
-use Rattle.fields.proofs.Found.{body-first}
-use Rattle.values.specs.Values.{bitsOk, maskOk, unitOk, totalOk}
+use Rattle.fields.proofs.Runs.{tail, tail-ended, tail-more}
+use Rattle.values.specs.Values.{bitsOk, maskOk, unitOk, totalOk, inOrder}
 use Rattle.rules.specs.declared.Attributes.{Attributes}
-use Rattle.tags.specs.Tags.{cryptographicAlgorithm, cryptographicLength, cryptographicUsageMask, usageLimits, usageLimitsTotal, usageLimitsUnit}
-use Rattle.attributes_read.specs.Attributes.{aes, Limit, limitIn, limitFirst, wantedOf, limitsIn, maskedIn, attributesIn}
-use Rattle.last_field.specs.Last.{onlyBodyAt}
-use Rattle.attributes_read.specs.Readers.{limitRead, limitsRead, attributesRead}
-use Rattle.attributes_read.specs.declared.LimitRead.the-variants.{Limited, InvalidField as InvalidLimit}
+use Rattle.tags.specs.Tags.{activationDate, cryptographicAlgorithm, cryptographicLength, cryptographicUsageMask, deactivationDate, usageLimits, usageLimitsTotal, usageLimitsUnit}
+use Rattle.attributes_read.specs.Attributes.{aes, Limit, limitIn, limitFirst, dateFirst, orUnset, datesIn, wantedOf, limitedIn, maskedIn, attributesIn}
+use Rattle.attributes_read.specs.Readers.{limitsAt, dateAt, datesRead, attributesRead}
+use Rattle.attributes_read.specs.declared.LimitsRead.the-variants.{Limits, InvalidField as InvalidLimits}
+use Rattle.attributes_read.specs.declared.DateRead.the-variants.{Date, InvalidField as InvalidDate}
+use Rattle.attributes_read.specs.declared.DatesRead.the-variants.{Dates, InvalidField as InvalidDates}
 use Rattle.attributes_read.specs.declared.AttributesRead.the-variants.{Wanted, InvalidField as InvalidAttributes}
-use Rattle.last_field.proofs.Steps.{stops, goes, fails, holds, number-goes, number-stops, Whole, whole, other-body}
+use Rattle.last_field.proofs.Steps.{stops, goes, fails, holds, number-goes, number-stops}
+use Rattle.attributes_read.proofs.Given.{Given, wants, LimitIs, limits-is, limits-not, date-is, date-not}
 
 -- ---- a limit
 
@@ -56,89 +53,81 @@ module _ (s : List ℕ) (run : isRun s ≡ true) where
     unfolding limitIn
     limit-unit f = number-goes s run usageLimitsTotal longInteger refl e _ ∙ holds _ f
 
--- ---- Usage Limits, or nothing
-
-starts-empty : (s : List ℕ) (tag : ℕ) → length s ≡ 0 → startsAt s tag ≡ false
-unfolding startsAt startsIn firstOf
-starts-empty s tag e = ap (startsIn tag) (ifb-true _ _ _ (eq-eqb (length s) 0 e))
-
-starts-body : (s : List ℕ) (tag : ℕ) {next : ℕ} → bodyAt s tag ≡ Body next → startsAt s tag ≡ true
-unfolding startsAt startsIn
-starts-body s tag e = ap (startsIn tag) (body-first s tag e) ∙ eq-eqb tag tag refl
+-- ---- the dates
 
 module _ (s : List ℕ) (run : isRun s ≡ true) where
-  pub limits-empty : length s ≡ 0 → limitsIn (treeOf s) ≡ some none
-  unfolding limitsIn
-  limits-empty e =
-      goes _ (optional-absent s run usageLimits limitFirst (starts-empty s usageLimits e)) ∙ holds _ (ended-lifts s run ∙ eq-eqb (length s) 0 e)
+  pub dates-no-activation : dateAt s activationDate ≡ InvalidDate → datesIn (treeOf s) ≡ none
+  unfolding datesIn
+  dates-no-activation e = stops _ (date-not s run activationDate e)
 
-  -- with a structure at the front, whatever is behind it
-  limits-of : {next : ℕ} → bodyAt s usageLimits ≡ Body next → (o : Option Limit) → limitIn (treeOf (part s 8 (next - 8))) ≡ o
-      → limitsIn (treeOf s) ≡ (o >>= λ limit. ended (treeOf (tail s next)) >> some (some limit))
-  unfolding limitsIn limitFirst _>>=_
-  limits-of {next} e none i =
-      stops _ (optional-there s run usageLimits limitFirst (starts-body s usageLimits e) ∙ stops _ (goes _ (body-some s run usageLimits e) ∙ stops _ i))
-  limits-of {next} e (some limit) i =
-      goes _ (optional-there s run usageLimits limitFirst (starts-body s usageLimits e) ∙ goes _ (goes _ (body-some s run usageLimits e) ∙ goes _ i))
+  module _ {activation next : ℕ} (e : dateAt s activationDate ≡ Date activation next) where
+    pub activation-is : Given s (optional activationDate (dateFirst activationDate) (treeOf s)) next (λ given. orUnset given ≡ activation)
+    activation-is = date-is s run activationDate e
 
-  limits-none-first : bodyAt s usageLimits ≡ NoBody → limitFirst (treeOf s) ≡ none
-  unfolding limitFirst
-  limits-none-first e = stops _ (body-none s run usageLimits e)
+    pub dates-no-deactivation : dateAt (tail s next) deactivationDate ≡ InvalidDate → datesIn (treeOf s) ≡ none
+    unfolding datesIn
+    dates-no-deactivation f = goes _ (activation-is .read) ∙ stops _ (date-not (tail s next) (activation-is .behind) deactivationDate f)
 
-  limits-more : {next : ℕ} → bodyAt s usageLimits ≡ Body next → (next ≡ length s → ⊥) → (o : Option Limit) → limitIn (treeOf (part s 8 (next - 8))) ≡ o → limitsIn (treeOf s) ≡ none
-  unfolding _>>=_
-  limits-more e n none i = limits-of e none i
-  limits-more {next} e n (some limit) i =
-      limits-of e (some limit) i ∙ fails (some (some limit)) (ended-not s run (body-rest s run usageLimits e) n)
+    module _ {deactivation end : ℕ} (f : dateAt (tail s next) deactivationDate ≡ Date deactivation end) where
+      deactivation-is : Given (tail s next) (optional deactivationDate (dateFirst deactivationDate) (treeOf (tail s next))) end (λ given. orUnset given ≡ deactivation)
+      deactivation-is = date-is (tail s next) (activation-is .behind) deactivationDate f
 
-  pub limits-other : (length s ≡ 0 → ⊥) → onlyBodyAt s usageLimits ≡ NoBody → limitsIn (treeOf s) ≡ none
-  unfolding limitsIn
-  limits-other l h =
-      other-body s run usageLimits h
-      (λ e. on-bool (startsAt s usageLimits)
-      (λ y. stops _ (optional-there s run usageLimits limitFirst y ∙ stops _ (limits-none-first e)))
-      (λ n. goes _ (optional-absent s run usageLimits limitFirst n) ∙ fails _ (ended-lifts s run ∙ ne-eqb (length s) 0 l)))
-      (λ next e n. limits-more e n (limitIn (treeOf (part s 8 (next - 8)))) refl)
+      -- both dates are known: what is left is their order, and that nothing is behind them
+      dates-left : datesIn (treeOf s) ≡ (inOrder activation deactivation >> (ended (treeOf (tail (tail s next) end)) >> some (activation, deactivation)))
+      unfolding datesIn
+      dates-left =
+          goes _ (activation-is .read)
+          ∙ goes _ (deactivation-is .read)
+          ∙ ap₂ (λ (x : ℕ) (y : ℕ). inOrder x y >> (ended (treeOf (tail (tail s next) end)) >> some (x, y))) (activation-is .is) (deactivation-is .is)
 
-  pub limits-is : {next : ℕ} → onlyBodyAt s usageLimits ≡ Body next → limitsRead (limitsIn (treeOf s)) ≡ limitRead (limitIn (treeOf (part s 8 (next - 8))))
-  unfolding limitsRead limitRead _>>=_
-  limits-is {next} h = go (limitIn (treeOf (part s 8 (next - 8)))) refl
+      pub dates-wrong-order : inOrder activation deactivation ≡ false → datesIn (treeOf s) ≡ none
+      dates-wrong-order o = dates-left ∙ fails _ o
+
+      pub dates-more : inOrder activation deactivation ≡ true → (end ≡ length (tail s next) → ⊥) → datesIn (treeOf s) ≡ none
+      dates-more o n = dates-left ∙ holds _ o ∙ fails _ (tail-more (tail s next) end (deactivation-is .behind) (deactivation-is .within) n)
+
+      pub dates-are : inOrder activation deactivation ≡ true → end ≡ length (tail s next) → datesIn (treeOf s) ≡ some (activation, deactivation)
+      dates-are o l = dates-left ∙ holds _ o ∙ holds _ (tail-ended (tail s next) end (deactivation-is .behind) l)
+
+-- ---- behind the mask
+
+-- the attributes with the dates that were read
+abbrev pub withDates : ℕ → ℕ → ℕ → ℕ → Option (ℕ × ℕ) → Option Attributes
+withDates bits mask unit total o = o >>= λ (activation, deactivation). some (wants bits mask unit total activation deactivation)
+
+module _ (bits mask unit total : ℕ) where
+  pub dates-none : (o : Option (ℕ × ℕ)) → datesRead o ≡ InvalidDates → withDates bits mask unit total o ≡ none
+  unfolding datesRead _>>=_
+  dates-none none h = refl
+  dates-none (some (activation, deactivation)) h = let z : _≡_ {A = ℕ} 0 1 = cc in absurd (omega arith)
+
+  pub dates-some : (o : Option (ℕ × ℕ)) {activation deactivation : ℕ} → datesRead o ≡ Dates activation deactivation
+      → withDates bits mask unit total o ≡ some (wants bits mask unit total activation deactivation)
+  unfolding datesRead _>>=_
+  dates-some none h = let z : _≡_ {A = ℕ} 0 1 = cc in absurd (omega arith)
+  dates-some (some (a, d)) {activation} {deactivation} h =
+      let p : a ≡ activation = cc in
+      let q : d ≡ deactivation = cc in
+      ap₂ (λ (x : ℕ) (y : ℕ). some (wants bits mask unit total x y)) p q
+
+module _ (s : List ℕ) (run : isRun s ≡ true) (bits mask : ℕ) where
+  pub limited-none : limitsAt s ≡ InvalidLimits → limitedIn bits mask (treeOf s) ≡ none
+  unfolding limitedIn
+  limited-none e = stops _ (limits-not s run e)
+
+  -- the limit is known: what is left is the dates
+  pub limited-dates : {unit total next : ℕ} → limitsAt s ≡ Limits unit total next → limitedIn bits mask (treeOf s) ≡ withDates bits mask unit total (datesIn (treeOf (tail s next)))
+  unfolding limitedIn _>>=_
+  limited-dates {unit} {total} {next} e = goes _ (g .read) ∙ go (datesIn (treeOf (tail s next)))
     where
-      w : Whole s run usageLimits next
-      w = whole s run usageLimits h
+      g : Given s (optional usageLimits limitFirst (treeOf s)) next (LimitIs unit total)
+      g = limits-is s run e
 
-      go : (o : Option Limit) → limitIn (treeOf (part s 8 (next - 8))) ≡ o → limitsRead (limitsIn (treeOf s)) ≡ limitRead o
-      go none i = ap limitsRead (limits-of (w .found) none i)
-      go (some limit) i =
-          ap limitsRead (limits-of (w .found) (some limit) i ∙ holds (some (some limit)) (ended-yes s run (body-rest s run usageLimits (w .found)) (w .end)))
+      go : (o : Option (ℕ × ℕ)) → (o >>= λ (activation, deactivation). some (wantedOf bits mask (g .given) activation deactivation)) ≡ withDates bits mask unit total o
+      go none = refl
+      go (some (activation, deactivation)) = ap (λ (x : Attributes). some x) (g .is bits mask activation deactivation)
 
 -- ---- from the mask on
-
--- the attributes with the limit that was read
-abbrev pub withLimits : ℕ → ℕ → Option (Option Limit) → Option Attributes
-withLimits bits mask o = o >>= λ limit. some (wantedOf bits mask limit)
-
-abbrev wants : ℕ → ℕ → ℕ → ℕ → Attributes
-wants bits mask unit total = record { bits = bits; mask = mask; unit = unit; total = total }
-
-module _ (bits mask : ℕ) where
-  pub limits-none : (o : Option (Option Limit)) → limitsRead o ≡ InvalidLimit → withLimits bits mask o ≡ none
-  unfolding limitsRead _>>=_
-  limits-none none h = refl
-  limits-none (some none) h = let z : _≡_ {A = ℕ} 0 1 = cc in absurd (omega arith)
-  limits-none (some (some limit)) h = let z : _≡_ {A = ℕ} 0 1 = cc in absurd (omega arith)
-
-  pub limits-some : (o : Option (Option Limit)) {unit total : ℕ} → limitsRead o ≡ Limited unit total → withLimits bits mask o ≡ some (wants bits mask unit total)
-  unfolding limitsRead wantedOf _>>=_
-  limits-some none h = let z : _≡_ {A = ℕ} 0 1 = cc in absurd (omega arith)
-  limits-some (some none) {unit} {total} h =
-      let p : 0 ≡ unit = cc in
-      let q : 0 ≡ total = cc in
-      ap₂ (λ (x : ℕ) (y : ℕ). some (wants bits mask x y)) p q
-  limits-some (some (some limit)) {unit} {total} h =
-      let p : limit .unit ≡ unit = cc in
-      let q : limit .total ≡ total = cc in
-      ap₂ (λ (x : ℕ) (y : ℕ). some (wants bits mask x y)) p q
 
 module _ (s : List ℕ) (run : isRun s ≡ true) (bits : ℕ) where
   pub masked-no-mask : numberAt s cryptographicUsageMask integer ≡ NoNumber → maskedIn bits (treeOf s) ≡ none
@@ -150,9 +139,9 @@ module _ (s : List ℕ) (run : isRun s ≡ true) (bits : ℕ) where
     unfolding maskedIn
     masked-bad-mask f = number-goes s run cryptographicUsageMask integer refl e _ ∙ fails _ f
 
-    pub masked-limits : maskOk mask ≡ true → maskedIn bits (treeOf s) ≡ withLimits bits mask (limitsIn (treeOf (tail s next)))
+    pub masked-limited : maskOk mask ≡ true → maskedIn bits (treeOf s) ≡ limitedIn bits mask (treeOf (tail s next))
     unfolding maskedIn
-    masked-limits f = number-goes s run cryptographicUsageMask integer refl e _ ∙ holds _ f
+    masked-limited f = number-goes s run cryptographicUsageMask integer refl e _ ∙ holds _ f
 
 -- ---- Attributes
 

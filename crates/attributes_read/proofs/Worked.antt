@@ -12,7 +12,7 @@ use Rattle.ttlv.specs.Items.{encode, itemOk, wellFormed}
 use Rattle.ttlv.specs.Parse.{headed, firstOf, putValue, putGroup, more, walk, parse, isOne, message}
 use Rattle.fields.specs.Fields.{startsWith, bytesOf, bodyOf, numberOf, optional}
 use Rattle.rules.specs.declared.Attributes.{Attributes}
-use Rattle.attributes_read.specs.Attributes.{limitIn, limitFirst, wantedOf, limitsIn, maskedIn, attributesIn}
+use Rattle.attributes_read.specs.Attributes.{limitIn, limitFirst, dateFirst, orUnset, datesIn, wantedOf, limitedIn, maskedIn, attributesIn}
 
 -- the attributes that the bytes spell; none where they are no items
 attributesOf : Option Items → Option Attributes
@@ -21,14 +21,14 @@ attributesOf (some t) = attributesIn t
 
 -- the definitions that the cases compute with: who opens this opens them all
 opened : Unit {0}
-unfolding attributesOf ifb _>>=_ _>>_ isSome be fromBeAfter fromBe all same lengthOk text valueOk encode itemOk wellFormed headed firstOf putValue putGroup more walk parse isOne message startsWith ended bytesOf bodyOf numberOf optional limitIn limitFirst wantedOf limitsIn maskedIn attributesIn
+unfolding attributesOf ifb _>>=_ _>>_ isSome be fromBeAfter fromBe all same lengthOk text valueOk encode itemOk wellFormed headed firstOf putValue putGroup more walk parse isOne message startsWith ended bytesOf bodyOf numberOf optional limitIn limitFirst dateFirst orUnset datesIn wantedOf limitedIn maskedIn attributesIn
 opened = tt
 
-limited : attributesOf (parse 5 (hex "42002805 00000004 00000003 00000000 42002A02 00000004 00000080 00000000 42002C02 00000004 00000004 00000000 42009501 00000020 42009703 00000008 00000000 00000064 42009805 00000004 00000002 00000000")) ≡ some (record { bits = 128; mask = 4; unit = 2; total = 100 })
+limited : attributesOf (parse 5 (hex "42002805 00000004 00000003 00000000 42002A02 00000004 00000080 00000000 42002C02 00000004 00000004 00000000 42009501 00000020 42009703 00000008 00000000 00000064 42009805 00000004 00000002 00000000")) ≡ some (record { bits = 128; mask = 4; unit = 2; total = 100; activation = 0; deactivation = 0 })
 unfolding opened
 limited = refl
 
-unlimited : attributesOf (parse 5 (hex "42002805 00000004 00000003 00000000 42002A02 00000004 00000100 00000000 42002C02 00000004 0000000C 00000000")) ≡ some (record { bits = 256; mask = 12; unit = 0; total = 0 })
+unlimited : attributesOf (parse 5 (hex "42002805 00000004 00000003 00000000 42002A02 00000004 00000100 00000000 42002C02 00000004 0000000C 00000000")) ≡ some (record { bits = 256; mask = 12; unit = 0; total = 0; activation = 0; deactivation = 0 })
 unfolding opened
 unlimited = refl
 
@@ -36,3 +36,43 @@ unlimited = refl
 no-unit : attributesOf (parse 5 (hex "42002805 00000004 00000003 00000000 42002A02 00000004 00000080 00000000 42002C02 00000004 00000004 00000000 42009501 00000010 42009703 00000008 00000000 00000064")) ≡ none
 unfolding opened
 no-unit = refl
+
+-- both dates behind the limit
+dated : attributesOf (parse 5 (hex "42002805 00000004 00000003 00000000 42002A02 00000004 00000080 00000000 42002C02 00000004 00000004 00000000 42009501 00000020 42009703 00000008 00000000 00000064 42009805 00000004 00000002 00000000 42000109 00000008 00000000 00000005 42002F09 00000008 00000000 00000009")) ≡ some (record { bits = 128; mask = 4; unit = 2; total = 100; activation = 5; deactivation = 9 })
+unfolding opened
+dated = refl
+
+-- a deactivation date alone
+stopped : attributesOf (parse 5 (hex "42002805 00000004 00000003 00000000 42002A02 00000004 00000080 00000000 42002C02 00000004 00000004 00000000 42002F09 00000008 00000000 00000009")) ≡ some (record { bits = 128; mask = 4; unit = 0; total = 0; activation = 0; deactivation = 9 })
+unfolding opened
+stopped = refl
+
+-- equal dates are in order
+at-once : attributesOf (parse 5 (hex "42002805 00000004 00000003 00000000 42002A02 00000004 00000080 00000000 42002C02 00000004 00000004 00000000 42000109 00000008 00000000 00000005 42002F09 00000008 00000000 00000005")) ≡ some (record { bits = 128; mask = 4; unit = 0; total = 0; activation = 5; deactivation = 5 })
+unfolding opened
+at-once = refl
+
+-- the dates in the other order
+other-order : attributesOf (parse 5 (hex "42002805 00000004 00000003 00000000 42002A02 00000004 00000080 00000000 42002C02 00000004 00000004 00000000 42002F09 00000008 00000000 00000009 42000109 00000008 00000000 00000005")) ≡ none
+unfolding opened
+other-order = refl
+
+-- a deactivation before the activation
+too-early : attributesOf (parse 5 (hex "42002805 00000004 00000003 00000000 42002A02 00000004 00000080 00000000 42002C02 00000004 00000004 00000000 42000109 00000008 00000000 0000000A 42002F09 00000008 00000000 00000009")) ≡ none
+unfolding opened
+too-early = refl
+
+-- a date of 0
+at-zero : attributesOf (parse 5 (hex "42002805 00000004 00000003 00000000 42002A02 00000004 00000080 00000000 42002C02 00000004 00000004 00000000 42000109 00000008 00000000 00000000")) ≡ none
+unfolding opened
+at-zero = refl
+
+-- a date below 0
+below-zero : attributesOf (parse 5 (hex "42002805 00000004 00000003 00000000 42002A02 00000004 00000080 00000000 42002C02 00000004 00000004 00000000 42000109 00000008 FFFFFFFF FFFFFFFF")) ≡ none
+unfolding opened
+below-zero = refl
+
+-- a Long Integer where a date stands
+long-date : attributesOf (parse 5 (hex "42002805 00000004 00000003 00000000 42002A02 00000004 00000080 00000000 42002C02 00000004 00000004 00000000 42000103 00000008 00000000 00000005")) ≡ none
+unfolding opened
+long-date = refl

@@ -5,12 +5,30 @@ use Rattle.rules.specs.declared.Reason.{Reason}
 use Rattle.rules.specs.declared.Reason.the-variants.{InvalidField}
 use Rattle.attributes_read.specs.declared.LimitRead.{LimitRead}
 use Rattle.attributes_read.specs.declared.LimitRead.the-variants.{Limited, InvalidField as InvalidLimit}
+use Rattle.attributes_read.specs.declared.LimitsRead.{LimitsRead}
+use Rattle.attributes_read.specs.declared.LimitsRead.the-variants.{Limits, InvalidField as InvalidLimits}
+use Rattle.attributes_read.specs.declared.DateRead.{DateRead}
+use Rattle.attributes_read.specs.declared.DateRead.the-variants.{Date, InvalidField as InvalidDate}
+use Rattle.attributes_read.specs.declared.DatesRead.{DatesRead}
+use Rattle.attributes_read.specs.declared.DatesRead.the-variants.{Dates, InvalidField as InvalidDates}
 use Rattle.attributes_read.specs.declared.AttributesRead.{AttributesRead}
 use Rattle.attributes_read.specs.declared.AttributesRead.the-variants.{Wanted, InvalidField as InvalidAttributes}
 
 unfoldable pub limitReason : LimitRead → Option Reason
 limitReason (Limited unit total) = none
 limitReason InvalidLimit = some InvalidField
+
+unfoldable pub limitsReason : LimitsRead → Option Reason
+limitsReason (Limits unit total next) = none
+limitsReason InvalidLimits = some InvalidField
+
+unfoldable pub dateReason : DateRead → Option Reason
+dateReason (Date date next) = none
+dateReason InvalidDate = some InvalidField
+
+unfoldable pub datesReason : DatesRead → Option Reason
+datesReason (Dates activation deactivation) = none
+datesReason InvalidDates = some InvalidField
 
 unfoldable pub attributesReason : AttributesRead → Option Reason
 attributesReason (Wanted wanted) = none

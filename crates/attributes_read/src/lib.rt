@@ -7,16 +7,35 @@ use rules::Attributes;
 ghost use mathlib.Core.Path.{_≡_};
 ghost use mathlib.Core.Bool.{true};
 ghost use Rattle.ttlv.specs.Tree.{isRun, treeOf};
-ghost use Rattle.attributes_read.specs.Attributes.{limitIn, limitsIn, maskedIn, attributesIn};
-ghost use Rattle.attributes_read.specs.Readers.{limitRead, limitsRead, attributesRead};
+ghost use Rattle.attributes_read.specs.Attributes.{limitIn, datesIn, limitedIn, maskedIn, attributesIn};
+ghost use Rattle.attributes_read.specs.Readers.{limitRead, limitsAt, dateAt, datesRead, attributesRead};
 
 // The one algorithm: AES.
 const AES: u64 = 3;
 
-// A usage limit, with unit 0 and total 0 where there is none. Or something that is no limit by the
-// rules.
+// A usage limit, or something that is none by the rules.
 enum LimitRead {
     Limited { unit: u8, total: u64 },
+    InvalidField,
+}
+
+// Usage Limits at the front, with the rest of the run from next on; all 0 where none is given. Or
+// something that is no limit by the rules.
+enum LimitsRead {
+    Limits { unit: u8, total: u64, next: usize },
+    InvalidField,
+}
+
+// A date at the front, with the rest of the run from next on; both 0 where none is given. Or
+// something that is no date by the rules.
+enum DateRead {
+    Date { date: u64, next: usize },
+    InvalidField,
+}
+
+// Both dates, 0 where one is not given, or that they are not by the rules.
+enum DatesRead {
+    Dates { activation: u64, deactivation: u64 },
     InvalidField,
 }
 
@@ -57,18 +76,104 @@ fn read_limit(s: &[u8]) -> LimitRead
     }
 }
 
-// The items behind the mask: Usage Limits, or nothing.
-fn read_limits(s: &[u8]) -> LimitRead
+// Usage Limits, if it is given.
+fn read_limits(s: &[u8]) -> LimitsRead
     requires { ⌜ isRun (now s) ≡ true ⌝ }
-    ensures { λ r. ⌜ r ≡ limitsRead (limitsIn (treeOf (now (s .entry)))) ⌝ }
+    ensures { λ r. ⌜ r ≡ limitsAt (now (s .entry)) ⌝ }
 {
-    if s.len() == 0 {
-        return LimitRead::Limited { unit: 0, total: 0 };
+    if !fields::starts_with(s, tags::USAGE_LIMITS) {
+        return LimitsRead::Limits {
+            unit: 0,
+            total: 0,
+            next: 0,
+        };
     }
-    let BodyField::Body { next } = last_field::only_body(s, tags::USAGE_LIMITS) else {
-        return LimitRead::InvalidField;
+    let BodyField::Body { next } = fields::body_field(s, tags::USAGE_LIMITS) else {
+        return LimitsRead::InvalidField;
     };
-    read_limit(&s[8..next])
+    let LimitRead::Limited { unit, total } = read_limit(&s[8..next]) else {
+        return LimitsRead::InvalidField;
+    };
+    LimitsRead::Limits { unit, total, next }
+}
+
+// The date with this tag, if it is given.
+fn read_date(s: &[u8], tag: u32) -> DateRead
+    ensures { λ r. ⌜ r ≡ dateAt (now (s .entry)) tag ⌝ }
+{
+    if !fields::starts_with(s, tag) {
+        return DateRead::Date { date: 0, next: 0 };
+    }
+    let NumberField::Number { value: date, next } = fields::number_field(
+        s,
+        tag,
+        ttlv_types::DATE_TIME,
+    ) else {
+        return DateRead::InvalidField;
+    };
+    if !values::above_zero(date) {
+        return DateRead::InvalidField;
+    }
+    DateRead::Date { date, next }
+}
+
+// The items behind Usage Limits: the dates, and nothing behind them.
+fn read_dates(s: &[u8]) -> DatesRead
+    requires { ⌜ isRun (now s) ≡ true ⌝ }
+    ensures { λ r. ⌜ r ≡ datesRead (datesIn (treeOf (now (s .entry)))) ⌝ }
+{
+    let DateRead::Date {
+        date: activation,
+        next,
+    } = read_date(s, tags::ACTIVATION_DATE)
+    else {
+        return DatesRead::InvalidField;
+    };
+    let t = &s[next..];
+    let DateRead::Date {
+        date: deactivation,
+        next: end,
+    } = read_date(t, tags::DEACTIVATION_DATE)
+    else {
+        return DatesRead::InvalidField;
+    };
+    if !values::in_order(activation, deactivation) {
+        return DatesRead::InvalidField;
+    }
+    if end != t.len() {
+        return DatesRead::InvalidField;
+    }
+    DatesRead::Dates {
+        activation,
+        deactivation,
+    }
+}
+
+// The items behind the mask, with the length and the mask that stand in front of them.
+fn read_limited(s: &[u8], bits: u16, mask: u32) -> AttributesRead
+    requires { ⌜ isRun (now s) ≡ true ⌝ }
+    ensures { λ r. ⌜ r ≡ attributesRead (limitedIn bits mask (treeOf (now (s .entry)))) ⌝ }
+{
+    let LimitsRead::Limits { unit, total, next } = read_limits(s) else {
+        return AttributesRead::InvalidField;
+    };
+    let DatesRead::Dates {
+        activation,
+        deactivation,
+    } = read_dates(&s[next..])
+    else {
+        return AttributesRead::InvalidField;
+    };
+    AttributesRead::Wanted {
+        wanted: Attributes {
+            bits,
+            mask,
+            unit,
+            total,
+            activation,
+            deactivation,
+        },
+    }
 }
 
 // The items from the mask on, with the length that stands in front of them.
@@ -86,17 +191,7 @@ fn read_masked(s: &[u8], bits: u16) -> AttributesRead
     if !values::mask_ok(mask) {
         return AttributesRead::InvalidField;
     }
-    let LimitRead::Limited { unit, total } = read_limits(&s[next..]) else {
-        return AttributesRead::InvalidField;
-    };
-    AttributesRead::Wanted {
-        wanted: Attributes {
-            bits,
-            mask: mask as u32,
-            unit,
-            total,
-        },
-    }
+    read_limited(&s[next..], bits, mask as u32)
 }
 
 // The items of Attributes.

@@ -2,12 +2,14 @@
 // What a function asks is shown by its callers: here, or for `write_attributes` in the writer of
 // answers.
 ghost use Prim.Native.Nat.{_≤_};
+ghost use mathlib.Core.Path.{_≡_};
+ghost use mathlib.Core.Bool.{true};
 ghost use lib.ListN.{length};
 ghost use Rattle.ttlv_types.specs.Types.{integer, longInteger, enumeration};
 ghost use Rattle.ttlv.specs.Items.{nil, group};
-ghost use Rattle.tags.specs.Tags.{attributes, cryptographicAlgorithm, cryptographicLength, cryptographicUsageMask, usageLimitsCount, usageLimitsTotal, usageLimitsUnit, linkType, linkedObjectIdentifier, stateTag};
+ghost use Rattle.tags.specs.Tags.{tagOk, activationDate, attributes, cryptographicAlgorithm, cryptographicLength, cryptographicUsageMask, deactivationDate, usageLimitsCount, usageLimitsTotal, usageLimitsUnit, linkType, linkedObjectIdentifier, stateTag};
 ghost use Rattle.attributes_read.specs.Attributes.{aes};
-ghost use Rattle.answer.specs.Respond.{word, long, named, limitItems, linkItems, attributeItems, replacedObjectLink, replacementObjectLink};
+ghost use Rattle.answer.specs.Respond.{word, long, named, dateItems, limitItems, linkItems, attributeItems, replacedObjectLink, replacementObjectLink};
 ghost use Rattle.named_write.specs.Puts.{Puts};
 use plans::Shown;
 
@@ -64,6 +66,28 @@ fn write_always(out: &mut [u8], bits: u32, mask: u32, state: u32) -> usize
     64
 }
 
+// A date under a tag; nothing where it is 0, not set.
+fn write_date(out: &mut [u8], tag: u32, date: u64) -> usize
+    requires { ⌜ (16 ≤ length (now out)) × (tagOk tag ≡ true) ⌝ }
+    ensures { λ r. ⌜ Puts 16 (dateItems tag date nil) (now (out .entry)) (now (out .exit)) r ⌝ }
+{
+    if date == 0 {
+        return 0;
+    }
+    ttlv_numbers::write_date_time(out, tag, date);
+    16
+}
+
+// The dates that are set: the activation date, then the deactivation date.
+fn write_dates(out: &mut [u8], activation: u64, deactivation: u64) -> usize
+    requires { ⌜ 32 ≤ length (now out) ⌝ }
+    ensures { λ r. ⌜ Puts 32 (dateItems activationDate activation (dateItems deactivationDate deactivation nil)) (now (out .entry)) (now (out .exit)) r ⌝ }
+{
+    let n = write_date(out, tags::ACTIVATION_DATE, activation);
+    let m = write_date(&mut out[n..], tags::DEACTIVATION_DATE, deactivation);
+    n + m
+}
+
 // A usage limit; nothing where the unit is 0.
 fn write_limits(out: &mut [u8], shown: Shown) -> usize
     requires { ⌜ 56 ≤ length (now out) ⌝ }
@@ -89,20 +113,22 @@ fn write_links(out: &mut [u8], replaced: u32, replacement: u32) -> usize
 
 // All attributes of a key.
 fn write_attribute_items(out: &mut [u8], shown: Shown) -> usize
-    requires { ⌜ 200 ≤ length (now out) ⌝ }
-    ensures { λ r. ⌜ Puts 200 (attributeItems shown) (now (out .entry)) (now (out .exit)) r ⌝ }
+    requires { ⌜ 232 ≤ length (now out) ⌝ }
+    ensures { λ r. ⌜ Puts 232 (attributeItems shown) (now (out .entry)) (now (out .exit)) r ⌝ }
 {
     let n = write_always(out, shown.bits as u32, shown.mask, shown.state as u32);
-    let m = write_limits(&mut out[n..], shown);
+    let m = write_dates(&mut out[n..], shown.activation, shown.deactivation);
     let at = n + m;
-    let k = write_links(&mut out[at..], shown.replaced, shown.replacement);
-    at + k
+    let k = write_limits(&mut out[at..], shown);
+    let end = at + k;
+    let l = write_links(&mut out[end..], shown.replaced, shown.replacement);
+    end + l
 }
 
 // The structure Attributes of a key.
 pub fn write_attributes(out: &mut [u8], shown: Shown) -> usize
-    requires { ⌜ 208 ≤ length (now out) ⌝ }
-    ensures { λ r. ⌜ Puts 208 (group attributes (attributeItems shown) nil) (now (out .entry)) (now (out .exit)) r ⌝ }
+    requires { ⌜ 240 ≤ length (now out) ⌝ }
+    ensures { λ r. ⌜ Puts 240 (group attributes (attributeItems shown) nil) (now (out .entry)) (now (out .exit)) r ⌝ }
 {
     let n = write_attribute_items(&mut out[8..], shown);
     ttlv_put::write_structure(out, tags::ATTRIBUTES, n);

@@ -1,4 +1,4 @@
-// Answers the request on standard input, on a blank table with clock 0.
+// Answers the request on standard input, on a blank table with clock 1.
 fn main() {
     benchlib::run(0);
 }

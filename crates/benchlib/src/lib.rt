@@ -11,10 +11,13 @@ use table::Layout;
 // One byte above the longest request, so that a longer one is seen.
 const REQUEST_ROOM: usize = engine::REQUEST_MOST + 1;
 
+// "Document 01's card and bench program move to clock 1".
+const CLOCK: i64 = 1;
+
 // The last byte of the place count: all of a blank table that is not zero.
 const COUNT_BYTE: usize = Layout::PLACES_IN + 3;
 
-// "A blank table is 4,624 bytes, all zero but the place count".
+// "A blank table", 5,648 bytes since its bodies have dates, is "all zero but the place count".
 pub fn blank_table() -> [u8; Layout::SIZE]
     ensures { λ r. ⌜ r ≡ blank placeCount ⌝ }
 {
@@ -41,6 +44,6 @@ pub fn run(fd: i32) {
     let mut strip = [0u8; engine::STRIP_SIZE];
     fill_strip(&mut strip);
     let mut out = [0u8; engine::ROOM_LEAST];
-    let served = engine::serve(&request[..n], &mut table, &strip, 0, &mut out);
+    let served = engine::serve(&request[..n], &mut table, &strip, CLOCK, &mut out);
     printlib::answer(&out, served.number, served.length);
 }

@@ -5,6 +5,6 @@ use Rattle.table.specs.Layout.{placeCount, sizeOf}
 use Rattle.engine.specs.Effects.{roomLeast, stripSize}
 use Rattle.commands.specs.declared.Setting.{Setting}
 
--- as a blank table starts: clock 0, room, strip and table as 01 has them
+-- as a blank table starts: clock 1 (02, L3: "document 01's card and bench program move to clock 1"), room, strip and table of their sizes
 abbrev pub usualSetting : Setting
-usualSetting = record { clock = pos 0; room = roomLeast; strip = stripSize; size = sizeOf placeCount }
+usualSetting = record { clock = pos 1; room = roomLeast; strip = stripSize; size = sizeOf placeCount }

@@ -23,12 +23,12 @@ const OUTPUT_ROOM: usize = 8192;
 // What the output is full of at first.
 const UNTOUCHED: u8 = 255;
 
-// The setting that a blank table starts with: room, strip and table as large as 01 has them.
+// The setting that a blank table starts with: clock 1, and room, strip and table of their sizes.
 fn usual() -> Setting
     ensures { λ r. ⌜ r ≡ usualSetting ⌝ }
 {
     Setting {
-        clock: 0,
+        clock: 1,
         room: engine::ROOM_LEAST,
         strip: engine::STRIP_SIZE,
         size: Layout::SIZE,

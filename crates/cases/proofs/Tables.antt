@@ -11,10 +11,10 @@ use Rattle.octets.specs.Maybe.{isSome}
 use Rattle.octets.specs.Octets.{be, fromBe, fromBeAfter, all}
 use Rattle.table.specs.declared.Record.{Record}
 use Rattle.table.specs.Layout.{bodyStart, placeCount, zerosIn}
-use Rattle.table.specs.Records.{line, body, recordOf, placeAt, withPlace, serialAt, lastSerial, withLast, placesSaid, blank}
+use Rattle.table.specs.Records.{line, body, recordOf, placeAt, withPlace, serialAt, lastSerial, withLast, placesSaid, latestClock, withClock, blank}
 use Rattle.search.specs.Search.{firstFrom, isNothing, find}
-use Rattle.record_rules.specs.Rules.{stateRight, bitsRight, maskRight, limitRight, tailRight, wipedRight, replacedRight, replacementRight}
-use Rattle.soundness.specs.Sound.{sizeRight, countRight, leadRight, freeRight, zerosRight, distinctRight, issuedRight, ifStands, linksRight, breaksFree, breaksStanding, whole, atPlace, orLater, faultFrom, firstFault, sound}
+use Rattle.record_rules.specs.Rules.{stateRight, bitsRight, maskRight, limitRight, tailRight, wipedRight, replacedRight, replacementRight, datesRight, orderRight, startedRight}
+use Rattle.soundness.specs.Sound.{sizeRight, countRight, latestRight, freeRight, zerosRight, distinctRight, issuedRight, ifStands, linksRight, breaksFree, breaksStanding, whole, atPlace, orLater, faultFrom, firstFault, sound}
 
 -- a key of 128 bits with a limit of 100 objects
 abbrev key : ℕ → Record
@@ -29,6 +29,8 @@ key serial = record {
   count = 90;
   mask = 4;
   material = replicate 16 7 ++ replicate 16 0;
+  activation = 0;
+  deactivation = 0;
 }
 
 -- the same key, but for one value or two
@@ -44,6 +46,8 @@ withValues state bits mask count r = record {
   count = count;
   mask = mask;
   material = r .material;
+  activation = r .activation;
+  deactivation = r .deactivation;
 }
 
 abbrev withLinks : ℕ → ℕ → Record → Record
@@ -58,6 +62,8 @@ withLinks replaced replacement r = record {
   count = r .count;
   mask = r .mask;
   material = r .material;
+  activation = r .activation;
+  deactivation = r .deactivation;
 }
 
 abbrev withMaterial : List ℕ → Record → Record
@@ -72,6 +78,24 @@ withMaterial material r = record {
   count = r .count;
   mask = r .mask;
   material = material;
+  activation = r .activation;
+  deactivation = r .deactivation;
+}
+
+abbrev withDates : ℕ → ℕ → Record → Record
+withDates activation deactivation r = record {
+  serial = r .serial;
+  state = r .state;
+  unit = r .unit;
+  bits = r .bits;
+  replaced = r .replaced;
+  replacement = r .replacement;
+  total = r .total;
+  count = r .count;
+  mask = r .mask;
+  material = r .material;
+  activation = activation;
+  deactivation = deactivation;
 }
 
 -- four places, of which 1 and 2 hold keys; serials up to 3 have been issued
@@ -86,8 +110,7 @@ abbrev faulty : List (List ℕ)
 faulty =
     (good ++ (0 ∷ []))
     ∷ set good 7 5
-    ∷ set good 8 1
-    ∷ set good (bodyStart 4 3 + 55) 1
+    ∷ set good (bodyStart 4 3 + 71) 1
     ∷ set good (bodyStart 4 1 + zerosIn) 1
     ∷ pair (key 2) (key 2)
     ∷ pair (key 1) (key 4)
@@ -100,39 +123,47 @@ faulty =
     ∷ pair (key 1) (withLinks 2 0 (key 2))
     ∷ pair (withLinks 0 4 (key 1)) (key 2)
     ∷ pair (key 1) (withLinks 1 0 (key 2))
+    ∷ withClock (pair (withDates 0x8000000000000000 0 (key 1)) (key 2)) 1
+    ∷ withClock good 0x8000000000000000
+    ∷ withClock (pair (key 1) (withDates 9 8 (key 2))) 9
+    ∷ pair (withDates 1 0 (key 1)) (key 2)
     ∷ []
 
 -- what is wrong with each
 pub faults : map (firstFault 4) faulty
     ≡ some (whole 1)
     ∷ some (whole 2)
-    ∷ some (whole 3)
-    ∷ some (atPlace 4 3)
+    ∷ some (atPlace 3 3)
+    ∷ some (atPlace 4 1)
     ∷ some (atPlace 5 1)
-    ∷ some (atPlace 6 1)
-    ∷ some (atPlace 7 2)
-    ∷ some (atPlace 8 1)
-    ∷ some (atPlace 9 2)
-    ∷ some (atPlace 10 1)
-    ∷ some (atPlace 11 2)
-    ∷ some (atPlace 12 1)
+    ∷ some (atPlace 6 2)
+    ∷ some (atPlace 7 1)
+    ∷ some (atPlace 8 2)
+    ∷ some (atPlace 9 1)
+    ∷ some (atPlace 10 2)
+    ∷ some (atPlace 11 1)
+    ∷ some (atPlace 12 2)
     ∷ some (atPlace 13 2)
-    ∷ some (atPlace 14 2)
-    ∷ some (atPlace 15 1)
-    ∷ some (atPlace 16 2)
+    ∷ some (atPlace 14 1)
+    ∷ some (atPlace 15 2)
+    ∷ some (atPlace 16 1)
+    ∷ some (whole 17)
+    ∷ some (atPlace 18 2)
+    ∷ some (atPlace 19 1)
     ∷ []
-unfolding ifb be fromBe fromBeAfter all line body recordOf placeAt withPlace serialAt lastSerial withLast placesSaid blank firstFrom isNothing find sizeRight countRight leadRight freeRight zerosRight distinctRight issuedRight stateRight bitsRight maskRight limitRight tailRight wipedRight replacedRight replacementRight ifStands linksRight breaksFree breaksStanding orLater faultFrom firstFault
+unfolding ifb be fromBe fromBeAfter all line body recordOf placeAt withPlace serialAt lastSerial withLast placesSaid latestClock withClock blank firstFrom isNothing find sizeRight countRight latestRight freeRight zerosRight distinctRight issuedRight stateRight bitsRight maskRight limitRight tailRight wipedRight replacedRight replacementRight datesRight orderRight startedRight ifStands linksRight breaksFree breaksStanding orLater faultFrom firstFault
 faults = refl
 
--- tables with nothing wrong: two keys; a key and its replacement; a key whose replacement stands no more; one key; the table that the box starts with
+-- tables with nothing wrong: two keys; a key and its replacement; a key whose replacement stands no more; one key; keys with dates, one of them past its deactivation date; the table that the box starts with
 abbrev right : Bool
 right =
     sound 4 good
     && sound 4 (pair (withLinks 0 2 (key 1)) (withLinks 1 0 (key 2)))
     && sound 4 (pair (withLinks 0 3 (key 1)) (key 2))
     && sound 4 (withLast (withPlace 4 (blank 4) 3 (key 9)) 9)
+    && sound 4 (withClock (pair (withDates 7 8 (key 1)) (withDates 0 1 (key 2))) 7)
     && sound placeCount (blank placeCount)
 
 pub none-wrong : right ≡ true
-unfolding ifb isSome be fromBe fromBeAfter all line body recordOf placeAt withPlace serialAt lastSerial withLast placesSaid blank firstFrom isNothing find sizeRight countRight leadRight freeRight zerosRight distinctRight issuedRight stateRight bitsRight maskRight limitRight tailRight wipedRight replacedRight replacementRight ifStands linksRight breaksFree breaksStanding orLater faultFrom firstFault sound
+unfolding ifb isSome be fromBe fromBeAfter all line body recordOf placeAt withPlace serialAt lastSerial withLast placesSaid latestClock withClock blank firstFrom isNothing find sizeRight countRight latestRight freeRight zerosRight distinctRight issuedRight stateRight bitsRight maskRight limitRight tailRight wipedRight replacedRight replacementRight datesRight orderRight startedRight ifStands linksRight breaksFree breaksStanding orLater faultFrom firstFault sound
 none-wrong = refl

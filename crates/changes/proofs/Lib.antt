@@ -2,3 +2,4 @@
 -- Assumes nothing.
 pub mod Material
 pub mod Unique
+pub mod Sweep

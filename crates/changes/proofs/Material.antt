@@ -1,10 +1,10 @@
 -- Laws of material: the first bytes of a part of the fresh strip, then zeros, 32 in all; and what a move leaves of it.
 -- Assumes nothing.
-use mathlib.Core.Path.{_≡_, sym, ap, _∙_}
+use mathlib.Core.Path.{_≡_, sym, ap, _∙_, ap₂}
 use Prim.Native.Nat.{ℕ, _+_, _-_, _/_, _≤_, min}
 use native.Mathlib.Omega.{arith}
 use native.Mathlib.Decide.{decLe}
-use mathlib.Core.Bool.{true}
+use mathlib.Core.Bool.{true, Bool}
 use mathlib.Core.List.{List, _++_}
 use lib.ListN.{length, take, drop, replicate, length-append, length-take, length-replicate}
 use lib.Seq.{sets, length-take-le, take-append-le, take-append-add, take-take, drop-at}
@@ -16,8 +16,10 @@ use Rattle.octets.proofs.Stores.{take-there, sets-whole, sets-over}
 use Rattle.octets.proofs.Zeros.{zeros-pass, bytes-zeros, drop-zeros, part-zeros}
 use Rattle.table.specs.Layout.{materialSize}
 use Rattle.table.specs.declared.Record.{Record}
-use Rattle.rules.specs.Numbers.{destroy}
-use Rattle.changes.specs.Records.{materialFrom, inState, movedTo}
+use Rattle.rules.specs.Numbers.{destroy, activate}
+use Rattle.changes.specs.Records.{materialFrom, inState, movedTo, withDates, stops}
+use Rattle.octets.specs.If.{ifb}
+use lib.Dec.{eqb}
 
 abbrev pub zeros : ℕ → List ℕ
 zeros n = replicate n 0
@@ -84,12 +86,21 @@ module _ (bits : ℕ) (fresh : List ℕ) where
 
 -- ---- what a move leaves of it
 
-module _ (operation state : ℕ) (r : Record) where
-  -- "all 32 material bytes zeroed"
-  pub moved-destroy : operation ≡ destroy → movedTo operation state r ≡ inState state (zeros materialSize) r
-  unfolding movedTo
-  moved-destroy e = ap (λ (m : List ℕ). inState state m r) (ifb-true _ _ _ (eq-eqb operation destroy e))
+module _ (operation code clock state : ℕ) (r : Record) where
+  -- the record with these dates, in its state, with this material
+  abbrev left : ℕ → ℕ → List ℕ → Record
+  left activation deactivation material = withDates activation deactivation (inState state material r)
 
-  pub moved-other : (operation ≡ destroy → ⊥) → movedTo operation state r ≡ inState state (r .material) r
-  unfolding movedTo
-  moved-other h = ap (λ (m : List ℕ). inState state m r) (ifb-false _ _ _ (ne-eqb operation destroy h))
+  module _ {sets : Bool} {activation deactivation : ℕ} (a : activation ≡ ifb (eqb operation activate) clock (r .activation)) (s : sets ≡ stops operation code)
+      (d : deactivation ≡ ifb sets clock (r .deactivation)) where
+    dated : (material : List ℕ) → left activation deactivation material ≡ left (ifb (eqb operation activate) clock (r .activation)) (ifb (stops operation code) clock (r .deactivation)) material
+    dated material = ap₂ (λ (x y : ℕ). left x y material) a (d ∙ ap (λ (b : Bool). ifb b clock (r .deactivation)) s)
+
+    -- "all 32 material bytes zeroed"
+    pub moved-destroy : operation ≡ destroy → left activation deactivation (zeros materialSize) ≡ movedTo operation code clock state r
+    unfolding movedTo
+    moved-destroy e = dated (zeros materialSize) ∙ ap (left _ _) (sym (ifb-true _ _ _ (eq-eqb operation destroy e)))
+
+    pub moved-other : (operation ≡ destroy → ⊥) → left activation deactivation (r .material) ≡ movedTo operation code clock state r
+    unfolding movedTo
+    moved-other h = dated (r .material) ∙ ap (left _ _) (sym (ifb-false _ _ _ (ne-eqb operation destroy h)))

@@ -2,3 +2,4 @@
 -- Assumes nothing.
 pub mod Records
 pub mod Changes
+pub mod Dates

@@ -1,6 +1,7 @@
 -- 01, "Operations": how a record begins, is replaced, moves and is destroyed.
 -- Assumes nothing.
 use Prim.Native.Nat.{ℕ, _/_}
+use mathlib.Core.Bool.{Bool, not, _&&_}
 use mathlib.Core.List.{List, _++_}
 use lib.ListN.{take, replicate}
 use lib.Dec.{eqb}
@@ -8,13 +9,14 @@ use Rattle.octets.specs.If.{ifb}
 use Rattle.table.specs.declared.Record.{Record}
 use Rattle.table.specs.Layout.{materialSize}
 use Rattle.rules.specs.declared.Attributes.{Attributes}
-use Rattle.rules.specs.Numbers.{destroy, preActive}
+use Rattle.rules.specs.Numbers.{activate, revoke, destroy, preActive}
+use Rattle.rules.specs.States.{isCompromise}
 
 -- "the first length/8 of them": what is kept of a part of the fresh strip, zero past the length; 32 bytes, whatever the part is
 unfoldable pub materialFrom : ℕ → List ℕ → List ℕ
 materialFrom bits fresh = take materialSize (take (bits / 8) fresh ++ replicate materialSize 0)
 
--- "Starts Pre-Active, count = total, both link serials 0"
+-- "Starts Pre-Active, count = total, both link serials 0", with the dates asked for
 unfoldable pub newRecord : ℕ → Attributes → List ℕ → Record
 newRecord serial wanted fresh = record {
   serial = serial;
@@ -27,6 +29,8 @@ newRecord serial wanted fresh = record {
   count = wanted .total;
   mask = wanted .mask;
   material = materialFrom (wanted .bits) fresh;
+  activation = wanted .activation;
+  deactivation = wanted .deactivation;
 }
 
 -- "with attributes copied, new material, count = total, state Pre-Active": the replacement of `old`, which it names
@@ -42,6 +46,8 @@ heirOf serial old fresh = record {
   count = old .total;
   mask = old .mask;
   material = materialFrom (old .bits) fresh;
+  activation = old .activation;
+  deactivation = old .deactivation;
 }
 
 -- "linked both ways": the old record names its replacement
@@ -57,6 +63,8 @@ linkedTo serial r = record {
   count = r .count;
   mask = r .mask;
   material = r .material;
+  activation = r .activation;
+  deactivation = r .deactivation;
 }
 
 -- the record with a state and material
@@ -72,11 +80,36 @@ inState state material r = record {
   count = r .count;
   mask = r .mask;
   material = material;
+  activation = r .activation;
+  deactivation = r .deactivation;
 }
 
--- "all 32 material bytes zeroed, total and count kept" for Destroy; the others keep the material
-unfoldable pub movedTo : ℕ → ℕ → Record → Record
-movedTo operation state r = inState state (ifb (eqb operation destroy) (replicate materialSize 0) (r .material)) r
+-- the record with these dates
+unfoldable pub withDates : ℕ → ℕ → Record → Record
+withDates activation deactivation r = record {
+  serial = r .serial;
+  state = r .state;
+  unit = r .unit;
+  bits = r .bits;
+  replaced = r .replaced;
+  replacement = r .replacement;
+  total = r .total;
+  count = r .count;
+  mask = r .mask;
+  material = r .material;
+  activation = activation;
+  deactivation = deactivation;
+}
+
+-- "a non-compromise Revoke"
+abbrev pub stops : ℕ → ℕ → Bool
+stops operation code = eqb operation revoke && not (isCompromise code)
+
+-- "Activate and a non-compromise Revoke set their date to the clock"; "all 32 material bytes zeroed, total and count kept" for Destroy
+unfoldable pub movedTo : ℕ → ℕ → ℕ → ℕ → Record → Record
+movedTo operation code clock state r =
+    withDates (ifb (eqb operation activate) clock (r .activation)) (ifb (stops operation code) clock (r .deactivation))
+    (inState state (ifb (eqb operation destroy) (replicate materialSize 0) (r .material)) r)
 
 -- the record with a count
 unfoldable pub withCount : ℕ → Record → Record
@@ -91,4 +124,6 @@ withCount count r = record {
   count = count;
   mask = r .mask;
   material = r .material;
+  activation = r .activation;
+  deactivation = r .deactivation;
 }

@@ -2,7 +2,8 @@
 // grant leaves of it. They ask nothing. Whether a change is due is decided by rules; records are
 // those of the table crate.
 ghost use mathlib.Core.Path.{_≡_};
-ghost use Rattle.changes.specs.Records.{materialFrom, newRecord, heirOf, linkedTo, movedTo, withCount};
+ghost use Rattle.changes.specs.Records.{materialFrom, newRecord, heirOf, linkedTo, stops, movedTo, withCount};
+ghost use Rattle.octets.specs.If.{ifb};
 use rules::Attributes;
 use table::Record;
 
@@ -33,6 +34,8 @@ pub fn new_record(serial: u32, wanted: Attributes, fresh: &[u8]) -> Record
         count: wanted.total,
         mask: wanted.mask,
         material,
+        activation: wanted.activation,
+        deactivation: wanted.deactivation,
     }
 }
 
@@ -52,6 +55,8 @@ pub fn heir_of(serial: u32, old: Record, fresh: &[u8]) -> Record
         count: old.total,
         mask: old.mask,
         material,
+        activation: old.activation,
+        deactivation: old.deactivation,
     }
 }
 
@@ -64,12 +69,34 @@ pub fn linked_to(serial: u32, old: Record) -> Record
     linked
 }
 
-// The record in its next state; Destroy zeroes the material, and keeps total and count.
-pub fn moved_to(operation: u32, state: u8, old: Record) -> Record
-    ensures { λ r. ⌜ r ≡ movedTo operation state old ⌝ }
+// Whether an operation is a Revoke that is no compromise, which sets the deactivation date.
+fn stops(operation: u32, code: u32) -> bool
+    ensures { λ r. ⌜ r ≡ stops operation code ⌝ }
 {
+    (operation == rules::REVOKE) & !((code == 2) | (code == 3))
+}
+
+// A date that an operation sets to the clock, or leaves.
+fn date_after(sets: bool, clock: u64, date: u64) -> u64
+    ensures { λ r. ⌜ r ≡ ifb sets clock date ⌝ }
+{
+    if sets {
+        return clock;
+    }
+    date
+}
+
+// The record in its next state. Activate, and a Revoke that is no compromise, set their date to the
+// clock; Destroy zeroes the material, and keeps total and count.
+pub fn moved_to(operation: u32, code: u32, clock: u64, state: u8, old: Record) -> Record
+    ensures { λ r. ⌜ r ≡ movedTo operation code clock state old ⌝ }
+{
+    let activation = date_after(operation == rules::ACTIVATE, clock, old.activation);
+    let deactivation = date_after(stops(operation, code), clock, old.deactivation);
     let mut moved = old;
     moved.state = state;
+    moved.activation = activation;
+    moved.deactivation = deactivation;
     if operation == rules::DESTROY {
         moved.material = [0u8; 32];
     }

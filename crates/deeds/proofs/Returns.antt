@@ -7,16 +7,17 @@ use mathlib.Core.Option.{Option, none, some}
 use mathlib.Core.List.{List, []}
 use Rattle.octets.proofs.If.{ifb-true, ifb-false, on-bool}
 use Rattle.table.specs.declared.Record.{Record}
-use Rattle.table.specs.Records.{placeAt, withPlace}
+use Rattle.table.specs.Records.{placeAt, withPlace, latestClock}
 use Rattle.search.specs.Search.{isDestroyed}
 use Rattle.rules.specs.declared.Reason.{Reason}
-use Rattle.rules.specs.declared.Reason.the-variants.{ObjectDestroyed}
+use Rattle.rules.specs.declared.Reason.the-variants.{ObjectDestroyed, WrongKeyLifecycleState}
 use Rattle.rules.specs.declared.Next.{Next}
 use Rattle.rules.specs.declared.Next.the-variants.{To, Fails}
 use Rattle.rules.specs.declared.Granted.{Granted}
 use Rattle.rules.specs.declared.Granted.the-variants.{Left, Denied}
 use Rattle.rules.specs.Tests.{due}
 use Rattle.rules.specs.States.{moveTests, movedState, nextUnless, nextState, grantTests, leftUnless, granting}
+use Rattle.date_rules.specs.Dates.{isLate}
 use Rattle.changes.specs.Records.{movedTo, withCount}
 use Rattle.plans.specs.declared.Outcome.the-variants.{Done, Got}
 use Rattle.words.specs.declared.Words.{Words}
@@ -80,28 +81,40 @@ unfolding carried onNext nextUnless
 moved-by t did state none = refl
 moved-by t did state (some reason) = refl
 
-module _ (n holder : ℕ) (t : List ℕ) (operation code i : ℕ) (old : Record) (loaded : old ≡ placeAt n t i) (next : Next) (is : next ≡ nextState operation code (old .state)) where
-  abbrev moving : Record → Did
-  moving r = carriedOut t (movePlan n holder t operation code i r)
+module _ (n holder : ℕ) (t : List ℕ) (operation code i : ℕ) (old : Record) (loaded : old ≡ placeAt n t i) (clock : ℕ) (now : clock ≡ latestClock t)
+    (late : Bool) (told : late ≡ isLate operation clock (old .deactivation))
+  where
+    abbrev moving : Record → Did
+    moving r = carriedOut t (movePlan n holder t operation code i r)
 
-  -- what is stored in this state
-  abbrev stating : ℕ → Did
-  stating state = storing n holder t i (movedTo operation state old)
+    late-is : {b : Bool} → late ≡ b → isLate operation (latestClock t) (old .deactivation) ≡ b
+    late-is e = ap (λ (c : ℕ). isLate operation c (old .deactivation)) (sym now) ∙ sym told ∙ e
 
-  moved : moving (placeAt n t i) ≡ onNext t stating next
-  unfolding movePlan nextState
-  moved =
-      ap moving (sym loaded)
-      ∙ moved-by t stating (movedState operation code (old .state)) (due (moveTests operation code (old .state)))
-      ∙ ap (onNext t stating) (sym is)
+    pub move-late : late ≡ true → (r : Performed) → r ≡ failed WrongKeyLifecycleState → leaves r t ≡ moving (placeAt n t i)
+    unfolding movePlan
+    move-late l r e = fails t e ∙ sym (ap moving (sym loaded) ∙ fails-first t _ _ _ (late-is l))
 
-  pub moves : (state : ℕ) → next ≡ To state → (new : Record) → new ≡ movedTo operation state old → (done : Did) → done ≡ storing n holder t i new → done ≡ moving (placeAt n t i)
-  unfolding onNext
-  moves state m new w done e = e ∙ ap (storing n holder t i) w ∙ sym (moved ∙ ap (onNext t stating) m)
+    module _ (early : late ≡ false) (next : Next) (is : next ≡ nextState operation code (old .state)) where
+      -- what is stored in this state
+      abbrev stating : ℕ → Did
+      stating state = storing n holder t i (movedTo operation code (latestClock t) state old)
 
-  pub move-fails : (reason : Reason) → next ≡ Fails reason → (r : Performed) → r ≡ failed reason → leaves r t ≡ moving (placeAt n t i)
-  unfolding onNext
-  move-fails reason f r e = fails t e ∙ sym (moved ∙ ap (onNext t stating) f)
+      moved : moving (placeAt n t i) ≡ onNext t stating next
+      unfolding movePlan nextState
+      moved =
+          ap moving (sym loaded) ∙ goes-on t _ _ _ (late-is early)
+          ∙ moved-by t stating (movedState operation code (old .state)) (due (moveTests operation code (old .state)))
+          ∙ ap (onNext t stating) (sym is)
+
+      pub moves : (state : ℕ) → next ≡ To state → (new : Record) → new ≡ movedTo operation code clock state old → (done : Did) → done ≡ storing n holder t i new
+          → done ≡ moving (placeAt n t i)
+      unfolding onNext
+      moves state m new w done e =
+          e ∙ ap (storing n holder t i) (w ∙ ap (λ (c : ℕ). movedTo operation code c state old) now) ∙ sym (moved ∙ ap (onNext t stating) m)
+
+      pub move-fails : (reason : Reason) → next ≡ Fails reason → (r : Performed) → r ≡ failed reason → leaves r t ≡ moving (placeAt n t i)
+      unfolding onNext
+      move-fails reason f r e = fails t e ∙ sym (moved ∙ ap (onNext t stating) f)
 
 -- ---- a key handed out
 

@@ -1,12 +1,15 @@
 -- What is asked of the record at a place, each deed as the plan of its operations. Nothing here has to be believed: `act` shows that a command meets its own plan.
 -- Assumes nothing.
 use Prim.Native.Nat.{ℕ}
-use mathlib.Core.List.{List, []}
+use mathlib.Core.List.{List, [], _∷_}
 use Rattle.octets.specs.If.{ifb}
 use Rattle.table.specs.declared.Record.{Record}
+use Rattle.table.specs.Records.{latestClock}
 use Rattle.search.specs.Search.{isDestroyed}
-use Rattle.rules.specs.declared.Reason.the-variants.{ObjectDestroyed}
+use Rattle.rules.specs.declared.Reason.the-variants.{ObjectDestroyed, WrongKeyLifecycleState}
+use Rattle.rules.specs.Tests.{_⇒_}
 use Rattle.rules.specs.States.{moveTests}
+use Rattle.date_rules.specs.Dates.{isLate}
 use Rattle.plans.specs.declared.Outcome.the-variants.{Showed, Got}
 use Rattle.plans.specs.declared.Performed.{Performed}
 use Rattle.plans.specs.Plans.{Env, Did, Plan, failed, shownOf, keyOf, rekeyPlan, allocationPlan, showPlan, getPlan, changed, moved, inPlaces}
@@ -29,10 +32,10 @@ giving holder r = ifb (isDestroyed (r .state)) (failed ObjectDestroyed) (record 
 abbrev pub storing : ℕ → ℕ → List ℕ → ℕ → Record → Did
 storing n holder t i r = changed (inPlaces n []) holder t i r
 
--- Activate, Revoke and Destroy as one
+-- Activate, Revoke and Destroy as one; only an Activate can be late
 unfoldable pub movePlan : ℕ → ℕ → List ℕ → ℕ → ℕ → ℕ → Record → Plan
 movePlan n holder t operation code i r = record {
-  tests = moveTests operation code (r .state);
+  tests = isLate operation (latestClock t) (r .deactivation) ⇒ WrongKeyLifecycleState ∷ moveTests operation code (r .state);
   did = moved (inPlaces n []) holder t operation code i r;
 }
 

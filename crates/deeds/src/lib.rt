@@ -57,15 +57,19 @@ fn allocate_at(t: &mut [u8], n: usize, i: usize, holder: u32, amount: u64) -> Pe
     }
 }
 
-// Activate, Revoke or Destroy of the record at place i.
+// Activate, Revoke or Destroy of the record at place i, at the clock that the table keeps.
 fn move_at(t: &mut [u8], n: usize, i: usize, holder: u32, operation: u32, code: u32) -> Performed
     requires { ⌜ Place n (now t) i ⌝ }
     ensures { λ r. ⌜ leaves r (now (t .exit)) ≡ carriedOut (now (t .entry)) (movePlan n holder (now (t .entry)) operation code i (placeAt n (now (t .entry)) i)) ⌝ }
 {
     let old = records::load(t, n, i);
+    let clock = table::latest_clock(t);
+    if date_rules::is_late(operation, clock, old.deactivation) {
+        return plans::fail(Reason::WrongKeyLifecycleState);
+    }
     match rules::next_state(operation, code, old.state) {
         Next::To(state) => {
-            let moved = changes::moved_to(operation, state, old);
+            let moved = changes::moved_to(operation, code, clock, state, old);
             store_at(t, n, i, holder, moved)
         }
         Next::Fails(reason) => plans::fail(reason),
@@ -85,6 +89,8 @@ fn show_at(t: &[u8], n: usize, i: usize, holder: u32) -> Performed
                 bits: shown.bits,
                 mask: shown.mask,
                 state: shown.state,
+                activation: shown.activation,
+                deactivation: shown.deactivation,
                 unit: shown.unit,
                 total: shown.total,
                 count: shown.count,

@@ -14,13 +14,13 @@ use Rattle.octets.specs.Octets.{Bytes}
 use Rattle.octets.proofs.If.{ifb-true, ifb-false}
 use Rattle.table.specs.declared.Record.{Record}
 use Rattle.search.specs.declared.Found.the-variants.{At}
-use Rattle.table.specs.Records.{placeAt, lastSerial}
+use Rattle.table.specs.Records.{placeAt, lastSerial, latestClock}
 use Rattle.search.specs.Search.{find, isDestroyed}
 use Rattle.table.proofs.Places.{serial-is}
 use Rattle.search.proofs.Finds.{find-below, find-serial, find-nonzero}
 use Rattle.rules.specs.declared.Reason.{Reason}
 use Rattle.rules.specs.declared.Attributes.{Attributes}
-use Rattle.changes.specs.Records.{newRecord, heirOf, linkedTo, inState, movedTo, withCount}
+use Rattle.changes.specs.Records.{newRecord, heirOf, linkedTo, inState, withDates, movedTo, withCount}
 use Rattle.rules.specs.declared.Next.the-variants.{To}
 use Rattle.rules.specs.declared.Granted.the-variants.{Left}
 use Rattle.rules.specs.States.{nextState, granting}
@@ -56,7 +56,7 @@ no-issue (Destroy target) reason = refl
 no-issue (GetAttributes target) reason = refl
 no-issue (Get target) reason = refl
 
-no-grant : (x : ℕ) (c : Command) (reason : Reason) → grantBy x c (Failed reason) ≡ 0
+pub no-grant : (x : ℕ) (c : Command) (reason : Reason) → grantBy x c (Failed reason) ≡ 0
 unfolding grantBy
 no-grant x Unsupported reason = refl
 no-grant x Invalid reason = refl
@@ -75,7 +75,7 @@ move-issues activating o = refl
 move-issues revoking o = refl
 move-issues destroying o = refl
 
-move-grants : {c : Command} {operation code : ℕ} {target : Target} → Moving c operation code target → (x : ℕ) (o : Outcome) → grantBy x c o ≡ 0
+pub move-grants : {c : Command} {operation code : ℕ} {target : Target} → Moving c operation code target → (x : ℕ) (o : Outcome) → grantBy x c o ≡ 0
 unfolding grantBy
 move-grants activating x o = refl
 move-grants revoking x o = refl
@@ -288,15 +288,15 @@ module _ (env : Env) (holder : ℕ) (t : List ℕ) (held : Held (env .places) t)
       same-target q = ap (λ (c : Command). targetIn c target) q
 
   move-counted : {c : Command} {operation code : ℕ} {target : Target} (m : Moving c operation code target) (i next : ℕ) → find (env .places) t (sought holder target) ≡ At i
-      → nextState operation code (placeAt (env .places) t i .state) ≡ To next → Counts (env .places) t holder c (changed env holder t i (movedTo operation next (placeAt (env .places) t i)))
-  unfolding movedTo inState
+      → nextState operation code (placeAt (env .places) t i .state) ≡ To next → Counts (env .places) t holder c (changed env holder t i (movedTo operation code (latestClock t) next (placeAt (env .places) t i)))
+  unfolding movedTo withDates inState
   move-counted {c} {operation} {code} {target} m i next e g =
       let x = sought holder target in
       let r = placeAt (env .places) t i in
-      let did = changed env holder t i (movedTo operation next r) in
+      let did = changed env holder t i (movedTo operation code (latestClock t) next r) in
       let none : (y : ℕ) → grantBy y c (did .outcome) ≡ 0 = λ y. move-grants m y (did .outcome) in
       silent {did = did} (move-issues m (did .outcome))
-      (counted-edit (env .places) t _ i (movedTo operation next r) _ (λ y. grantBy y c (did .outcome)) _ (move-issues m (did .outcome))
+      (counted-edit (env .places) t _ i (movedTo operation code (latestClock t) next r) _ (λ y. grantBy y c (did .outcome)) _ (move-issues m (did .outcome))
       (moved-leaves (env .places) t held i (find-below (env .places) t x i e) (found-stands (env .places) t x i e) operation code next g)
       (record { serial = refl; total = refl; count = let z : grantBy (r .serial) c (did .outcome) ≡ 0 = none (r .serial) in omega arith })
       (λ j l d. none (placeAt (env .places) t j .serial)) (λ y. inl (none y)))
@@ -308,6 +308,6 @@ module _ (env : Env) (holder : ℕ) (t : List ℕ) (held : Held (env .places) t)
   kind-counts c did (creates wanted room) m = create-counted wanted (create-allowed m) room
   kind-counts c did (rekeys target i e alive none room) m = rekey-counted target i e alive room
   kind-counts c did (grants target amount i e g) m = grant-counted target amount i e g
-  kind-counts c did (moves v i next e g) m = move-counted v i next e g
+  kind-counts c did (moves v i next e late g) m = move-counted v i next e g
   kind-counts c did (shows target i e) m = silent {did = record { outcome = Showed (shownOf (placeAt (env .places) t i)); table = t; holder = holder }} refl (counted-same (env .places) t _ _ _ refl (λ x. refl))
   kind-counts c did (gets target i e alive) m = silent {did = record { outcome = Got (keyOf (placeAt (env .places) t i)); table = t; holder = holder }} refl (counted-same (env .places) t _ _ _ refl (λ x. refl))

@@ -1,16 +1,20 @@
 -- What demand 3 gives for the runs of any box that meets it: the books are in order at every point, and what is gone stays gone.
 -- Assumes nothing.
-use Prim.Native.Nat.{ℕ, _≤_}
+use Prim.Native.Nat.{ℕ, _≤_, _<_}
 use native.Mathlib.Omega.{arith}
-use mathlib.Core.Path.{_≡_, refl, sym, _∙_}
+use mathlib.Core.Path.{_≡_, refl, sym, ap, subst, _∙_}
 use mathlib.Core.Bool.{Bool, true, false}
 use mathlib.Core.List.{List, [], _∷_, _++_}
 use Rattle.table.specs.Layout.{placeCount}
-use Rattle.table.specs.Records.{blank}
+use Rattle.table.specs.declared.Record.{Record}
+use Rattle.table.specs.Records.{serialAt, blank}
+use Rattle.table.proofs.Places.{serial-is}
+use Rattle.changes.specs.Records.{inState}
 use Rattle.engine.specs.Effects.{Effect}
-use Rattle.demands.specs.Box.{Call, Box, Lent}
+use Rattle.demands.specs.Box.{Call, Box, Lent, counted}
 use Rattle.demands.specs.Log.{Event, commandOf, issuedBy, issued, granted, onto, logged}
-use Rattle.demands.specs.Demand3.{Run, begins, calls, Stands, takes, Tame, InOrder, Path, arrived, went, Demand3}
+use Rattle.demands.specs.Demand3.{Run, begins, calls, Stands, takes, Tame, DueOnly, InOrder, Path, arrived, went, Opens, accepted, refused, Demand3}
+use Rattle.demands.specs.Hope.{Later, here, further}
 use Rattle.demands.proofs.Logged.{granted-more, issued-now, issued-before}
 use Rattle.demands.proofs.Ordered.{inv-order}
 use Rattle.demands.proofs.Runs.{blank-books}
@@ -38,6 +42,16 @@ pub onto-append : (before later log : List Event) → onto (before ++ later) log
 unfolding onto
 onto-append [] later log = refl
 onto-append (ev ∷ before) later log = onto-append before later (ev ∷ log)
+
+-- a call whose number is 0 opens with what is due
+pub opens-due : {c : Call} {number : ℕ} {start : List ℕ} → Opens c number start → number ≡ 0 → DueOnly (counted c) (c .table) start
+opens-due (accepted due) e = due
+opens-due (refused h) e = absurd (h e)
+
+-- what is due leaves every identifier in its place
+pub due-serial : {clock : ℕ} (t u : List ℕ) → DueOnly clock t u → (i : ℕ) → i < placeCount → serialAt u i ≡ serialAt t i
+unfolding inState
+due-serial t u due i low = serial-is placeCount u i ∙ ap (λ (r : Record). r .serial) (due .others i low) ∙ sym (serial-is placeCount t i)
 
 -- x was issued, does not stand, and has so many units
 pub record Gone (x units : ℕ) (log : List Event) (t : List ℕ) : Type 0 where
@@ -70,15 +84,20 @@ module _ (x units : ℕ) (z : x ≡ 0 → ⊥) where
   path-gone arrived g = g
   path-gone {log} {t = t} (went ev u tame after rest) g = path-gone rest (item-gone log t u ev tame after g)
 
+  -- what is due does not bring it back
+  opens-gone : {log : List Event} {c : Call} {number : ℕ} {start : List ℕ} → Opens c number start → Gone x units log (c .table) → Gone x units log start
+  unfolding inState
+  opens-gone {c = c} (accepted {start} due) g = record {
+    once = g .once;
+    away = λ i s. g .away i (record { below = s .below; serial = sym (due-serial (c .table) start due i (s .below)) ∙ s .serial });
+    same = g .same;
+  }
+  opens-gone (refused h) g = g
+
 -- ---- along a run
 
--- a later point of the same run
-pub data Later (B : Box) (log : List Event) (t : List ℕ) : List Event → List ℕ → Type 0 where
-  here : Later B log t log t
-  further : {log′ : List Event} {t′ : List ℕ} (c : Call) (e : Effect) → Later B log t log′ t′ → c .table ≡ t′ → Lent c → B c e → Later B log t (logged c e log′) (e .table)
-
 -- it is a point of the run
-later-run : {B : Box} {log log′ : List Event} {t t′ : List ℕ} → Run B log t → Later B log t log′ t′ → Run B log′ t′
+pub later-run : {B : Box} {log log′ : List Event} {t t′ : List ℕ} → Run B log t → Later B log t log′ t′ → Run B log′ t′
 later-run r here = r
 later-run r (further c e l same lent b) = calls c e (later-run r l) same lent b
 
@@ -87,12 +106,14 @@ module _ (B : Box) (d : Demand3 B) where
   pub in-order : {log : List Event} {t : List ℕ} → Run B log t → InOrder log t
   unfolding logged
   in-order begins = inv-order [] (blank placeCount) (blank-books .inv) (blank-books .dead)
-  in-order (calls {log} {t} c e r same lent b) = path-order (d .path log t r c e same lent b) (in-order r)
+  in-order (calls {log} {t} c e r same lent b) = let g = d .goes log t r c e same lent b in path-order (g .path) (g .order)
 
   later-gone : (x units : ℕ) → (x ≡ 0 → ⊥) → {log log′ : List Event} {t t′ : List ℕ} → Run B log t → Gone x units log t → Later B log t log′ t′ → Gone x units log′ t′
   unfolding logged
   later-gone x units z r g here = g
-  later-gone x units z r g (further {log′} {t′} c e l same lent b) = path-gone x units z (d .path log′ t′ (later-run r l) c e same lent b) (later-gone x units z r g l)
+  later-gone x units z r g (further {log′} {t′} c e l same lent b) =
+      let goes = d .goes log′ t′ (later-run r l) c e same lent b in
+      path-gone x units z (goes .path) (opens-gone x units z (goes .opens) (subst (Gone x units log′) (sym same) (later-gone x units z r g l)))
 
   -- "Once a newer object has taken the place, that identifier is granted nothing more", whatever calls follow
   pub gone-for-good : (log : List Event) (t : List ℕ) → Run B log t → (x : ℕ) → (x ≡ 0 → ⊥) → 1 ≤ issued x log → ((i : ℕ) → Stands x t i → ⊥)

@@ -1,21 +1,25 @@
 -- The refusal ladder: the number of a call is the lowest whose condition holds, and a refusal touches nothing.
 -- Assumes nothing.
-use Prim.Native.Nat.{ℕ, zero, suc, _+_, _≤_, _<_}
+use Prim.Native.Nat.{ℕ, zero, suc, _+_, _^_, _≤_, _<_}
 use mathlib.Core.Path.{_≡_, refl, sym, ap, subst, _∙_}
 use mathlib.Core.Bool.{Bool, true, false, not, _||_}
 use mathlib.Core.Option.{Option, none, some}
 use mathlib.Core.List.{List, [], _∷_}
 use lib.ListN.{length}
-use lib.Dec.{ltb, eqb}
+use lib.Dec.{leb, ltb, eqb}
 use native.Mathlib.Omega.{arith}
-use borrow.Author.Tests.{ne-eqb, not-false}
+use native.Mathlib.Decide.{decLe}
+use borrow.Author.Tests.{eq-eqb, ne-eqb, le-leb, lt-leb, le-ltb, lt-ltb, not-false}
 use Rattle.octets.specs.If.{ifb}
-use Rattle.octets.proofs.If.{ifb-false, on-if}
+use Rattle.octets.proofs.If.{ifb-false, on-if, on-bool}
+use Rattle.octets.proofs.Bools.{and-no, and-second, or-l, or-r}
 use Rattle.octets.specs.Maybe.{_>>=_, isSome}
 use Rattle.ttlv.specs.Items.{Items}
 use Rattle.ttlv.specs.Parse.{message}
 use Rattle.table.specs.Layout.{placeCount}
+use Rattle.values.specs.Values.{aboveZero}
 use Rattle.soundness.specs.Sound.{sound}
+use Rattle.changes.specs.Dates.{countedClock, began}
 use Rattle.frame.specs.Frame.{Frame, Framed, Request, refused, asked, frameIn, framing, versionOk, countOk, optionOf, optionOk}
 use Rattle.engine.specs.Batch.{Ran, running}
 use Rattle.engine.specs.Effects.{Effect, roomLeast, stripSize, requestMost}
@@ -45,21 +49,37 @@ if-ap f false x y = refl
 
 -- ---- the number
 
--- the conditions of refusals 7 to 9 where there is a frame
+-- a clock below 1
+below-one : (clock : ℕ) → (eqb clock 0 || leb (2 ^ 63) clock) ≡ not (aboveZero clock)
+below-one clock = elim (decLe 1 clock) [
+  | yes h ↦ elim (decLe (2 ^ 63) clock) [
+    | yes k ↦ or-r (eqb clock 0) _ (le-leb (2 ^ 63) clock k) ∙ sym (ap not (and-second (leb 1 clock) (ltb clock (2 ^ 63)) (le-leb 1 clock h) ∙ le-ltb clock (2 ^ 63) k))
+    | no k ↦ rw (ne-eqb clock 0 (λ z. omega arith), lt-leb (2 ^ 63) clock (omega arith), le-leb 1 clock h, lt-ltb clock (2 ^ 63) (omega arith))
+  ]
+  | no h ↦ or-l (eqb clock 0) _ (eq-eqb clock 0 (omega arith)) ∙ sym (ap not (and-no (leb 1 clock) (ltb clock (2 ^ 63)) (lt-leb 1 clock (omega arith))))
+]
+
+-- refusal 10, tested last
+clock-number : (clock : ℕ) (x y : Effect) → x .number ≡ 0 → y .number ≡ 10 → ifb (aboveZero clock) x y .number ≡ lowest 10 ((eqb clock 0 || leb (2 ^ 63) clock) ∷ [])
+unfolding lowest ifb
+clock-number clock x y p q = on-bool (aboveZero clock) (λ e. rw (below-one clock, e) p) (λ e. rw (below-one clock, e) q)
+
+-- the conditions of refusals 7 to 10 where there is a frame
 framing-number : (clock : ℕ) (t strip out : List ℕ) (f : Frame)
     → carryOut clock t strip out (framing (some f)) .number
-    ≡ ifb (not (versionOk (f .header))) 7 (ifb (not (countOk f)) 8 (ifb (not (optionOk (optionOf (f .header .option)))) 9 0))
+    ≡ ifb (not (versionOk (f .header))) 7 (ifb (not (countOk f)) 8 (ifb (not (optionOk (optionOf (f .header .option)))) 9 (lowest 10 ((eqb clock 0 || leb (2 ^ 63) clock) ∷ []))))
 unfolding framing carryOut answered
 framing-number clock t strip out f =
     if-ap number (not (versionOk (f .header))) (refused 7) _
     ∙ ap (ifb (not (versionOk (f .header))) 7)
     (if-ap number (not (countOk f)) (refused 8) _
-    ∙ ap (ifb (not (countOk f)) 8) (if-ap number (not (optionOk (optionOf (f .header .option)))) (refused 9) _))
+    ∙ ap (ifb (not (countOk f)) 8) (if-ap number (not (optionOk (optionOf (f .header .option)))) (refused 9) _
+    ∙ ap (ifb (not (optionOk (optionOf (f .header .option)))) 9) (clock-number clock _ _ refl refl)))
   where
     number : Framed → ℕ
     number x = carryOut clock t strip out x .number
 
--- refusals 6 to 9, by what the message reads as
+-- refusals 6 to 10, by what the message reads as
 frame-number : (clock : ℕ) (t strip out : List ℕ) (o : Option Frame)
     → carryOut clock t strip out (framing o) .number
     ≡ lowest 6
@@ -67,6 +87,7 @@ frame-number : (clock : ℕ) (t strip out : List ℕ) (o : Option Frame)
     ∷ ofFrame (λ f. not (versionOk (f .header))) o
     ∷ ofFrame (λ f. not (countOk f)) o
     ∷ ofFrame (λ f. not (optionOk (optionOf (f .header .option)))) o
+    ∷ (eqb clock 0 || leb (2 ^ 63) clock)
     ∷ [])
 unfolding carryOut framing lowest isSome ofFrame ifb
 frame-number clock t strip out none = refl
@@ -86,6 +107,7 @@ none-early : (c : Call) → numbered c 0 ≡ lowest 6
     ∷ ofFrame (λ f. not (versionOk (f .header))) (frameOf c)
     ∷ ofFrame (λ f. not (countOk f)) (frameOf c)
     ∷ ofFrame (λ f. not (optionOk (optionOf (f .header .option)))) (frameOf c)
+    ∷ (eqb (c .clock) 0 || leb (2 ^ 63) (c .clock))
     ∷ [])
 unfolding ifb frameOf
 none-early c = frame-number (c .clock) (c .table) (c .strip) (c .output) (frameOf c)
@@ -123,15 +145,24 @@ pub record Accepted (c : Call) : Type 0 where
   pub framed : frameIn items ≡ some frame
   pub counted : countOk frame ≡ true
   pub asks : framing (some frame) ≡ asked (requestOf frame)
+  pub clock : aboveZero (c .clock) ≡ true
+
+-- the clock that counts, as the definitions of the engine have it
+abbrev pub counting : Call → ℕ
+counting c = countedClock (c .clock) (c .table)
+
+-- the table that the first item meets
+abbrev pub startOf : Call → List ℕ
+startOf c = began placeCount (counting c) (c .table)
 
 -- what an accepted call runs
 abbrev pub ranBy : (c : Call) → Accepted c → Ran
-ranBy c a = running placeCount (c .strip) (c .table) (requestOf (a .frame))
+ranBy c a = running placeCount (c .strip) (startOf c) (requestOf (a .frame))
 
 -- a call is turned away with a number that is not 0, or it is accepted and answered
 pub data Told (c : Call) : Effect → Type 0 where
   away : (k : ℕ) → Told c (turnedAway (c .table) (c .output) (suc k))
-  accepted : (a : Accepted c) → Told c (answered (c .clock) (c .output) (ranBy c a))
+  accepted : (a : Accepted c) → Told c (answered (counting c) (c .output) (ranBy c a))
 
 module _ (c : Call) where
   -- where the sizes and the table are right, the frame that the request was read as decides
@@ -147,7 +178,8 @@ module _ (c : Call) where
       (λ n. away 7)
       (λ counted. on-if (λ (x : Framed). Told c (carryOut (c .clock) (c .table) (c .strip) (c .output) x))
       (λ n. away 8)
-      (λ option. accepted (record {
+      (λ option. on-if (Told c)
+      (λ clock. accepted (record {
         room = room;
         strip = strip;
         right = right;
@@ -157,7 +189,9 @@ module _ (c : Call) where
         framed = e;
         counted = not-false (countOk f) counted;
         asks = ifb-false _ _ _ version ∙ ifb-false _ _ _ counted ∙ ifb-false _ _ _ option;
-      }))))
+        clock = clock;
+      }))
+      (λ n. away 9))))
 
   -- every call is turned away or answered
   pub told : Told c (served c)

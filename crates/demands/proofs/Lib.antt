@@ -1,4 +1,4 @@
--- Our box meets the demands, no box but ours meets the first two, and what the third gives for any box; what the demands are made of, worked out.
+-- Our box meets the demands, no box but ours meets the first two, what the third gives for any box, and the hope; what the demands are made of, worked out.
 -- Assumes nothing.
 pub mod Worked
 pub mod Chains
@@ -10,8 +10,12 @@ pub mod Tame
 pub mod Dead
 pub mod Ordered
 pub mod Paired
+pub mod Opened
 pub mod Runs
 pub mod Follows
 pub mod Meets3
 pub mod Serve
 pub mod Only
+pub mod Firm
+pub mod Idle
+pub mod Hoped

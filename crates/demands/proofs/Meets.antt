@@ -2,20 +2,27 @@
 -- Assumes nothing.
 use Prim.Native.Nat.{ℕ, _+_, _^_, _≤_, _<_}
 use native.Mathlib.Omega.{arith}
-use mathlib.Core.Path.{_≡_, refl, sym, ap, subst, _∙_}
+use native.Mathlib.Nat.{max-eq-left, max-eq-right}
+use mathlib.Core.Path.{_≡_, refl, sym, ap, ap₂, subst, _∙_}
 use mathlib.Core.Bool.{true, _&&_}
 use mathlib.Core.Option.{some}
 use mathlib.Core.List.{List}
 use lib.ListN.{length, take, drop}
 use lib.Seq.{take-at, drop-at}
 use lib.Dec.{leb, ltb, eqb}
-use borrow.Author.Tests.{leb-true, eqb-true, le-leb, lt-ltb}
+use borrow.Author.Tests.{leb-true, ltb-true, ltb-false, eqb-true, le-leb, lt-ltb}
 use Rattle.octets.specs.Octets.{over, all}
 use Rattle.octets.proofs.Over.{length-over}
 use Rattle.ttlv.specs.Items.{encode}
 use Rattle.ttlv.specs.Parse.{message}
 use Rattle.ttlv.proofs.Message.{message-spells}
 use Rattle.table.specs.Layout.{placeCount}
+use Rattle.table.specs.Records.{latestClock}
+use Rattle.values.specs.Values.{aboveZero}
+use Rattle.changes.specs.Dates.{ripened, countedClock}
+use Rattle.keeps.proofs.Keeps.{Held, facts}
+use Rattle.keeps.proofs.Dates.{keeps-began, began-last, began-latest, began-places}
+use Rattle.octets.proofs.If.{on-if}
 use Rattle.octets.proofs.Bools.{and-l, and-r, and-i}
 use Rattle.frame.specs.Frame.{framing, framed, optionOf, batchMost}
 use Rattle.batch_item.proofs.Bounds.{AllBounded}
@@ -29,13 +36,61 @@ use Rattle.engine.specs.Batch.{running}
 use Rattle.engine.specs.Effects.{Effect, roomLeast}
 use Rattle.engine.specs.Serving.{responseTo, answered}
 use Rattle.engine.proofs.Batches.{Leaves, batch-leaves}
-use Rattle.demands.specs.Box.{Call, Box, Lent}
+use Rattle.demands.specs.Box.{Call, Box, Lent, recordIn, counted}
 use Rattle.demands.specs.Demand1.{Demand1, Untouched, Within}
-use Rattle.demands.specs.Demand2.{Demand2, Answered, meant, refusalConditions, lowest}
+use Rattle.demands.specs.Demand2.{Demand2, Answered, Begins, meant, refusalConditions, lowest}
 use Rattle.demands.proofs.Chains.{batch-chain}
-use Rattle.demands.proofs.Ladder.{served, served-number, lowest-most, Accepted, requestOf, ranBy, Told, away, accepted, told}
+use Rattle.demands.proofs.Ladder.{served, served-number, lowest-most, Accepted, requestOf, counting, startOf, ranBy, Told, away, accepted, told}
+
+-- the clock that counts is the later one
+pub counting-is : (c : Call) → counting c ≡ counted c
+unfolding countedClock
+counting-is c =
+    on-if (λ (k : ℕ). k ≡ counted c)
+    (λ e. sym (max-eq-right (let h : c .clock < latestClock (c .table) = ltb-true (c .clock) (latestClock (c .table)) e in omega arith)))
+    (λ e. sym (max-eq-left (ltb-false (c .clock) (latestClock (c .table)) e)))
 
 module _ (c : Call) (lent : Lent c) (a : Accepted c) where
+  -- the table that it meets
+  pub held-lent : Held placeCount (c .table)
+  held-lent = record { right = a .right; bytes = lent .table }
+
+  clock-least : 1 ≤ c .clock
+  clock-least = leb-true 1 (c .clock) (and-l (leb 1 (c .clock)) (ltb (c .clock) (2 ^ 63)) (a .clock))
+
+  clock-most : c .clock < 2 ^ 63
+  clock-most = ltb-true (c .clock) (2 ^ 63) (and-r (leb 1 (c .clock)) (ltb (c .clock) (2 ^ 63)) (a .clock))
+
+  -- the clock that counts is no earlier than the latest, from 1 up, and fits
+  pub counting-later : latestClock (c .table) ≤ counting c
+  unfolding countedClock
+  counting-later = on-if (λ (k : ℕ). latestClock (c .table) ≤ k) (λ e. omega arith) (λ e. ltb-false (c .clock) (latestClock (c .table)) e)
+
+  pub counting-fits : counting c < 2 ^ 63
+  unfolding countedClock
+  counting-fits = on-if (λ (k : ℕ). k < 2 ^ 63) (λ e. facts placeCount (c .table) held-lent .latest) (λ e. clock-most)
+
+  counting-least : 1 ≤ counting c
+  unfolding countedClock
+  counting-least =
+      on-if (λ (k : ℕ). 1 ≤ k) (λ e. let h : c .clock < latestClock (c .table) = ltb-true (c .clock) (latestClock (c .table)) e in omega (arith, clock-least)) (λ e. clock-least)
+
+  pub counting-above : aboveZero (counting c) ≡ true
+  counting-above = and-i (leb 1 (counting c)) (ltb (counting c) (2 ^ 63)) (le-leb 1 (counting c) counting-least) (lt-ltb (counting c) (2 ^ 63) counting-fits)
+
+  -- the table that its first item meets
+  pub held-start : Held placeCount (startOf c)
+  held-start = keeps-began placeCount (c .table) held-lent (counting c) counting-later counting-fits
+
+  pub start-begins : Begins c (startOf c)
+  start-begins = record {
+    right = held-start .right;
+    bytes = held-start .bytes;
+    issued = began-last placeCount (c .table) held-lent (counting c) counting-later counting-fits;
+    latest = began-latest placeCount (c .table) held-lent (counting c) counting-later counting-fits ∙ counting-is c;
+    places = λ i low. began-places placeCount (c .table) held-lent (counting c) counting-later counting-fits i low ∙ ap (λ (k : ℕ). ripened k (recordIn (c .table) i)) (counting-is c);
+  }
+
   -- its items are bounded as the frame bounds them
   pub bounded : AllBounded (a .frame .items)
   unfolding framed
@@ -53,34 +108,34 @@ module _ (c : Call) (lent : Lent c) (a : Accepted c) where
       (omega arith, omega arith)
 
   -- what the batch of an accepted call leaves
-  pub ran-leaves : Leaves placeCount (c .strip) (optionOf (a .frame .header .option)) (lent .strip) (a .frame .items) (ranBy c a)
+  pub ran-leaves : Leaves placeCount (c .strip) (optionOf (a .frame .header .option)) (lent .strip) (startOf c) (a .frame .items) (ranBy c a)
   unfolding running
   ran-leaves =
-      batch-leaves placeCount (c .strip) (optionOf (a .frame .header .option)) (lent .strip) (a .frame .items) 0 0 (c .table)
-      (record { right = a .right; bytes = lent .table }) bounded (omega (arith, count-facts .1, a .strip))
+      batch-leaves placeCount (c .strip) (optionOf (a .frame .header .option)) (lent .strip) (a .frame .items) 0 0 (startOf c)
+      held-start bounded (omega (arith, count-facts .1, a .strip))
 
   -- its response is one that there is
-  pub ran-allowed : allowed (responseTo (c .clock) (ranBy c a)) ≡ true
+  pub ran-allowed : allowed (responseTo (counting c) (ranBy c a)) ≡ true
   unfolding allowed
   ran-allowed =
       let n = length (ranBy c a .answers) in
       and-i _ (all answerOk (ranBy c a .answers))
       (and-i _ (leb n batchMost)
-      (and-i (ltb (c .clock) (2 ^ 64)) (leb 1 n) (lt-ltb (c .clock) (2 ^ 64) (lent .clock)) (le-leb 1 n (ran-leaves .some (count-facts .0))))
+      (and-i (aboveZero (counting c)) (leb 1 n) counting-above (le-leb 1 n (ran-leaves .some (count-facts .0))))
       (le-leb n batchMost (omega (arith, ran-leaves .few, count-facts .1))))
       (ran-leaves .ok)
 
   -- the bytes of its response
   abbrev pub spelling : List ℕ
-  spelling = encode (respond (responseTo (c .clock) (ranBy c a)))
+  spelling = encode (respond (responseTo (counting c) (ranBy c a)))
 
   pub spelling-short : length spelling ≤ roomLeast
-  spelling-short = response-size (responseTo (c .clock) (ranBy c a)) ran-allowed
+  spelling-short = response-size (responseTo (counting c) (ranBy c a)) ran-allowed
 
   pub front-is : take (length spelling) (over spelling (c .output)) ≡ spelling
   front-is = take-at spelling (drop (length spelling) (c .output)) (length spelling) refl
 
-  within : Within c (answered (c .clock) (c .output) (ranBy c a))
+  within : Within c (answered (counting c) (c .output) (ranBy c a))
   unfolding answered
   within = record {
     short = spelling-short;
@@ -89,13 +144,13 @@ module _ (c : Call) (lent : Lent c) (a : Accepted c) where
     past = drop-at spelling (drop (length spelling) (c .output)) (length spelling) refl;
   }
 
-  given : Answered c (answered (c .clock) (c .output) (ranBy c a))
+  given : Answered c (answered (counting c) (c .output) (ranBy c a))
   unfolding answered running
   given =
       let option = optionOf (a .frame .header .option) in
-      let chained = batch-chain c option (a .frame .items) 0 0 (c .table) in
-      let r : Response = responseTo (c .clock) (ranBy c a) in
-      let same : r ≡ meant c option (chained .links) = ap (λ (rs : List Answer). record { clock = c .clock; answers = rs }) (sym (chained .answers)) in
+      let chained = batch-chain c option (a .frame .items) 0 0 (startOf c) in
+      let r : Response = responseTo (counting c) (ranBy c a) in
+      let same : r ≡ meant c option (chained .links) = ap₂ (λ (k : ℕ) (rs : List Answer). record { clock = k; answers = rs }) (counting-is c) (sym (chained .answers)) in
       let bytes : take (length spelling) (over spelling (c .output)) ≡ encode (respond (meant c option (chained .links))) = front-is ∙ ap (λ (q : Response). encode (respond q)) same in
       record {
         items = a .items;
@@ -103,12 +158,13 @@ module _ (c : Call) (lent : Lent c) (a : Accepted c) where
         reads = a .reads;
         spelled = message-spells (c .request) (a .items) (lent .request) (a .reads);
         framed = a .framed;
-        start = c .table;
+        start = startOf c;
         reached = ranBy c a .table;
         links = chained .links;
-        begins = refl;
+        begins = start-begins;
         chain = chained .chain;
         left = refl;
+        stored = ran-leaves .latest ∙ start-begins .latest;
         spelling = bytes;
         response = respond r;
         readable = ap message front-is ∙ response-message r ran-allowed;
@@ -143,7 +199,7 @@ module _ (B : Box) (is : (c : Call) (e : Effect) → Lent c → B c e → e ≡ 
     ends = has;
     numbered = λ c e lent b.
         let n : e .number ≡ lowest 1 (refusalConditions c) = ap (λ (x : Effect). x .number) (is c e lent b) ∙ served-number c in
-        let m : lowest 1 (refusalConditions c) < 1 + 9 = lowest-most 1 (refusalConditions c) (omega arith) in
+        let m : lowest 1 (refusalConditions c) < 1 + 10 = lowest-most 1 (refusalConditions c) (omega arith) in
         omega arith;
     refused = by-told (λ c e. (e .number ≡ 0 → ⊥) → Untouched c e) told-refused;
     answered = by-told (λ c e. e .number ≡ 0 → Within c e) told-within;

@@ -2,7 +2,7 @@
 -- Assumes nothing.
 use Prim.Native.Nat.{ℕ, suc, _+_, _≤_}
 use native.Mathlib.Omega.{arith}
-use mathlib.Core.Path.{_≡_, refl, sym, ap, subst, _∙_}
+use mathlib.Core.Path.{_≡_, refl, sym, ap, ap₂, subst, _∙_}
 use mathlib.Core.Bool.{not}
 use mathlib.Core.List.{List, [], _∷_, _++_, map}
 use lib.ListN.{length, take, drop, take-append-drop}
@@ -12,6 +12,10 @@ use Rattle.octets.specs.Octets.{over}
 use Rattle.octets.proofs.If.{ifb-true, ifb-false}
 use Rattle.octets.proofs.Maybe.{some-is}
 use Rattle.ttlv.specs.Items.{encode}
+use Rattle.table.specs.Layout.{placeCount}
+use Rattle.table.proofs.Same.{lead-same}
+use Rattle.soundness.proofs.SoundIs.{sound-is}
+use Rattle.soundness.proofs.Same.{sound-same}
 use Rattle.batch_item.specs.Item.{Asked}
 use Rattle.frame.specs.Frame.{Frame, frameIn, optionOf}
 use Rattle.plans.specs.Plans.{Did}
@@ -21,11 +25,11 @@ use Rattle.engine.specs.Effects.{Effect}
 use Rattle.engine.specs.Serving.{turnedAway, responseTo, answered}
 use Rattle.demands.specs.Box.{Call, Box, Lent}
 use Rattle.demands.specs.Demand1.{Demand1, Within}
-use Rattle.demands.specs.Demand2.{Demand2, Answered, Link, answerFor, linkAt, Chain, none-left, stops, goes-on}
+use Rattle.demands.specs.Demand2.{Demand2, Answered, Begins, Link, answerFor, linkAt, Chain, none-left, stops, goes-on}
 use Rattle.demands.specs.Demand3.{Demand3}
 use Rattle.demands.proofs.Chains.{ends-not, due-step, ranFrom}
-use Rattle.demands.proofs.Ladder.{served, same-effect, served-number, Accepted, ranBy, Told, away, accepted, told}
-use Rattle.demands.proofs.Meets.{front-is}
+use Rattle.demands.proofs.Ladder.{served, same-effect, served-number, Accepted, counting, startOf, ranBy, Told, away, accepted, told}
+use Rattle.demands.proofs.Meets.{counting-is, start-begins, front-is}
 use Rattle.demands.proofs.Meets3.{meets-3}
 use Rattle.demands.proofs.Serve.{Serve, serve-right}
 
@@ -50,22 +54,33 @@ module _ (c : Call) (option : ℕ) where
 
 -- ---- one effect
 
-module _ (c : Call) (e : Effect) (a : Accepted c) (g : Answered c e) where
-  same-frame : g .frame ≡ a .frame
+-- the table that the first item meets is the one that the definitions give
+start-same : (c : Call) → Lent c → Accepted c → (start : List ℕ) → Begins c start → start ≡ startOf c
+start-same c lent a start b =
+    let ours = start-begins c lent a in
+    let facts = sound-is placeCount start (b .right) in
+    let also = sound-is placeCount (startOf c) (ours .right) in
+    sound-same placeCount start (startOf c) (b .right) (ours .right) (b .bytes) (ours .bytes)
+    (lead-same placeCount start (startOf c) (facts .size) (also .size) (b .bytes) (ours .bytes)
+    (b .issued ∙ sym (ours .issued)) (facts .count ∙ sym (also .count)) (b .latest ∙ sym (ours .latest)))
+    (λ i low. b .places i low ∙ sym (ours .places i low))
+
+module _ (c : Call) (lent : Lent c) (e : Effect) (a : Accepted c) (g : Answered c e) where
+  pub same-frame : g .frame ≡ a .frame
   same-frame = some-is (sym (g .framed) ∙ ap frameIn (some-is (sym (g .reads) ∙ a .reads)) ∙ a .framed)
 
   ran-is : _≡_ {A = Ran} (record { answers = map answerFor (g .links); table = g .reached }) (ranBy c a)
   unfolding running
   ran-is =
       chain-one c (optionOf (a .frame .header .option))
-      (subst (λ (f : Frame). Chain c (optionOf (f .header .option)) 0 0 (c .table) (f .items) (g .links) (g .reached)) same-frame
-      (subst (λ (t : List ℕ). Chain c (optionOf (g .frame .header .option)) 0 0 t (g .frame .items) (g .links) (g .reached)) (g .begins) (g .chain)))
+      (subst (λ (f : Frame). Chain c (optionOf (f .header .option)) 0 0 (startOf c) (f .items) (g .links) (g .reached)) same-frame
+      (subst (λ (t : List ℕ). Chain c (optionOf (g .frame .header .option)) 0 0 t (g .frame .items) (g .links) (g .reached)) (start-same c lent a (g .start) (g .begins)) (g .chain)))
 
   abbrev due : Response
-  due = responseTo (c .clock) (ranBy c a)
+  due = responseTo (counting c) (ranBy c a)
 
   front : take (e .length) (e .output) ≡ encode (respond due)
-  front = g .spelling ∙ ap (λ (x : Ran). encode (respond (responseTo (c .clock) x))) ran-is
+  front = g .spelling ∙ ap₂ (λ (k : ℕ) (x : Ran). encode (respond (responseTo k x))) (sym (counting-is c)) ran-is
 
   module _ (w : Within c e) where
     long : e .length ≡ length (encode (respond due))
@@ -78,9 +93,9 @@ module _ (c : Call) (e : Effect) (a : Accepted c) (g : Answered c e) where
         ∙ ap (λ (s : List ℕ). encode (respond due) ++ s) (w .past)
         ∙ ap (λ (k : ℕ). encode (respond due) ++ drop k (c .output)) long
 
-    pub only-accepted : e .number ≡ 0 → e ≡ answered (c .clock) (c .output) (ranBy c a)
+    pub only-accepted : e .number ≡ 0 → e ≡ answered (counting c) (c .output) (ranBy c a)
     unfolding answered
-    only-accepted n = same-effect e (answered (c .clock) (c .output) (ranBy c a)) n long (g .left ∙ ap (λ (x : Ran). x .table) ran-is) out
+    only-accepted n = same-effect e (answered (counting c) (c .output) (ranBy c a)) n long (g .left ∙ ap (λ (x : Ran). x .table) ran-is) out
 
 -- ---- what demand 2 leaves of an accepted call
 
@@ -95,7 +110,7 @@ answered-due c e lent g n = let p = by-told (served c) (told c) n in record { ta
   where
     by-told : (f : Effect) → Told c f → f .number ≡ 0 → (e .table ≡ f .table) × (take (e .length) (e .output) ≡ take (f .length) (f .output))
     by-told f (away k) z = absurd (let q : suc k ≡ 0 = z in omega arith)
-    by-told f (accepted a) z = (g .left ∙ ap (λ (x : Ran). x .table) (ran-is c e a g), front c e a g ∙ sym (front-is c lent a))
+    by-told f (accepted a) z = (g .left ∙ ap (λ (x : Ran). x .table) (ran-is c lent e a g), front c lent e a g ∙ sym (front-is c lent a))
 
 -- ---- one box
 
@@ -105,7 +120,7 @@ module _ (B : Box) (d1 : Demand1 B) (d2 : Demand2 B) where
   by-told c e e′ lent b (away k) n =
       let u = d1 .refused c e lent b (λ z. (let q : suc k ≡ 0 = sym n ∙ z in omega arith)) in
       same-effect e (turnedAway (c .table) (c .output) (suc k)) n (u .length) (u .table) (u .output)
-  by-told c e e′ lent b (accepted a) n = only-accepted c e a (d2 .answered c e lent b n) (d1 .answered c e lent b n) n
+  by-told c e e′ lent b (accepted a) n = only-accepted c lent e a (d2 .answered c e lent b n) (d1 .answered c e lent b n) n
 
   -- "Number, length, output and table after a call follow from the inputs alone": a box that meets demands 1 and 2 leaves what the definitions say
   pub only-box : (c : Call) (e : Effect) → Lent c → B c e → e ≡ served c

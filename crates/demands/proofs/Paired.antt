@@ -52,7 +52,7 @@ kind-holder env holder t a c did (fails reason) m = refl
 kind-holder env holder t a c did (creates wanted room) m = refl
 kind-holder env holder t a c did (rekeys target i e alive single room) m = ifb-true (eqb (a .operation) rekey) _ holder (eq-eqb (a .operation) rekey (rekey-is m))
 kind-holder env holder t a c did (grants target amount i e g) m = ifb-false (eqb (a .operation) rekey) _ holder (ne-eqb (a .operation) rekey (allocation-not m))
-kind-holder env holder t a c did (moves v i next e g) m = ifb-false (eqb (a .operation) rekey) _ holder (ne-eqb (a .operation) rekey (move-not v m))
+kind-holder env holder t a c did (moves v i next e late g) m = ifb-false (eqb (a .operation) rekey) _ holder (ne-eqb (a .operation) rekey (move-not v m))
 kind-holder env holder t a c did (shows target i e) m = refl
 kind-holder env holder t a c did (gets target i e live) m = refl
 
@@ -125,7 +125,7 @@ module _ (strip : List ℕ) (option : ℕ) (strip-bytes : Bytes strip) where
       (eventOf holder asked (step (envAt placeCount strip i) holder t asked) ∷ log) (omega arith) after)
     where
       tame : Tame (eventOf holder asked (step (envAt placeCount strip i) holder t asked)) t (step (envAt placeCount strip i) holder t asked .table)
-      tame = step-tame strip i holder t asked (b .inv .held) (own-bytes placeCount strip option strip-bytes i (omega arith))
+      tame = step-tame strip i holder t asked (b .inv .held) (own-bytes placeCount strip option strip-bytes i (omega arith)) (own-long placeCount strip option strip-bytes i (omega arith))
 
       after : Books (eventOf holder asked (step (envAt placeCount strip i) holder t asked) ∷ log) (step (envAt placeCount strip i) holder t asked .table)
       after = step-books i holder t asked log (omega arith) b tame

@@ -26,12 +26,14 @@ use Rattle.engine.specs.Batch.{running}
 use Rattle.engine.specs.Effects.{Effect}
 use Rattle.engine.specs.Serving.{turnedAway, responseTo, answered}
 use Rattle.demands.specs.Box.{Call, Box, Lent}
-use Rattle.demands.specs.Log.{Event, orNoItems, orNoAnswers, itemsAsked, answersGiven, paired, eventsOf, logged, issued, granted, limit}
-use Rattle.demands.specs.Demand3.{Run, begins, calls}
-use Rattle.demands.proofs.Ladder.{served, Accepted, ranBy, Told, away, accepted, told}
-use Rattle.demands.proofs.Meets.{count-facts, ran-leaves, ran-allowed, spelling, front-is}
+use Rattle.demands.specs.Log.{Event, orNoItems, orNoAnswers, itemsAsked, answersGiven, paired, eventsOf, onto, logged, issued, granted, limit}
+use Rattle.demands.specs.Demand3.{Run, begins, calls, DueOnly, Opens, accepted as opens, refused, Goes}
+use Rattle.demands.proofs.Ladder.{served, Accepted, counting, startOf, ranBy, Told, away, accepted, told}
+use Rattle.demands.proofs.Meets.{counting-is, held-lent, counting-later, counting-fits, count-facts, ran-leaves, ran-allowed, spelling, front-is}
 use Rattle.demands.proofs.Logged.{Inv}
 use Rattle.demands.proofs.Dead.{none-dead}
+use Rattle.demands.proofs.Ordered.{inv-order}
+use Rattle.demands.proofs.Opened.{due-only, books-began}
 use Rattle.demands.proofs.Paired.{paired-end, Books, Travelled, stood, batch-travels}
 
 -- ---- the events of one call
@@ -59,31 +61,31 @@ module _ (c : Call) (lent : Lent c) (a : Accepted c) where
   unfolding orNoItems _>>=_
   items-are = ap (λ (m : Option Items). orNoItems (m >>= frameIn)) (a .reads) ∙ ap orNoItems (a .framed)
 
-  answers-are : answersGiven (answered (c .clock) (c .output) (ranBy c a)) ≡ ranBy c a .answers
+  answers-are : answersGiven (answered (counting c) (c .output) (ranBy c a)) ≡ ranBy c a .answers
   unfolding answered orNoAnswers _>>=_
   answers-are =
-      let r : Response = responseTo (c .clock) (ranBy c a) in
+      let r : Response = responseTo (counting c) (ranBy c a) in
       let g : (message (take (length (spelling c lent a)) (over (spelling c lent a) (c .output))) >>= answersIn) ≡ some r = ap (λ (s : List ℕ). message s >>= answersIn) (front-is c lent a) ∙ response-back r (ran-allowed c lent a) in
       ap orNoAnswers g
 
-  events-accepted : eventsOf c (answered (c .clock) (c .output) (ranBy c a)) ≡ paired 0 (a .frame .items) (ranBy c a .answers)
+  pub events-accepted : eventsOf c (answered (counting c) (c .output) (ranBy c a)) ≡ paired 0 (a .frame .items) (ranBy c a .answers)
   unfolding eventsOf
   events-accepted = ap (paired 0 (itemsAsked c)) answers-are ∙ ap (λ (is : List Asked). paired 0 is (ranBy c a .answers)) items-are
 
   -- no more answers than items
-  asked-accepted : length (answersGiven (answered (c .clock) (c .output) (ranBy c a))) ≤ length (itemsAsked c)
+  asked-accepted : length (answersGiven (answered (counting c) (c .output) (ranBy c a))) ≤ length (itemsAsked c)
   asked-accepted = omega (arith, ap (λ (is : List Asked). length is) items-are, ap (λ (answers : List Answer). length answers) answers-are, ran-leaves c lent a .few)
 
   -- the strip has its part for every item
-  strip-fits : materialSize * (0 + length (a .frame .items)) ≤ length (c .strip)
+  pub strip-fits : materialSize * (0 + length (a .frame .items)) ≤ length (c .strip)
   strip-fits = omega (arith, count-facts c lent a .1, a .strip)
 
-  -- so the call goes along them
-  accepted-travels : (log : List Event) → Books log (c .table) → Travelled log (c .table) (eventsOf c (answered (c .clock) (c .output) (ranBy c a))) (ranBy c a .table)
+  -- so the call goes along them, from the table in which what is due is done
+  accepted-travels : (log : List Event) → Books log (startOf c) → Travelled log (startOf c) (eventsOf c (answered (counting c) (c .output) (ranBy c a))) (ranBy c a .table)
   unfolding running
   accepted-travels log books =
-      subst (λ (events : List Event). Travelled log (c .table) events (ranBy c a .table)) (sym events-accepted)
-      (batch-travels (c .strip) (optionOf (a .frame .header .option)) (lent .strip) (a .frame .items) 0 0 (c .table) log strip-fits books)
+      subst (λ (events : List Event). Travelled log (startOf c) events (ranBy c a .table)) (sym events-accepted)
+      (batch-travels (c .strip) (optionOf (a .frame .header .option)) (lent .strip) (a .frame .items) 0 0 (startOf c) log strip-fits books)
 
 -- ---- the blank table
 
@@ -102,10 +104,29 @@ blank-books = record { inv = blank-inv; dead = none-dead (blank placeCount) }
 
 -- ---- runs of a box whose outcome is that of the definitions
 
-told-travels : (c : Call) (e : Effect) → Lent c → Told c e → (log : List Event) → Books log (c .table) → Travelled log (c .table) (eventsOf c e) (e .table)
+-- a call that goes, and the books behind it
+pub record Went (log : List Event) (c : Call) (e : Effect) : Type 0 where
+  pub goes : Goes log c e
+  pub books : Books (onto (eventsOf c e) log) (e .table)
+
+-- it opens, and travels along its events
+goes-on : (c : Call) (e : Effect) (start : List ℕ) (log : List Event) → Opens c (e .number) start → Books log start → Travelled log start (eventsOf c e) (e .table) → Went log c e
+goes-on c e start log begun books travelled = record {
+  goes = record { start = start; opens = begun; order = inv-order log start (books .inv) (books .dead); path = travelled .path };
+  books = travelled .books;
+}
+
+told-goes : (c : Call) (e : Effect) → Lent c → Told c e → (log : List Event) → Books log (c .table) → Went log c e
 unfolding answered
-told-travels c e lent (away k) log books = subst (λ (events : List Event). Travelled log (c .table) events (c .table)) (sym (events-away c (suc k))) (stood books)
-told-travels c e lent (accepted a) log books = accepted-travels c lent a log books
+told-goes c e lent (away k) log books =
+    goes-on c e (c .table) log (refused (λ z. omega arith)) books
+    (subst (λ (events : List Event). Travelled log (c .table) events (c .table)) (sym (events-away c (suc k))) (stood books))
+told-goes c e lent (accepted a) log books =
+    let later = counting-later c lent a in
+    let fits = counting-fits c lent a in
+    let due = due-only (c .table) (held-lent c lent a) (counting c) later fits in
+    let opened = books-began (c .table) (held-lent c lent a) (counting c) later fits log books in
+    goes-on c e (startOf c) log (opens (subst (λ (k : ℕ). DueOnly k (c .table) (startOf c)) (counting-is c) due)) opened (accepted-travels c lent a log opened)
 
 told-asked : (c : Call) (e : Effect) → Lent c → Told c e → length (answersGiven e) ≤ length (itemsAsked c)
 told-asked c e lent (away k) = asked-away c (suc k)
@@ -117,14 +138,11 @@ module _ (B : Box) (is : (c : Call) (e : Effect) → Lent c → B c e → e ≡ 
   call-asked c e lent b = subst (λ (x : Effect). length (answersGiven x) ≤ length (itemsAsked c)) (sym (is c e lent b)) (told-asked c (served c) lent (told c))
 
   -- each call goes along its events
-  pub call-travels : (c : Call) (e : Effect) → Lent c → B c e → (log : List Event) (t : List ℕ) → c .table ≡ t → Books log t → Travelled log t (eventsOf c e) (e .table)
-  call-travels c e lent b log t same books =
-      subst (λ (u : List ℕ). Travelled log u (eventsOf c e) (e .table)) same
-      (subst (λ (x : Effect). Travelled log (c .table) (eventsOf c x) (x .table)) (sym (is c e lent b))
-      (told-travels c (served c) lent (told c) log (subst (Books log) (sym same) books)))
+  pub call-goes : (c : Call) (e : Effect) → Lent c → B c e → (log : List Event) (t : List ℕ) → c .table ≡ t → Books log t → Went log c e
+  call-goes c e lent b log t same books = subst (Went log c) (sym (is c e lent b)) (told-goes c (served c) lent (told c) log (subst (Books log) (sym same) books))
 
   -- the books are right at every point of a run
   pub run-books : {log : List Event} {t : List ℕ} → Run B log t → Books log t
   unfolding logged
   run-books begins = blank-books
-  run-books (calls {log} {t} c e r same lent b) = call-travels c e lent b log t same (run-books r) .books
+  run-books (calls {log} {t} c e r same lent b) = call-goes c e lent b log t same (run-books r) .books

@@ -1,12 +1,13 @@
 -- What one item may do to the records: states change only by the listed transitions, a record leaves its place only by a take-over, and untouched records stay.
 -- Assumes nothing.
-use Prim.Native.Nat.{ℕ, _+_, _<_}
+use Prim.Native.Nat.{ℕ, _+_, _<_, _≤_}
 use native.Mathlib.Omega.{arith}
 use native.Mathlib.Decide.{ℕ-discrete}
 use mathlib.Core.Path.{_≡_, refl, sym, ap, subst, _∙_}
 use mathlib.Core.Logic.{⊎-elim}
 use mathlib.Core.Bool.{Bool, true, false, not, _&&_, _||_, true≢false, false≢true}
 use mathlib.Core.List.{List}
+use lib.ListN.{length}
 use lib.Dec.{eqb}
 use borrow.Author.Tests.{eqb-true, eq-eqb, ne-eqb}
 use Rattle.octets.specs.Octets.{Bytes}
@@ -14,14 +15,14 @@ use Rattle.octets.proofs.Bools.{and-i, and-no, or-l, or-r}
 use Rattle.table.specs.declared.Record.{Record}
 use Rattle.search.specs.declared.Found.{Found}
 use Rattle.search.specs.declared.Found.the-variants.{At}
-use Rattle.table.specs.Layout.{placeCount}
+use Rattle.table.specs.Layout.{placeCount, materialSize}
 use Rattle.table.specs.Records.{placeAt, serialAt, isFree, lastSerial}
 use Rattle.search.specs.Search.{find, newPlace, isDestroyed}
 use Rattle.table.proofs.Places.{serial-is, state-is}
 use Rattle.search.proofs.Finds.{find-below, new-at}
 use Rattle.soundness.specs.Checked.{isAt}
 use Rattle.rules.specs.Numbers.{preActive}
-use Rattle.changes.specs.Records.{newRecord, heirOf, linkedTo, inState, movedTo, withCount}
+use Rattle.changes.specs.Records.{newRecord, heirOf, linkedTo, inState, withDates, movedTo, withCount}
 use Rattle.rules.proofs.States.{three}
 use Rattle.rules.proofs.Moves.{Move, activates, compromises, compromises-destroyed, deactivates, destroys, destroys-compromised, move}
 use Rattle.keeps.proofs.Stores.{other}
@@ -35,6 +36,7 @@ use Rattle.plans.specs.Plans.{Env, Did, envAt, createPlan, rekeyPlan, shownOf, 
 use Rattle.act.specs.Act.{sought, step}
 use Rattle.act.proofs.Went.{Moving, activating, revoking, destroying, Kind, fails, creates, rekeys, grants, moves, shows, gets, step-kind}
 use Rattle.engine.specs.Batch.{answerTo}
+use Rattle.engine.proofs.Steps.{step-latest}
 use Rattle.engine.proofs.Commands.{Commanded, to-activate, to-revoke, to-destroy, commanded}
 use Rattle.demands.specs.Log.{Event, issuedBy, handedBy}
 use Rattle.demands.specs.Demand3.{namedBy, isUnderstood, movesState, asksKey, carries, codeOf, listed, Tame}
@@ -171,7 +173,7 @@ module _ (env : Env) (holder : ℕ) (t : List ℕ) (held : Held (env .places) t)
   here u q e = ap (placeAt n u) q ∙ e
 
   pub kind-tame : {operation : ℕ} (c : Command) (did : Did) → Kind env holder t c did → Commanded operation c → TameAt (env .places) holder t operation c did i
-  unfolding createPlan rekeyPlan newRecord heirOf linkedTo withCount movedTo inState namedBy movesState isFailed issuedBy
+  unfolding createPlan rekeyPlan newRecord heirOf linkedTo withCount movedTo withDates inState namedBy movesState isFailed issuedBy
   kind-tame c did (fails reason) m = stayed i refl (none-taken n t c did i (no-issue c reason)) (λ a f z. true≢false f)
   kind-tame c did (shows target k e) m = stayed i refl refl (λ a f z. false≢true z)
   kind-tame c did (gets target k e live) m = stayed i refl refl (λ a f z. false≢true z)
@@ -206,7 +208,7 @@ module _ (env : Env) (holder : ℕ) (t : List ℕ) (held : Held (env .places) t)
             touched i (ap (λ (x : Record). x .serial) r ∙ ap (λ (x : Record). x .serial) s) (ap (λ (x : Record). x .state) r ∙ ap (λ (x : Record). x .state) s)
             (is-at i k (find n t x) e p) refl refl)
       ]
-  kind-tame {operation} c did (moves {operation = op} {code} {target} v k next e g) m =
+  kind-tame {operation} c did (moves {operation = op} {code} {target} v k next e late g) m =
       let x = sought holder target in
       let st = moved-leaves n t held k (find-below n t x k e) (found-stands n t x k e) op code next g in
       let w = move-code holder v m in
@@ -236,7 +238,7 @@ kind-stands env holder t held fresh-bytes c did (rekeys target k e alive single 
     let b = heir-leaves (env .places) t held room (env .fresh) fresh-bytes k (find-below (env .places) t x k e) (found-stands (env .places) t x k e) alive in
     (b .place, b .below, ap (λ (r : Record). r .serial) (b .new))
 kind-stands env holder t held fresh-bytes c did (grants target amount k e g) m h = absurd (h refl)
-kind-stands env holder t held fresh-bytes c did (moves v k next e g) m h = absurd (h (move-issues v (did .outcome)))
+kind-stands env holder t held fresh-bytes c did (moves v k next e late g) m h = absurd (h (move-issues v (did .outcome)))
 kind-stands env holder t held fresh-bytes c did (shows target k e) m h = absurd (h refl)
 kind-stands env holder t held fresh-bytes c did (gets target k e live) m h = absurd (h refl)
 
@@ -249,12 +251,12 @@ module _ (env : Env) (holder : ℕ) (t : List ℕ) where
 
   kind-about : {operation : ℕ} (c : Command) (did : Did) → Kind env holder t c did → Commanded operation c → isFailed (did .outcome) ≡ false → issuedBy c (did .outcome) ≡ 0
       → (i : ℕ) × (i < env .places) × (isAt i (find (env .places) t (namedBy holder c)) ≡ true) × (carries (did .outcome) ≡ serialAt t i)
-  unfolding createPlan rekeyPlan withCount movedTo inState shownOf keyOf isFailed issuedBy namedBy carries
+  unfolding createPlan rekeyPlan withCount movedTo withDates inState shownOf keyOf isFailed issuedBy namedBy carries
   kind-about c did (fails reason) m f z = absurd (true≢false f)
   kind-about c did (creates wanted room) m f z = absurd (let y : lastSerial t + 1 ≡ 0 = z in omega arith)
   kind-about c did (rekeys target k e live single room) m f z = absurd (let y : lastSerial t + 1 ≡ 0 = z in omega arith)
   kind-about c did (grants target amount k e g) m f z = named-there c did (sought holder target) k e refl refl
-  kind-about c did (moves {target = target} v k next e g) m f z = named-there c did (sought holder target) k e (move-code holder v m .2) refl
+  kind-about c did (moves {target = target} v k next e late g) m f z = named-there c did (sought holder target) k e (move-code holder v m .2) refl
   kind-about c did (shows target k e) m f z = named-there c did (sought holder target) k e refl refl
   kind-about c did (gets target k e live) m f z = named-there c did (sought holder target) k e refl refl
 
@@ -271,7 +273,7 @@ kind-hands env holder t c did (fails reason) h = absurd (h refl)
 kind-hands env holder t c did (creates wanted room) h = absurd (h refl)
 kind-hands env holder t c did (rekeys target k e live single room) h = absurd (h refl)
 kind-hands env holder t c did (grants target amount k e g) h = absurd (h refl)
-kind-hands env holder t c did (moves v k next e g) h = absurd (h refl)
+kind-hands env holder t c did (moves v k next e late g) h = absurd (h refl)
 kind-hands env holder t c did (shows target k e) h = absurd (h refl)
 kind-hands env holder t c did (gets target k e live) h = refl
 
@@ -282,7 +284,7 @@ kind-alive env holder t c did (fails reason) i a f k = absurd (true≢false f)
 kind-alive env holder t c did (creates wanted room) i a f k = absurd (false≢true k)
 kind-alive env holder t c did (rekeys target j e live single room) i a f k = absurd (false≢true k)
 kind-alive env holder t c did (grants target amount j e g) i a f k = absurd (false≢true k)
-kind-alive env holder t c did (moves v j next e g) i a f k = absurd (true≢false (sym k ∙ moving-asks v))
+kind-alive env holder t c did (moves v j next e late g) i a f k = absurd (true≢false (sym k ∙ moving-asks v))
 kind-alive env holder t c did (shows target j e) i a f k = absurd (false≢true k)
 kind-alive env holder t c did (gets target j e live) i a f k = ap (λ (l : ℕ). isDestroyed (placeAt (env .places) t l .state)) (at-is i j _ e a) ∙ live
 
@@ -293,7 +295,7 @@ kind-failed env holder t c did (fails reason) h = refl
 kind-failed env holder t c did (creates wanted room) h = absurd (false≢true h)
 kind-failed env holder t c did (rekeys target k e alive single room) h = absurd (false≢true h)
 kind-failed env holder t c did (grants target amount k e g) h = absurd (false≢true h)
-kind-failed env holder t c did (moves v k next e g) h = absurd (false≢true h)
+kind-failed env holder t c did (moves v k next e late g) h = absurd (false≢true h)
 kind-failed env holder t c did (shows target k e) h = refl
 kind-failed env holder t c did (gets target k e live) h = refl
 
@@ -310,7 +312,7 @@ kind-understood env holder t c did (fails reason) h = refl
 kind-understood env holder t c did (creates wanted room) h = absurd (true≢false h)
 kind-understood env holder t c did (rekeys target k e alive single room) h = absurd (true≢false h)
 kind-understood env holder t c did (grants target amount k e g) h = absurd (true≢false h)
-kind-understood env holder t c did (moves v k next e g) h = absurd (true≢false (sym (moving-understood v) ∙ h))
+kind-understood env holder t c did (moves v k next e late g) h = absurd (true≢false (sym (moving-understood v) ∙ h))
 kind-understood env holder t c did (shows target k e) h = absurd (true≢false h)
 kind-understood env holder t c did (gets target k e live) h = absurd (true≢false h)
 
@@ -331,8 +333,8 @@ module _ (strip : List ℕ) (k holder : ℕ) (t : List ℕ) (asked : Asked) wher
   abbrev c : Command
   c = command (asked .operation) (asked .payload)
 
-  pub step-tame : Held placeCount t → Bytes (own .fresh) → Tame (eventOf holder asked did) t (did .table)
-  step-tame held fresh-bytes = record {
+  pub step-tame : Held placeCount t → Bytes (own .fresh) → materialSize ≤ length (own .fresh) → Tame (eventOf holder asked did) t (did .table)
+  step-tame held fresh-bytes long = record {
     operation = refl;
     id = refl;
     understood = kind-understood own holder t c did went;
@@ -346,6 +348,7 @@ module _ (strip : List ℕ) (k holder : ℕ) (t : List ℕ) (asked : Asked) wher
     about = λ f z. (let w = kind-about own holder t c did went (commanded (asked .operation) (asked .payload)) f z in record { place = w .0; below = w .1; named = w .2; serial = w .3 });
     hands = kind-hands own holder t c did went;
     alive = λ i low a f k. kind-alive own holder t c did went i a f k;
+    latest = step-latest own holder t held fresh-bytes long asked;
     grants = λ x z away. ⊎-elim (λ none. none) (λ h. absurd (away (h .place) (record { below = h .below; serial = serial-is placeCount t (h .place) ∙ h .serial }))) (counts .counted .granted x);
   }
     where

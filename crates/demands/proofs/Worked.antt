@@ -16,7 +16,8 @@ use Rattle.ttlv.specs.Parse.{headed, firstOf, putValue, putGroup, more, walk, p
 use Rattle.fields.specs.Fields.{startsWith, bytesOf, bodyOf, numberOf, optional}
 use Rattle.identifier.specs.Identifier.{digits, identifier, fromDigitsAfter, serialOf}
 use Rattle.table.specs.Layout.{placeCount}
-use Rattle.table.specs.Records.{line, body, recordOf, placeAt, withPlace, serialAt, stateAt, blank}
+use Rattle.table.specs.declared.Record.{Record}
+use Rattle.table.specs.Records.{line, body, recordOf, placeAt, withPlace, serialAt, stateAt, blank, latestClock}
 use Rattle.search.specs.declared.Found.the-variants.{At, Nothing}
 use Rattle.search.specs.Search.{firstFrom, orElse, find, freePlace, destroyedPlace, newPlace}
 use Rattle.soundness.specs.Checked.{isAt}
@@ -25,7 +26,7 @@ use Rattle.batch_item.specs.Item.{Asked}
 use Rattle.target_read.specs.declared.Target.the-variants.{Placeholder, Serial}
 use Rattle.payload.specs.declared.Command.{Command}
 use Rattle.payload.specs.declared.Command.the-variants.{Unsupported, Invalid, Create, Rekey, GetUsageAllocation, Activate, Revoke, Destroy, GetAttributes, Get}
-use Rattle.attributes_read.specs.Attributes.{limitIn, limitFirst, wantedOf, limitsIn, maskedIn, attributesIn}
+use Rattle.attributes_read.specs.Attributes.{limitIn, limitFirst, dateFirst, orUnset, datesIn, wantedOf, limitedIn, maskedIn, attributesIn}
 use Rattle.payload.specs.Payload.{createIn, aloneIn, allocationIn, revokeIn, orInvalid, command}
 use Rattle.target_read.specs.Target.{targetOf, targetIn}
 use Rattle.plans.specs.declared.Key.{Key}
@@ -34,10 +35,11 @@ use Rattle.plans.specs.declared.Outcome.the-variants.{Failed, Created, Done, Sh
 use Rattle.act.specs.Act.{sought}
 use Rattle.plans.specs.Plans.{isFailed}
 use Rattle.answer.specs.Respond.{Answer}
-use Rattle.demands.specs.Box.{Call}
-use Rattle.demands.specs.Demand2.{Link, counted, ofFrame, lowest, goesOn, linkAt, answerFor, answersFor}
+use Rattle.demands.specs.Box.{Call, counted}
+use Rattle.demands.specs.Demand2.{Link, ofFrame, lowest, goesOn, linkAt, answerFor, answersFor}
 use Rattle.demands.specs.Log.{Event, heldAfter, paired, orNoItems, orNoAnswers, onto, issuedBy, issued, grantBy, granted, limitBy, limit, handedBy, destroyedBy, wasDestroyed, handedDead}
-use Rattle.demands.specs.Demand3.{namedBy, isUnderstood, movesState, asksKey, carries, codeOf, names, takes, mayTake, bornState, listed, listedFor}
+use Rattle.demands.specs.Demand3.{namedBy, isUnderstood, movesState, asksKey, carries, codeOf, names, takes, mayTake, bornState, listed, listedFor, listedBy}
+use Rattle.demands.specs.Hope.{largest}
 
 -- ---- commands and outcomes
 
@@ -46,7 +48,7 @@ commands : List Command
 commands =
     Unsupported
     ∷ Invalid
-    ∷ Create (record { bits = 128; mask = 4; unit = 2; total = 100 })
+    ∷ Create (record { bits = 128; mask = 4; unit = 2; total = 100; activation = 0; deactivation = 0 })
     ∷ Rekey (Serial 7)
     ∷ GetUsageAllocation (Serial 7) 60
     ∷ Activate (Serial 7)
@@ -70,7 +72,7 @@ outcomes =
     Failed UsageLimitExceeded
     ∷ Created 8
     ∷ Done 8
-    ∷ Showed (record { serial = 8; bits = 128; mask = 4; state = 1; unit = 2; total = 100; count = 100; replaced = 0; replacement = 0 })
+    ∷ Showed (record { serial = 8; bits = 128; mask = 4; state = 1; activation = 0; deactivation = 0; unit = 2; total = 100; count = 100; replaced = 0; replacement = 0 })
     ∷ Got (key 8)
     ∷ []
 
@@ -144,6 +146,48 @@ stateCases =
     ∷ same (ways 0x0A 0) []
     ∷ []
 
+-- ---- dates, at clock 5
+
+-- a key in a state, with an activation and a deactivation date
+datedKey : ℕ → ℕ → ℕ → Record
+datedKey activation deactivation state = record {
+  serial = 7;
+  state = state;
+  unit = 0;
+  bits = 128;
+  replaced = 0;
+  replacement = 0;
+  total = 0;
+  count = 0;
+  mask = 4;
+  material = [];
+  activation = activation;
+  deactivation = deactivation;
+}
+
+-- the listed changes by these dates, as two digits
+dueTo : ℕ → ℕ → ℕ → List ℕ → List ℕ
+dueTo activation deactivation from [] = []
+dueTo activation deactivation from (to ∷ later) =
+    let rest = dueTo activation deactivation from later in ifb (listedBy 5 (datedKey activation deactivation from) to) ((from * 10 + to) ∷ rest) rest
+
+dueFrom : ℕ → ℕ → List ℕ → List ℕ
+dueFrom activation deactivation [] = []
+dueFrom activation deactivation (from ∷ later) = dueTo activation deactivation from eight ++ dueFrom activation deactivation later
+
+dateCases : List Bool
+dateCases =
+    -- a date that is not set does nothing, one that is to come neither, and one of now acts
+    same (dueFrom 0 0 eight) []
+    ∷ same (dueFrom 6 7 eight) []
+    ∷ same (dueFrom 5 0 eight) (12 ∷ [])
+    ∷ same (dueFrom 5 6 eight) (12 ∷ [])
+    ∷ same (dueFrom 0 5 eight) (23 ∷ [])
+    ∷ same (dueFrom 4 5 eight) (12 ∷ 13 ∷ 23 ∷ [])
+    -- the largest of some clocks
+    ∷ same (largest [] ∷ largest (4 ∷ []) ∷ largest (3 ∷ 9 ∷ 5 ∷ []) ∷ []) (0 ∷ 4 ∷ 9 ∷ [])
+    ∷ []
+
 -- ---- a log
 
 -- the items that bytes are
@@ -179,7 +223,7 @@ answers =
     ∷ answering 0x11 (Failed UsageLimitExceeded)
     ∷ answering 0x04 (Done 2)
     ∷ answering 0x11 (Done 2)
-    ∷ answering 0x0B (Showed (record { serial = 2; bits = 128; mask = 4; state = 1; unit = 2; total = 100; count = 90; replaced = 1; replacement = 0 }))
+    ∷ answering 0x0B (Showed (record { serial = 2; bits = 128; mask = 4; state = 1; activation = 0; deactivation = 0; unit = 2; total = 100; count = 90; replaced = 1; replacement = 0 }))
     ∷ answering 0x04 (Done 3)
     ∷ answering 0x14 (Done 3)
     ∷ []
@@ -254,7 +298,7 @@ logCases =
 
 -- a table with one key, identifier 7 at place 1 in a state
 keyed : ℕ → List ℕ
-keyed state = withPlace placeCount (blank placeCount) 1 (record { serial = 7; state = state; unit = 0; bits = 128; replaced = 0; replacement = 0; total = 0; count = 0; mask = 4; material = replicate 32 0 })
+keyed state = withPlace placeCount (blank placeCount) 1 (record { serial = 7; state = state; unit = 0; bits = 128; replaced = 0; replacement = 0; total = 0; count = 0; mask = 4; material = replicate 32 0; activation = 0; deactivation = 0 })
 
 activating : Event
 activating = record { held = 7; asked = asking 0x12 []; answer = answering 0x12 (Done 7) }
@@ -288,9 +332,13 @@ placeCases =
 
 -- ---- refusals, and the items of a call
 
--- a call with clock 9 and a strip of 7s for item 0 and 8s for item 1
+-- a call with clock 9 on a table whose latest clock is 7, and a strip of 7s for item 0 and 8s for item 1
 call : Call
-call = record { request = []; table = []; strip = replicate 32 7 ++ replicate 32 8; clock = 9; output = [] }
+call = record { request = []; table = hex "00000000 00000040 00000000 00000007"; strip = replicate 32 7 ++ replicate 32 8; clock = 9; output = [] }
+
+-- the same with clock 5
+before : Call
+before = record { request = []; table = call .table; strip = []; clock = 5; output = [] }
 
 -- item 1, with an ID of its own
 second : Link
@@ -303,9 +351,9 @@ callCases =
     -- under Continue (1) a batch goes on behind each outcome, under Stop (2) not behind a failure
     ∷ same (map (λ o. flag (goesOn 1 o)) outcomes) (1 ∷ 1 ∷ 1 ∷ 1 ∷ 1 ∷ [])
     ∷ same (map (λ o. flag (goesOn 2 o)) outcomes) (0 ∷ 1 ∷ 1 ∷ 1 ∷ 1 ∷ [])
-    -- item 1 takes bytes 32 to 63 of the strip and the placeholder, the clock that counts is the call's, and the answer has its operation and ID
+    -- item 1 takes bytes 32 to 63 of the strip and the placeholder, the clock that counts is the later one, and the answer has its operation and ID
     ∷ same (second .env .fresh) (replicate 32 8)
-    ∷ same (second .holder ∷ counted call ∷ []) (5 ∷ 9 ∷ [])
+    ∷ same (second .holder ∷ counted call ∷ counted before ∷ []) (5 ∷ 9 ∷ 7 ∷ [])
     ∷ same (answerFor second .operation ∷ answerFor second .id) (0x12 ∷ 1 ∷ 2 ∷ 3 ∷ [])
     ∷ same (map (λ (a : Answer). a .operation) (answersFor 1 (second ∷ second ∷ []))) (0x12 ∷ 0x12 ∷ [])
     ∷ []
@@ -313,9 +361,9 @@ callCases =
 -- ---- the list
 
 pub cases : List Bool
-cases = commandCases ++ (stateCases ++ (logCases ++ (placeCases ++ callCases)))
+cases = commandCases ++ (stateCases ++ (dateCases ++ (logCases ++ (placeCases ++ callCases))))
 
 -- every case holds
 pub worked : all (λ b. b) cases ≡ true
-unfolding cases key of-none destroyedIn got asksKey carries handedBy destroyedBy wasDestroyed handedDead commandCases stateCases logCases placeCases callCases commands heldCommands outcomes flag matrix none-of eight waysTo waysFrom ways itemsRead asking items answering answers events log ofEach heldIn limitOf holding keyed activating rekeying ofPlaces call second goesOn isFailed answerFor namedBy isUnderstood movesState codeOf listed isAt heldAfter paired orNoItems orNoAnswers onto issuedBy issued grantBy granted limitBy limit ofFrame lowest sought ifb _>>=_ _>>_ isSome be fromBeAfter fromBe all same lengthOk text valueOk encode itemOk wellFormed ended headed firstOf putValue putGroup more walk parse startsWith bytesOf bodyOf numberOf optional digits identifier fromDigitsAfter serialOf limitIn limitFirst wantedOf limitsIn maskedIn attributesIn createIn targetOf targetIn aloneIn allocationIn revokeIn orInvalid command line body recordOf placeAt withPlace serialAt stateAt blank firstFrom orElse find freePlace destroyedPlace newPlace
+unfolding cases dateCases datedKey dueTo dueFrom listedBy largest before latestClock key of-none destroyedIn got asksKey carries handedBy destroyedBy wasDestroyed handedDead commandCases stateCases logCases placeCases callCases commands heldCommands outcomes flag matrix none-of eight waysTo waysFrom ways itemsRead asking items answering answers events log ofEach heldIn limitOf holding keyed activating rekeying ofPlaces call second goesOn isFailed answerFor namedBy isUnderstood movesState codeOf listed isAt heldAfter paired orNoItems orNoAnswers onto issuedBy issued grantBy granted limitBy limit ofFrame lowest sought ifb _>>=_ _>>_ isSome be fromBeAfter fromBe all same lengthOk text valueOk encode itemOk wellFormed ended headed firstOf putValue putGroup more walk parse startsWith bytesOf bodyOf numberOf optional digits identifier fromDigitsAfter serialOf limitIn limitFirst dateFirst orUnset datesIn wantedOf limitedIn maskedIn attributesIn createIn targetOf targetIn aloneIn allocationIn revokeIn orInvalid command line body recordOf placeAt withPlace serialAt stateAt blank firstFrom orElse find freePlace destroyedPlace newPlace
 worked = refl

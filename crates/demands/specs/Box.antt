@@ -1,11 +1,11 @@
 -- A box: what is lent to a call, what the call leaves, and which of these belong together.
 -- Assumes nothing. The demands are predicates on any box.
-use Prim.Native.Nat.{ℕ, _<_, _^_}
+use Prim.Native.Nat.{ℕ, _<_, _^_, max}
 use mathlib.Core.List.{List}
 use Rattle.octets.specs.Octets.{Bytes}
 use Rattle.table.specs.declared.Record.{Record}
 use Rattle.table.specs.Layout.{placeCount}
-use Rattle.table.specs.Records.{placeAt}
+use Rattle.table.specs.Records.{placeAt, latestClock}
 use Rattle.engine.specs.Effects.{Effect}
 
 -- what is lent to a call; the clock comes as its 64 bits
@@ -35,3 +35,7 @@ placesOf t = placeCount
 -- the record at place i of a table
 abbrev pub recordIn : List ℕ → ℕ → Record
 recordIn t i = placeAt (placesOf t) t i
+
+-- 02, L3, "A clock earlier than the latest seen counts as the latest": the clock that counts for a call
+abbrev pub counted : Call → ℕ
+counted c = max (c .clock) (latestClock (c .table))

@@ -6,9 +6,9 @@ use lib.ListN.{length, drop}
 use Rattle.engine.specs.Effects.{Effect}
 use Rattle.demands.specs.Box.{Call, Box, Lent}
 
--- "one of nine numbered refusals"
+-- "one of ten numbered refusals"
 abbrev pub refusals : ℕ
-refusals = 9
+refusals = 10
 
 -- a call that is turned away: "length zero and every buffer untouched"
 pub record Untouched (c : Call) (e : Effect) : Type 0 where
@@ -16,9 +16,9 @@ pub record Untouched (c : Call) (e : Effect) : Type 0 where
   pub table : e .table ≡ c .table
   pub output : e .output ≡ c .output
 
--- a call that is answered: "a response of at most 4,824 bytes", and the output past it as it was
+-- a call that is answered: "a response of at most 5,336 bytes", and the output past it as it was
 pub record Within (c : Call) (e : Effect) : Type 0 where
-  pub short : e .length ≤ 4824
+  pub short : e .length ≤ 5336
   pub room : e .length ≤ length (c .output)
   pub same-room : length (e .output) ≡ length (c .output)
   pub past : drop (e .length) (e .output) ≡ drop (e .length) (c .output)

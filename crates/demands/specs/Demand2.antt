@@ -1,20 +1,22 @@
 -- Demand 2: "it answers as KMIP 2.1 TTLV says, in the cut of document 01, and with one spelling".
 -- Assumes nothing. It speaks of the parse, the frame, the conditions in order, the record changes and the response reader.
-use Prim.Native.Nat.{ℕ, suc, _+_}
+use Prim.Native.Nat.{ℕ, suc, _+_, _^_, _<_}
 use mathlib.Core.Path.{_≡_}
 use mathlib.Core.Bool.{Bool, true, false, not, _||_}
 use mathlib.Core.Option.{Option, none, some}
 use mathlib.Core.List.{List, [], _∷_, map}
 use lib.ListN.{length, take}
-use lib.Dec.{ltb, eqb}
+use lib.Dec.{leb, ltb, eqb}
 use Rattle.octets.specs.If.{ifb}
 use Rattle.octets.specs.Octets.{Bytes}
 use Rattle.octets.specs.Maybe.{_>>=_, isSome}
 use Rattle.ttlv.specs.Items.{Items, encode}
 use Rattle.ttlv.specs.Parse.{message}
+use Rattle.table.specs.Records.{lastSerial, latestClock}
 use Rattle.soundness.specs.Sound.{sound}
 use Rattle.rules.specs.declared.Reason.{Reason}
 use Rattle.rules.specs.Tests.{due}
+use Rattle.changes.specs.Dates.{ripened}
 use Rattle.batch_item.specs.Item.{Asked}
 use Rattle.frame.specs.Frame.{Frame, frameIn, versionOk, countOk, optionOf, optionOk, continue}
 use Rattle.payload.specs.Payload.{command}
@@ -25,7 +27,7 @@ use Rattle.act.specs.Act.{plan}
 use Rattle.answer.specs.Respond.{Answer, Response, respond}
 use Rattle.answer.specs.Read.{answersIn, allowed}
 use Rattle.engine.specs.Effects.{Effect}
-use Rattle.demands.specs.Box.{Call, Box, Lent, placesOf}
+use Rattle.demands.specs.Box.{Call, Box, Lent, placesOf, recordIn, counted}
 
 -- ---- (a) the refusals
 
@@ -38,10 +40,10 @@ unfoldable pub ofFrame : (Frame → Bool) → Option Frame → Bool
 ofFrame test none = false
 ofFrame test (some f) = test f
 
--- 01's table, a line each: the conditions of refusals 1 to 9
+-- 01's table with 02's tenth line: the conditions of refusals 1 to 10; a clock below 1 is 0 or, by its 64 bits, negative
 unfoldable pub refusalConditions : Call → List Bool
 refusalConditions c =
-    ltb (length (c .output)) 4824
+    ltb (length (c .output)) 5336
     ∷ not (eqb (length (c .strip)) 512)
     ∷ not (sound (placesOf (c .table)) (c .table))
     ∷ (eqb (length (c .request)) 0 || ltb 4096 (length (c .request)))
@@ -50,6 +52,7 @@ refusalConditions c =
     ∷ ofFrame (λ f. not (versionOk (f .header))) (frameOf c)
     ∷ ofFrame (λ f. not (countOk f)) (frameOf c)
     ∷ ofFrame (λ f. not (optionOk (optionOf (f .header .option)))) (frameOf c)
+    ∷ (eqb (c .clock) 0 || leb (2 ^ 63) (c .clock))
     ∷ []
 
 -- "The lowest number that applies", numbered from k on; 0 where none does
@@ -59,13 +62,14 @@ lowest k (b ∷ bs) = ifb b k (lowest (suc k) bs)
 
 -- ---- what a request begins with
 
--- the clock that counts for a call: the one that is lent
-abbrev pub counted : Call → ℕ
-counted c = c .clock
-
--- the table that the first item meets: every place as it is in the table that is lent
-abbrev pub Begins : Call → List ℕ → Type 0
-Begins c start = start ≡ c .table
+-- the table that the first item meets, place by place: every record as it was but for the state that its dates make of it by the clock that counts,
+-- which is the lead's latest now. It is a sound table of bytes, so that no byte of it is left open
+pub record Begins (c : Call) (start : List ℕ) : Type 0 where
+  pub right : sound (placesOf start) start ≡ true
+  pub bytes : Bytes start
+  pub issued : lastSerial start ≡ lastSerial (c .table)
+  pub latest : latestClock start ≡ counted c
+  pub places : (i : ℕ) → i < placesOf start → recordIn start i ≡ ripened (counted c) (recordIn (c .table) i)
 
 -- ---- (c) to (f) the items, one after the other
 
@@ -148,6 +152,8 @@ pub record Answered (c : Call) (e : Effect) : Type 0 where
   pub begins : Begins c start
   pub chain : Chain c (optionIn frame) 0 0 start (frame .items) links reached
   pub left : e .table ≡ settled (optionIn frame) start links reached
+  -- "an accepted request stores the one that counted"
+  pub stored : latestClock (e .table) ≡ counted c
   -- (g) "The response has one spelling": its bytes are the encoding of the clock and these answers
   pub spelling : take (e .length) (e .output) ≡ encode (respond (meant c (optionIn frame) links))
   -- "and reading it back gives the answers that were meant"

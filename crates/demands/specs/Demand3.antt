@@ -3,17 +3,21 @@
 -- Each call goes item by item: what one item may do to the records, and what holds between any two items, is said here without saying what an item does.
 use Prim.Native.Nat.{ℕ, _+_, _≤_, _<_}
 use mathlib.Core.Path.{_≡_}
+use mathlib.Core.Logic.{_⊎_}
 use mathlib.Core.Bool.{Bool, true, false, not, _&&_, _||_}
 use mathlib.Core.List.{List, [], _∷_}
 use lib.ListN.{length, replicate}
 use lib.Dec.{eqb}
 use Rattle.table.specs.Layout.{placeCount, materialSize}
-use Rattle.table.specs.Records.{serialAt, isFree, blank}
+use Rattle.table.specs.declared.Record.{Record}
+use Rattle.table.specs.Records.{serialAt, isFree, lastSerial, latestClock, blank}
 use Rattle.search.specs.Search.{find, newPlace, isDestroyed}
 use Rattle.soundness.specs.Sound.{sound}
 use Rattle.soundness.specs.Checked.{isAt}
 use Rattle.rules.specs.Numbers.{activate, revoke, destroy, preActive}
 use Rattle.rules.specs.States.{isCompromise}
+use Rattle.date_rules.specs.Dates.{hasCome}
+use Rattle.changes.specs.Records.{inState}
 use Rattle.payload.specs.declared.Command.{Command}
 use Rattle.payload.specs.declared.Command.the-variants.{Unsupported, Invalid, Create, Rekey, GetUsageAllocation, Activate, Revoke, Destroy, GetAttributes, Get}
 use Rattle.plans.specs.declared.Outcome.{Outcome}
@@ -21,7 +25,7 @@ use Rattle.plans.specs.declared.Outcome.the-variants.{Failed, Created, Done, Sh
 use Rattle.act.specs.Act.{sought}
 use Rattle.plans.specs.Plans.{isFailed}
 use Rattle.engine.specs.Effects.{Effect}
-use Rattle.demands.specs.Box.{Call, Box, Lent, placesOf, recordIn}
+use Rattle.demands.specs.Box.{Call, Box, Lent, placesOf, recordIn, counted}
 use Rattle.demands.specs.Log.{Event, commandOf, itemsAsked, answersGiven, eventsOf, logged, issuedBy, issued, grantBy, granted, limit, handedBy, wasDestroyed, handedDead}
 
 -- ---- runs
@@ -186,8 +190,30 @@ pub record Tame (ev : Event) (t u : List ℕ) : Type 0 where
   pub hands : (handedBy (ev .answer .outcome) ≡ 0 → ⊥) → asksKey (commandOf ev) ≡ true
   -- "once an identifier is in a destroyed state, no later Get for it succeeds": what is handed out is not destroyed
   pub alive : (i : ℕ) → i < placesOf t → names ev t i ≡ true → isFailed (ev .answer .outcome) ≡ false → asksKey (commandOf ev) ≡ true → isDestroyed (recordIn t i .state) ≡ false
+  -- no item moves the clock
+  pub latest : latestClock u ≡ latestClock t
   -- "Once a newer object has taken the place, that identifier is granted nothing more": what does not stand is granted nothing
   pub grants : (x : ℕ) → (x ≡ 0 → ⊥) → ((i : ℕ) → Stands x t i → ⊥) → grantBy x (commandOf ev) (ev .answer .outcome) ≡ 0
+
+-- ---- before the first item, from the table t that an accepted call meets to the table u that its first item meets
+
+-- 02, L3, "Demands 2 and 3 now count due changes among the listed ones": Pre-Active to Active, Active to Deactivated, and the one and then the other, each by a date that is set and at or before the clock
+unfoldable pub listedBy : ℕ → Record → ℕ → Bool
+listedBy clock r to =
+    (eqb (r .state) 1 && hasCome clock (r .activation) && eqb to 2)
+    || (eqb (r .state) 2 && hasCome clock (r .deactivation) && eqb to 3)
+    || (eqb (r .state) 1 && hasCome clock (r .activation) && hasCome clock (r .deactivation) && eqb to 3)
+
+-- what an accepted call may do before its first item. That it does so is demand 2's
+pub record DueOnly (clock : ℕ) (t u : List ℕ) : Type 0 where
+  -- the latest clock stays, or is the clock that counts, which is no earlier
+  pub latest : (latestClock u ≡ latestClock t) ⊎ (latestClock u ≡ clock)
+  -- no identifier is issued
+  pub issued : lastSerial u ≡ lastSerial t
+  -- "no state changes but by the listed transitions"
+  pub moves : (i : ℕ) → i < placesOf t → (recordIn u i .state ≡ recordIn t i .state → ⊥) → listedBy clock (recordIn t i) (recordIn u i .state) ≡ true
+  -- and nothing of a record alters but its state: one that is not due is the same record
+  pub others : (i : ℕ) → i < placesOf t → recordIn u i ≡ inState (recordIn u i .state) (recordIn t i .material) (recordIn t i)
 
 -- ---- what holds between any two items; identifiers are given as their serials, which are not 0
 
@@ -218,9 +244,21 @@ pub data Path : List Event → List ℕ → List Event → List ℕ → Type 0 w
   arrived : {log : List Event} {t : List ℕ} → Path log t [] t
   went : {log events : List Event} {t v : List ℕ} (ev : Event) (u : List ℕ) → Tame ev t u → InOrder (ev ∷ log) u → Path (ev ∷ log) u events v → Path log t (ev ∷ events) v
 
+-- how a call opens, by its number: an accepted one may do what is due by the clock that counts, and a refused one does nothing
+pub data Opens (c : Call) : ℕ → List ℕ → Type 0 where
+  accepted : {start : List ℕ} → DueOnly (counted c) (c .table) start → Opens c 0 start
+  refused : {number : ℕ} → (number ≡ 0 → ⊥) → Opens c number (c .table)
+
+-- a call: it opens, the books are in order then, and it goes a path along what was asked and answered, read from its bytes
+pub record Goes (log : List Event) (c : Call) (e : Effect) : Type 0 where
+  pub start : List ℕ
+  pub opens : Opens c (e .number) start
+  pub order : InOrder log start
+  pub path : Path log start (eventsOf c e) (e .table)
+
 pub record Demand3 (B : Box) : Type 0 where
-  -- "any run of requests": each call goes a path along what was asked and answered, read from its bytes
-  pub path : (log : List Event) (t : List ℕ) → Run B log t → (c : Call) (e : Effect) → c .table ≡ t → Lent c → B c e → Path log t (eventsOf c e) (e .table)
+  -- "any run of requests"
+  pub goes : (log : List Event) (t : List ℕ) → Run B log t → (c : Call) (e : Effect) → c .table ≡ t → Lent c → B c e → Goes log c e
   -- every answer has its item
   pub asked : (log : List Event) (t : List ℕ) → Run B log t → (c : Call) (e : Effect) → c .table ≡ t → Lent c → B c e → length (answersGiven e) ≤ length (itemsAsked c)
   -- "accepted or refused": a call that is refused, whatever bytes it leaves, leaves the table

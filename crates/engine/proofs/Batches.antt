@@ -2,7 +2,7 @@
 -- Assumes nothing.
 use Prim.Native.Nat.{ℕ, _+_, _*_, _≤_}
 use native.Mathlib.Omega.{arith}
-use mathlib.Core.Path.{_≡_, refl}
+use mathlib.Core.Path.{_≡_, refl, _∙_}
 use mathlib.Core.Bool.{true}
 use mathlib.Core.List.{List, [], _∷_}
 use lib.ListN.{length, drop}
@@ -12,6 +12,7 @@ use Rattle.octets.proofs.If.{on-if}
 use Rattle.octets.proofs.Numbers.{bytes-take, bytes-drop}
 use Rattle.octets.proofs.Stores.{length-part}
 use Rattle.table.specs.Layout.{materialSize}
+use Rattle.table.specs.Records.{latestClock}
 use Rattle.octets.proofs.Bools.{and-i}
 use Rattle.keeps.proofs.Keeps.{Held}
 use Rattle.batch_item.specs.Item.{Asked}
@@ -20,7 +21,7 @@ use Rattle.plans.specs.Plans.{Did, envAt}
 use Rattle.act.specs.Act.{step}
 use Rattle.answer.specs.Read.{answerOk}
 use Rattle.engine.specs.Batch.{Ran, answerTo, lastly, firstly, endsBatch, batch}
-use Rattle.engine.proofs.Steps.{step-held, step-ok}
+use Rattle.engine.proofs.Steps.{step-held, step-latest, step-ok}
 
 module _ (places : ℕ) (strip : List ℕ) (option : ℕ) (strip-bytes : Bytes strip) where
   -- item i has 32 bytes of the strip for its own
@@ -31,19 +32,21 @@ module _ (places : ℕ) (strip : List ℕ) (option : ℕ) (strip-bytes : Bytes s
     pub own-long : materialSize ≤ length (envAt places strip i .fresh)
     own-long = omega (arith, length-part strip (materialSize * i) materialSize in-strip)
 
-  -- what a run of a batch leaves
-  pub record Leaves (items : List Asked) (ran : Ran) : Type 0 where
+  -- what a run of a batch on a table leaves
+  pub record Leaves (t : List ℕ) (items : List Asked) (ran : Ran) : Type 0 where
     pub held : Held places (ran .table)
+    pub latest : latestClock (ran .table) ≡ latestClock t
     pub ok : all answerOk (ran .answers) ≡ true
     pub few : length (ran .answers) ≤ length items
     pub some : 1 ≤ length items → 1 ≤ length (ran .answers)
 
   pub batch-leaves : (items : List Asked) (i holder : ℕ) (t : List ℕ) → Held places t → AllBounded items → materialSize * (i + length items) ≤ length strip
-      → Leaves items (batch places strip option i holder t items)
+      → Leaves t items (batch places strip option i holder t items)
   unfolding batch all
-  batch-leaves [] i holder t h s l = record { held = h; ok = refl; few = omega arith; some = λ q. q }
+  batch-leaves [] i holder t h s l = record { held = h; latest = refl; ok = refl; few = omega arith; some = λ q. q }
   batch-leaves (asked ∷ later) i holder t h s l =
       turn (step (envAt places strip i) holder t asked) (step-held (envAt places strip i) holder t h own own-size asked)
+      (step-latest (envAt places strip i) holder t h own own-size asked)
       (step-ok (envAt places strip i) holder t h own own-size asked (s .0 .below) (s .0 .short))
       (batch-leaves later (i + 1) (step (envAt places strip i) holder t asked .holder) (step (envAt places strip i) holder t asked .table)
       (step-held (envAt places strip i) holder t h own own-size asked) (s .1) (omega arith))
@@ -54,15 +57,16 @@ module _ (places : ℕ) (strip : List ℕ) (option : ℕ) (strip-bytes : Bytes s
       own-size : materialSize ≤ length (envAt places strip i .fresh)
       own-size = own-long i (omega arith)
 
-      turn : (did : Did) → Held places (did .table) → answerOk (answerTo asked did) ≡ true
-          → Leaves later (batch places strip option (i + 1) (did .holder) (did .table) later)
-          → Leaves (asked ∷ later)
+      turn : (did : Did) → Held places (did .table) → latestClock (did .table) ≡ latestClock t → answerOk (answerTo asked did) ≡ true
+          → Leaves (did .table) later (batch places strip option (i + 1) (did .holder) (did .table) later)
+          → Leaves t (asked ∷ later)
           (ifb (endsBatch option did) (lastly (answerTo asked did) (did .table)) (firstly (answerTo asked did) (batch places strip option (i + 1) (did .holder) (did .table) later)))
-      turn did g a rest =
-          on-if (Leaves (asked ∷ later))
-          (λ e. record { held = g; ok = and-i (answerOk (answerTo asked did)) true a refl; few = omega arith; some = λ q. omega arith })
+      turn did g same a rest =
+          on-if (Leaves t (asked ∷ later))
+          (λ e. record { held = g; latest = same; ok = and-i (answerOk (answerTo asked did)) true a refl; few = omega arith; some = λ q. omega arith })
           (λ e. record {
             held = rest .held;
+            latest = rest .latest ∙ same;
             ok = and-i (answerOk (answerTo asked did)) (all answerOk (batch places strip option (i + 1) (did .holder) (did .table) later .answers)) a (rest .ok);
             few = omega (arith, rest .few);
             some = λ q. omega arith;

@@ -1,11 +1,14 @@
 -- What a command says of the operation that asked for it, and of the values that its payload may have.
 -- Assumes nothing.
-use Prim.Native.Nat.{ℕ}
+use Prim.Native.Nat.{ℕ, _^_, _≤_, _<_}
 use mathlib.Core.Path.{_≡_, refl, sym, ap, _∙_, subst}
-use mathlib.Core.Logic.{inl, inr}
+use mathlib.Core.Logic.{_⊎_, inl, inr, ⊎-elim}
 use mathlib.Core.Bool.{true}
 use mathlib.Core.Option.{Option, none, some}
 use native.Mathlib.Omega.{arith}
+use lib.Dec.{leb, ltb}
+use borrow.Author.Tests.{eqb-true, leb-true, ltb-true}
+use Rattle.octets.proofs.Bools.{and-r, or-cases}
 use Rattle.ttlv.specs.Items.{Items}
 use Rattle.values.specs.Values.{bitsOk, maskOk, unitOk, totalOk}
 use Rattle.rules.specs.declared.Attributes.{Attributes}
@@ -14,8 +17,9 @@ use Rattle.keeps.proofs.Begun.{Allowed}
 use Rattle.target_read.specs.declared.Target.{Target}
 use Rattle.payload.specs.declared.Command.{Command}
 use Rattle.payload.specs.declared.Command.the-variants.{Unsupported, Invalid, Create, Rekey, GetUsageAllocation, Activate, Revoke, Destroy, GetAttributes, Get}
-use Rattle.tags.specs.Tags.{usageLimits}
-use Rattle.attributes_read.specs.Attributes.{Limit, limitIn, limitFirst, wantedOf, limitsIn, maskedIn, attributesIn}
+use Rattle.fields.specs.Fields.{optional}
+use Rattle.tags.specs.Tags.{activationDate, deactivationDate, usageLimits}
+use Rattle.attributes_read.specs.Attributes.{Limit, limitIn, limitFirst, dateFirst, orUnset, datesIn, wantedOf, limitedIn, maskedIn, attributesIn}
 use Rattle.payload.specs.Payload.{createIn, orInvalid, command}
 use Rattle.payload.specs.Reasons.{operationOf, reasonOf}
 use Rattle.payload.proofs.Commands.{of-create}
@@ -44,11 +48,37 @@ limit-ok t limit h =
     on-bind h λ a e1 h1. on-test h1 λ total h2. on-bind h2 λ b e2 h3. on-test h3 λ unit h4. on-test h4 λ end h5.
     subst (λ (l : Limit). (unitOk (l .unit) ≡ true) × (totalOk (l .total) ≡ true)) (some-is h5) (unit, total)
 
-wanted-ok : (bits mask : ℕ) → bitsOk bits ≡ true → maskOk mask ≡ true → (o : Option Limit)
-    → ((limit : Limit) → o ≡ some limit → (unitOk (limit .unit) ≡ true) × (totalOk (limit .total) ≡ true)) → Allowed (wantedOf bits mask o)
+-- dates that Create allows
+record Dates (a d : ℕ) : Type 0 where
+  activation : a < 2 ^ 63
+  deactivation : d < 2 ^ 63
+  order : (d ≡ 0) ⊎ (a ≤ d)
+
+wanted-ok : (bits mask activation deactivation : ℕ) → bitsOk bits ≡ true → maskOk mask ≡ true → Dates activation deactivation → (o : Option Limit)
+    → ((limit : Limit) → o ≡ some limit → (unitOk (limit .unit) ≡ true) × (totalOk (limit .total) ≡ true)) → Allowed (wantedOf bits mask o activation deactivation)
 unfolding wantedOf
-wanted-ok bits mask b m none h = record { bits = b; mask = m; limit = inl (refl, refl) }
-wanted-ok bits mask b m (some limit) h = record { bits = b; mask = m; limit = inr (h limit refl) }
+wanted-ok bits mask activation deactivation b m d none h =
+    record { bits = b; mask = m; limit = inl (refl, refl); activation = d .activation; deactivation = d .deactivation; order = d .order }
+wanted-ok bits mask activation deactivation b m d (some limit) h =
+    record { bits = b; mask = m; limit = inr (h limit refl); activation = d .activation; deactivation = d .deactivation; order = d .order }
+
+-- a date that is given is above 0, and one that is not is 0
+date-ok : (tag : ℕ) (t : Items) {a : Option ℕ × Items} → optional tag (dateFirst tag) t ≡ some a → orUnset (a .0) < 2 ^ 63
+unfolding orUnset dateFirst
+date-ok tag t h =
+    on-optional tag (dateFirst tag) t (λ (p : Option ℕ × Items). orUnset (p .0) < 2 ^ 63) h (omega arith)
+    (λ date rest e. on-bind e λ a e1 h1. on-test h1 λ above h2.
+    subst (λ (p : ℕ × Items). p .0 < 2 ^ 63) (some-is h2) (ltb-true (a .0) (2 ^ 63) (and-r (leb 1 (a .0)) (ltb (a .0) (2 ^ 63)) above)))
+
+dates-ok : (t : Items) {dates : ℕ × ℕ} → datesIn t ≡ some dates → Dates (dates .0) (dates .1)
+unfolding datesIn
+dates-ok t h =
+    on-bind h λ a e1 h1. on-bind h1 λ d e2 h2. on-test h2 λ order h3. on-test h3 λ end h4.
+    subst (λ (p : ℕ × ℕ). Dates (p .0) (p .1)) (some-is h4) (record {
+      activation = date-ok activationDate t e1;
+      deactivation = date-ok deactivationDate (a .1) e2;
+      order = ⊎-elim (λ z. inl (eqb-true (orUnset (d .0)) 0 z)) (λ z. inr (leb-true (orUnset (a .0)) (orUnset (d .0)) z)) (or-cases _ _ order);
+    })
 
 first-ok : (t : Items) (a : Limit × Items) → limitFirst t ≡ some a → (unitOk (a .0 .unit) ≡ true) × (totalOk (a .0 .total) ≡ true)
 unfolding limitFirst
@@ -57,13 +87,15 @@ first-ok t a h =
     subst (λ (p : Limit × Items). (unitOk (p .0 .unit) ≡ true) × (totalOk (p .0 .total) ≡ true)) (some-is h2) (limit-ok (b .0) limit e2)
 
 masked-ok : (bits : ℕ) (t : Items) (wanted : Attributes) → bitsOk bits ≡ true → maskedIn bits t ≡ some wanted → Allowed wanted
-unfolding maskedIn limitsIn
+unfolding maskedIn limitedIn
 masked-ok bits t wanted good h =
-    on-bind h λ m e1 h1. on-test h1 λ mask h2. on-bind h2 λ limit e2 h3. on-bind e2 λ l e3 h4. on-test h4 λ end h5.
-    subst Allowed (ap (wantedOf bits (m .0)) (some-is h5) ∙ some-is h3)
-    (on-optional usageLimits limitFirst (m .1) (λ (p : Option Limit × Items). Allowed (wantedOf bits (m .0) (p .0))) e3
-    (wanted-ok bits (m .0) good mask none (λ limit z. absurd (not-some z)))
-    (λ x rest e. wanted-ok bits (m .0) good mask (some x) (λ limit z. subst (λ (y : Limit). (unitOk (y .unit) ≡ true) × (totalOk (y .total) ≡ true)) (some-is z) (first-ok (m .1) (x, rest) e))))
+    on-bind h λ m e1 h1. on-test h1 λ mask h2. on-bind h2 λ l e2 h3. on-bind h3 λ dates e3 h4.
+    let right = dates-ok (l .1) e3 in
+    subst Allowed (some-is h4)
+    (on-optional usageLimits limitFirst (m .1) (λ (p : Option Limit × Items). Allowed (wantedOf bits (m .0) (p .0) (dates .0) (dates .1))) e2
+    (wanted-ok bits (m .0) (dates .0) (dates .1) good mask right none (λ limit z. absurd (not-some z)))
+    (λ x rest e. wanted-ok bits (m .0) (dates .0) (dates .1) good mask right (some x)
+    (λ limit z. subst (λ (y : Limit). (unitOk (y .unit) ≡ true) × (totalOk (y .total) ≡ true)) (some-is z) (first-ok (m .1) (x, rest) e))))
 
 attributes-ok : (t : Items) (wanted : Attributes) → attributesIn t ≡ some wanted → Allowed wanted
 unfolding attributesIn

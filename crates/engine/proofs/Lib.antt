@@ -1,9 +1,10 @@
--- Sizes of a call.
+-- The laws of a call: its sizes, refusals, items and batch.
 -- Assumes nothing.
 pub mod Sizes
 pub mod Early
 pub mod Item
 pub mod Turns
+pub mod Answers
 pub mod Serves
 pub mod Commands
 pub mod Steps

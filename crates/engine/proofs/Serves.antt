@@ -1,42 +1,36 @@
--- A whole call, from the answers of the functions that make it up.
+-- A whole call: which refusal is the outcome, and that an accepted request is answered where none is.
 -- Assumes nothing.
-use Prim.Native.Nat.{ℕ, suc, _+_, _-_, _*_, _%_, _≤_}
+use Prim.Native.Nat.{ℕ, suc, _-_, _≤_}
 use native.Mathlib.Omega.{arith}
 use mathlib.Core.Path.{_≡_, refl, sym, ap, subst, _∙_}
-use mathlib.Core.Bool.{true, false≢true}
+use mathlib.Core.Bool.{true, false, false≢true}
 use mathlib.Core.Option.{Option, none, some}
-use mathlib.Core.List.{List, _++_}
-use lib.ListN.{length, take, drop, length-append, length-drop, length-take}
+use mathlib.Core.List.{List}
+use lib.ListN.{length, take, drop, length-drop}
 use lib.Seq.{take-all}
 use lib.Dec.{eqb}
 use borrow.Author.Tests.{eq-eqb, ne-eqb}
-use borrow.Rule.Slice.PartMut.{putMid, midOf}
 use Rattle.octets.specs.If.{ifb}
 use Rattle.octets.specs.Maybe.{_>>=_, isSome}
-use Rattle.octets.specs.Octets.{over}
 use Rattle.octets.proofs.If.{ifb-true, ifb-false, on-if}
-use Rattle.octets.proofs.Over.{lent, over-front}
-use Rattle.ttlv.specs.Items.{Items, encode}
+use Rattle.ttlv.specs.Items.{Items}
 use Rattle.ttlv.specs.Parse.{message}
 use Rattle.ttlv.specs.Tree.{isRun, treeOf}
-use Rattle.ttlv.proofs.Back.{eights}
 use Rattle.ttlv.proofs.Message.{message-tree}
+use Rattle.values.specs.Values.{aboveZero}
 use Rattle.table.specs.Layout.{placeCount}
 use Rattle.soundness.proofs.SoundIs.{sound-is}
+use Rattle.changes.specs.Dates.{countedClock, began}
 use Rattle.frame.specs.declared.Framing.{Framing}
 use Rattle.batch_item.specs.Item.{Asked, itemsIn}
 use Rattle.frame.specs.Frame.{Frame, Framed, Request, refused, asked, frameIn, framing, framed, batchMost}
 use Rattle.frame.specs.Readers.{itemsAt, framingIn, framingOf}
 use Rattle.frame.proofs.Frame.{BatchShape, batch-shape}
 use Rattle.plans.specs.Plans.{emptyHolder}
-use Rattle.answer.specs.Respond.{respond, batchItems}
-use Rattle.answer.specs.Front.{longestItem, frameSize, front}
-use Rattle.answer.proofs.Front.{frame-size, respond-splits}
-use Rattle.engine.specs.declared.BatchDone.{BatchDone}
-use Rattle.engine.specs.Batch.{Ran, batch, firstItem, running}
+use Rattle.engine.specs.Batch.{batch, firstItem, running}
 use Rattle.engine.specs.Effects.{Effect}
-use Rattle.engine.specs.Serving.{turnedAway, responseTo, answered, earlyRefusal, requested, carryOut, serving}
-use Rattle.engine.specs.Calls.{askedAll, RanIs, ranOver, Runs, ServedIs}
+use Rattle.engine.specs.Serving.{turnedAway, answered, earlyRefusal, requested, carryOut, serving}
+use Rattle.engine.specs.Calls.{askedAll, ranOver, RunsWhole, acceptedOver, AcceptedIs, ServedIs}
 use Rattle.engine.proofs.Early.{Passed, passed}
 
 -- ---- the ladder
@@ -67,10 +61,10 @@ framing-taken none = not-taken 5
 framing-taken (some f) = on-if Taken (λ e. not-taken 6) (λ e. on-if Taken (λ e. not-taken 7) (λ e. on-if Taken (λ e. not-taken 8) (λ e. taken _)))
 
 module _ {request t strip out : List ℕ} (p : Passed request t strip out) (clock : ℕ) where
-  -- by the number of the frame: the refusal is the outcome, or the batch of the request that was read
+  -- by the number of the frame: the refusal is the outcome, or the request that was read decides
   data Frames : ℕ → Type 0 where
     refuses : (k : ℕ) → serving request t strip clock out ≡ turnedAway t out (suc k) → Frames (suc k)
-    takes : (r : Request) → BatchShape request r → serving request t strip clock out ≡ answered clock out (running placeCount strip t r) → Frames 0
+    takes : (r : Request) → BatchShape request r → serving request t strip clock out ≡ carryOut clock t strip out (asked r) → Frames 0
 
   frames : Frames (framingOf request .number)
   unfolding framingOf framingIn framed carryOut isSome _>>=_
@@ -94,7 +88,7 @@ module _ {request t strip out : List ℕ} (p : Passed request t strip out) (cloc
 
 -- ---- the batch
 
-module _ {request t strip out : List ℕ} (p : Passed request t strip out) (clock : ℕ) {r : Request} (shape : BatchShape request r) where
+module _ {request : List ℕ} {r : Request} (shape : BatchShape request r) where
   -- the batch items, as they are lent
   abbrev lentItems : List ℕ
   lentItems = take (length request - framingOf request .items) (drop (framingOf request .items) request)
@@ -105,43 +99,24 @@ module _ {request t strip out : List ℕ} (p : Passed request t strip out) (cloc
   lent-asks : itemsIn (treeOf lentItems) ≡ some (r .items)
   lent-asks = ap (λ (u : List ℕ). itemsIn (treeOf u)) lent-is ∙ shape .items
 
-  -- what the batch asks
-  pub runs : Runs lentItems t strip (midOf frameSize (length out - frameSize) out)
+  -- what answering asks
+  runs : {t strip out : List ℕ} → Passed request t strip out → RunsWhole lentItems t strip out
   unfolding isSome askedAll
-  runs = record {
+  runs {t} p = record {
     run = ap isRun lent-is ∙ shape .run;
     read = ap isSome lent-asks;
     few = subst (λ (o : Option (List Asked)). length (askedAll o) ≤ batchMost) (sym lent-asks) (shape .few);
     table = sound-is placeCount t (p .right) .size;
     strip = p .strip-size;
-    room = rw (length-take, length-drop) (omega (arith, p .room));
+    fits = p .room;
   }
 
-  -- the batch that ran is the one that was asked for
-  pub ran-is : (option : ℕ) → option ≡ framingOf request .option → ranOver lentItems strip option t ≡ running placeCount strip t r
+  -- a batch of these items is the one that was asked for
+  ran-is : (strip t : List ℕ) → ranOver lentItems strip (framingOf request .option) t ≡ running placeCount strip t r
   unfolding running askedAll
-  ran-is option e =
-      ap (λ (o : Option (List Asked)). batch placeCount strip option firstItem emptyHolder t (askedAll o)) lent-asks
-      ∙ ap (λ (k : ℕ). batch placeCount strip k firstItem emptyHolder t (r .items)) (e ∙ shape .option)
-
-  module _ {ran : Ran} {done : BatchDone} {t′ ys out′ : List ℕ} (is : RanIs ran (midOf frameSize (length out - frameSize) out) done t′ ys)
-      (fronted : out′ ≡ over (front clock (done .count) (done .used)) (putMid frameSize (length out - frameSize) out ys)) where
-    split : encode (respond (responseTo clock ran)) ≡ front clock (done .count) (done .used) ++ encode (batchItems (ran .answers))
-    split =
-        respond-splits (responseTo clock ran)
-        ∙ ap (λ (k : ℕ). front clock (length (ran .answers)) k ++ encode (batchItems (ran .answers))) (sym (is .bytes .size))
-        ∙ ap (λ (k : ℕ). front clock k (done .used) ++ encode (batchItems (ran .answers))) (sym (is .count))
-
-    pub length-is : frameSize + done .used ≡ length (encode (respond (responseTo clock ran)))
-    length-is = sym (ap length split ∙ length-append (front clock (done .count) (done .used)) (encode (batchItems (ran .answers)))
-        ∙ rw (frame-size clock (done .count) (done .used), is .bytes .size))
-
-    pub output-is : out′ ≡ over (encode (respond (responseTo clock ran))) out
-    output-is =
-        fronted
-        ∙ ap (over (front clock (done .count) (done .used))) (lent frameSize (encode (batchItems (ran .answers))) out ys (is .bytes .bytes))
-        ∙ over-front frameSize (encode (batchItems (ran .answers))) (front clock (done .count) (done .used)) out (frame-size clock (done .count) (done .used)) (omega (arith, p .room))
-        ∙ ap (λ (b : List ℕ). over b out) (sym split)
+  ran-is strip t =
+      ap (λ (o : Option (List Asked)). batch placeCount strip (framingOf request .option) firstItem emptyHolder t (askedAll o)) lent-asks
+      ∙ ap (λ (k : ℕ). batch placeCount strip k firstItem emptyHolder t (r .items)) (shape .option)
 
 -- ---- what `serve` answers
 
@@ -159,13 +134,13 @@ pub early-away : (request t strip : List ℕ) (clock : ℕ) (out : List ℕ) (k 
     → ServedIs request t strip clock out (record { number = k; length = 0 }) t out
 early-away request t strip clock out k e h = away-is k (refused-early request t strip clock out k e h)
 
--- a call that is answered: no refusal applies, and the frame says where its items stand
+-- a call to which refusals 1 to 9 do not apply: the frame says where its items stand
 pub record Asks (request t strip : List ℕ) (clock : ℕ) (out : List ℕ) (f : Framing) : Type 0 where
   pub passed : Passed request t strip out
   pub framing-is : f ≡ framingOf request
   pub request-is : Request
   pub shape : BatchShape request request-is
-  pub answers : serving request t strip clock out ≡ answered clock out (running placeCount strip t request-is)
+  pub decides : serving request t strip clock out ≡ carryOut clock t strip out (asked request-is)
 
 module _ {request t strip out : List ℕ} (p : Passed request t strip out) (clock : ℕ) {f : Framing} (e : f ≡ framingOf request) where
   frames-by : Frames p clock (f .number)
@@ -183,7 +158,7 @@ module _ {request t strip out : List ℕ} (p : Passed request t strip out) (cloc
     where
       go : {n : ℕ} → Frames p clock n → n ≡ 0 → Asks request t strip clock out f
       go (refuses j q) z = absurd (omega arith)
-      go (takes r s q) z = record { passed = p; framing-is = e; request-is = r; shape = s; answers = q }
+      go (takes r s q) z = record { passed = p; framing-is = e; request-is = r; shape = s; decides = q }
 
 module _ {request t strip : List ℕ} {clock : ℕ} {out : List ℕ} {f : Framing} (a : Asks request t strip clock out f) where
   -- where the batch items start
@@ -194,31 +169,32 @@ module _ {request t strip : List ℕ} {clock : ℕ} {out : List ℕ} {f : Framin
   abbrev items : Framing → List ℕ
   items x = take (length request - x .items) (drop (x .items) request)
 
-  pub runs-from : Runs (items f) t strip (midOf frameSize (length out - frameSize) out)
-  runs-from = subst (λ (x : Framing). Runs (items x) t strip (midOf frameSize (length out - frameSize) out)) (sym (a .framing-is)) (runs (a .passed) clock (a .shape))
+  pub runs-from : RunsWhole (items f) t strip out
+  runs-from = subst (λ (x : Framing). RunsWhole (items x) t strip out) (sym (a .framing-is)) (runs (a .shape) (a .passed))
 
-  ran-from : ranOver (items f) strip (f .option) t ≡ running placeCount strip t (a .request-is)
-  ran-from = subst (λ (x : Framing). ranOver (items x) strip (x .option) t ≡ running placeCount strip t (a .request-is)) (sym (a .framing-is))
-      (ran-is (a .passed) clock (a .shape) (framingOf request .option) refl)
+  ran-from : (u : List ℕ) → ranOver (items f) strip (f .option) u ≡ running placeCount strip u (a .request-is)
+  ran-from u = subst (λ (x : Framing). ranOver (items x) strip (x .option) u ≡ running placeCount strip u (a .request-is)) (sym (a .framing-is)) (ran-is (a .shape) strip u)
 
-  module _ {done : BatchDone} {t′ ys : List ℕ} (is : RanIs (ranOver (items f) strip (f .option) t) (midOf frameSize (length out - frameSize) out) done t′ ys) where
-    asked-ran : RanIs (running placeCount strip t (a .request-is)) (midOf frameSize (length out - frameSize) out) done t′ ys
-    asked-ran = subst (λ (x : Ran). RanIs x (midOf frameSize (length out - frameSize) out) done t′ ys) ran-from is
+  -- refusal 10
+  pub clock-away : aboveZero clock ≡ false → ServedIs request t strip clock out (record { number = 10; length = 0 }) t out
+  unfolding carryOut
+  clock-away low = away-is 10 (a .decides ∙ ifb-false _ _ _ low)
 
-    -- what the front asks
-    pub front-asks : (done .used ≤ batchMost * longestItem) × (done .used % 8 ≡ 0)
-    front-asks = (is .most, subst (λ (k : ℕ). k % 8 ≡ 0) (sym (asked-ran .bytes .size)) (eights (batchItems (running placeCount strip t (a .request-is) .answers))))
+  -- the clock, given as the same 64 bits
+  pub clock-taken : {bits : ℕ} → bits ≡ clock → {length : ℕ} {t′ out′ : List ℕ} → AcceptedIs (acceptedOver (items f) strip (f .option) bits t out) length t′ out′
+      → AcceptedIs (acceptedOver (items f) strip (f .option) clock t out) length t′ out′
+  clock-taken e {length} {t′} {out′} is = subst (λ (k : ℕ). AcceptedIs (acceptedOver (items f) strip (f .option) k t out) length t′ out′) e is
 
-    pub served-is : {bits : ℕ} {out′ : List ℕ} → bits ≡ clock → out′ ≡ over (front bits (done .count) (done .used)) (putMid frameSize (length out - frameSize) out ys)
-        → ServedIs request t strip clock out (record { number = 0; length = frameSize + done .used }) t′ out′
-    unfolding answered
-    served-is {bits} {out′} b w =
-        let s = a .answers in
-        let q : out′ ≡ over (front clock (done .count) (done .used)) (putMid frameSize (length out - frameSize) out ys) =
-        w ∙ ap (λ (k : ℕ). over (front k (done .count) (done .used)) (putMid frameSize (length out - frameSize) out ys)) b in
-        record {
-          number = sym (ap (λ (x : Effect). x .number) s);
-          length = length-is (a .passed) clock (a .shape) asked-ran q ∙ sym (ap (λ (x : Effect). x .length) s);
-          table = asked-ran .table ∙ sym (ap (λ (x : Effect). x .table) s);
-          output = output-is (a .passed) clock (a .shape) asked-ran q ∙ sym (ap (λ (x : Effect). x .output) s);
-        }
+  -- none
+  pub served-is : aboveZero clock ≡ true → {length : ℕ} {t′ out′ : List ℕ} → AcceptedIs (acceptedOver (items f) strip (f .option) clock t out) length t′ out′
+      → ServedIs request t strip clock out (record { number = 0; length = length }) t′ out′
+  unfolding carryOut answered
+  served-is high {length} {t′} {out′} is =
+      let whole : acceptedOver (items f) strip (f .option) clock t out ≡ serving request t strip clock out =
+      ap (answered (countedClock clock t) out) (ran-from (began placeCount (countedClock clock t) t)) ∙ sym (a .decides ∙ ifb-true _ _ _ high) in
+      record {
+        number = ap (λ (x : Effect). x .number) whole;
+        length = is .length ∙ ap (λ (x : Effect). x .length) whole;
+        table = is .table ∙ ap (λ (x : Effect). x .table) whole;
+        output = is .output ∙ ap (λ (x : Effect). x .output) whole;
+      }

@@ -3,7 +3,7 @@
 use Prim.Native.Nat.{ℕ, _/_, _^_, _≤_, _<_}
 use native.Mathlib.Omega.{arith}
 use mathlib.Core.Path.{_≡_, refl, sym, ap, _∙_}
-use mathlib.Core.Logic.{_⊎_, inl, inr}
+use mathlib.Core.Logic.{_⊎_, inl, inr, ⊎-elim}
 use mathlib.Core.Bool.{true, false, _&&_}
 use mathlib.Core.List.{List}
 use lib.ListN.{length, drop}
@@ -14,20 +14,21 @@ use Rattle.octets.specs.Octets.{Bytes, allZero}
 use Rattle.table.specs.declared.Record.{Record}
 use Rattle.search.specs.declared.Found.the-variants.{At}
 use Rattle.table.specs.Layout.{materialSize}
-use Rattle.table.specs.Records.{placeAt, lastSerial}
+use Rattle.table.specs.Records.{placeAt, lastSerial, latestClock}
 use Rattle.search.specs.Search.{find}
 use Rattle.table.proofs.Lines.{InRange}
 use Rattle.table.proofs.Places.{serial-is}
 use Rattle.search.proofs.Finds.{find-below}
-use Rattle.values.specs.Values.{bitsOk, maskOk, unitOk, totalOk}
-use Rattle.octets.proofs.Bools.{and-i}
-use Rattle.record_rules.proofs.Fit.{Unlimited, Limited, Fit}
+use Rattle.values.specs.Values.{bitsOk, maskOk, unitOk, totalOk, notNegative, inOrder}
+use Rattle.octets.proofs.Bools.{and-i, or-l, or-r}
+use Rattle.record_rules.proofs.Fit.{Unlimited, Limited, Fit, Dated}
 use Rattle.rules.specs.Numbers.{create, get, getAttributes}
-use Rattle.changes.specs.Records.{inState, movedTo, withCount}
+use Rattle.changes.specs.Records.{inState, withDates, movedTo, withCount}
 use Rattle.changes.specs.Changes.{serialMost, nextSerial}
 use Rattle.rules.specs.declared.Attributes.{Attributes}
 use Rattle.keeps.proofs.Begun.{Allowed}
-use Rattle.keeps.proofs.Keeps.{Held, found-stands, range, fit, next-fits, keeps-moved, keeps-count, keeps-born, keeps-heir}
+use Rattle.keeps.proofs.Keeps.{Held, found-stands, range, fit, dated, next-fits, keeps-moved, keeps-count, keeps-born, keeps-heir}
+use Rattle.keeps.proofs.Leaves.{moved-leaves, count-leaves, born-leaves, heir-leaves}
 use Rattle.words.specs.Words.{wordsOf, wordBytes, wordsOk}
 use Rattle.words.proofs.Laws.{words-back, words-fit}
 use Rattle.batch_item.specs.Item.{Asked, idMost}
@@ -84,17 +85,23 @@ limit-ok r (inr l) =
     no-unit : unitOk 0 ≡ true → ⊥
     no-unit e = let y : _≡_ {A = ℕ} 0 1 = cc in omega arith
 
-shown-ok : (last : ℕ) (r : Record) → (r .serial ≡ 0 → ⊥) → InRange r → Fit last r → shownOk (shownOf r) ≡ true
+shown-ok : (last latest : ℕ) (r : Record) → (r .serial ≡ 0 → ⊥) → InRange r → Fit last r → Dated latest r → shownOk (shownOf r) ≡ true
 unfolding shownOk shownOf
-shown-ok last r z g f =
+shown-ok last latest r z g f d =
     and-i _ (linkOk (r .replacement))
     (and-i _ (linkOk (r .replaced))
     (and-i _ _
+    (and-i _ (inOrder (r .activation) (r .deactivation))
+    (and-i _ (notNegative (r .deactivation))
+    (and-i _ (notNegative (r .activation))
     (and-i _ (leb 1 (r .state) && leb (r .state) 6)
     (and-i _ (maskOk (r .mask))
     (and-i (serialOk (r .serial)) (bitsOk (r .bits)) (serial-ok (r .serial) z (g .serial)) (f .bits))
     (le-leb (r .mask) 0x00FFFFFF (f .mask)))
     (and-i (leb 1 (r .state)) (leb (r .state) 6) (le-leb 1 (r .state) (f .low)) (le-leb (r .state) 6 (f .high))))
+    (lt-ltb (r .activation) (2 ^ 63) (d .activation)))
+    (lt-ltb (r .deactivation) (2 ^ 63) (d .deactivation)))
+    (⊎-elim (λ e. or-l _ _ (eq-eqb (r .deactivation) 0 e)) (λ e. or-r (eqb (r .deactivation) 0) _ (le-leb (r .activation) (r .deactivation) e)) (d .order)))
     (limit-ok r (f .limit)))
     (link-ok (r .replaced) (g .replaced)))
     (link-ok (r .replacement) (g .replacement))
@@ -129,13 +136,27 @@ module _ (env : Env) (holder : ℕ) (t : List ℕ) (held : Held (env .places) t)
       keeps-heir (env .places) t held room (env .fresh) fresh-bytes long i (find-below (env .places) t (sought holder target) i e) (found-stands (env .places) t (sought holder target) i e) alive none
   kind-held c did (grants target amount i e g) m =
       keeps-count (env .places) t held i (find-below (env .places) t (sought holder target) i e) (found-stands (env .places) t (sought holder target) i e) amount _ g
-  kind-held c did (moves {operation} {code} {target} v i next e g) m =
-      keeps-moved (env .places) t held i (find-below (env .places) t (sought holder target) i e) (found-stands (env .places) t (sought holder target) i e) operation code next g
+  kind-held c did (moves {operation} {code} {target} v i next e late g) m =
+      keeps-moved (env .places) t held i (find-below (env .places) t (sought holder target) i e) (found-stands (env .places) t (sought holder target) i e) operation code next g late
   kind-held c did (shows target i e) m = held
   kind-held c did (gets target i e alive) m = held
 
+  -- no item moves the clock
+  kind-latest : {operation : ℕ} (c : Command) (did : Did) → Kind env holder t c did → Commanded operation c → latestClock (did .table) ≡ latestClock t
+  unfolding createPlan rekeyPlan
+  kind-latest c did (fails reason) m = refl
+  kind-latest c did (creates wanted room) m = born-leaves (env .places) t held room (env .fresh) fresh-bytes wanted (create-allowed m .1) .stored .latest
+  kind-latest c did (rekeys target i e alive none room) m =
+      heir-leaves (env .places) t held room (env .fresh) fresh-bytes i (find-below (env .places) t (sought holder target) i e) (found-stands (env .places) t (sought holder target) i e) alive .latest
+  kind-latest c did (grants target amount i e g) m =
+      count-leaves (env .places) t held i (find-below (env .places) t (sought holder target) i e) (found-stands (env .places) t (sought holder target) i e) amount _ g .latest
+  kind-latest c did (moves {operation} {code} {target} v i next e late g) m =
+      moved-leaves (env .places) t held i (find-below (env .places) t (sought holder target) i e) (found-stands (env .places) t (sought holder target) i e) operation code next g .latest
+  kind-latest c did (shows target i e) m = refl
+  kind-latest c did (gets target i e alive) m = refl
+
   kind-ok : {operation : ℕ} (c : Command) (did : Did) → Kind env holder t c did → Commanded operation c → outcomeOk operation (did .outcome) ≡ true
-  unfolding outcomeOk createPlan rekeyPlan withCount movedTo inState
+  unfolding outcomeOk createPlan rekeyPlan withCount movedTo withDates inState
   kind-ok c did (fails reason) m = refl
   kind-ok {operation} c did (creates wanted room) m =
       and-i (eqb operation create) (serialOk (nextSerial t)) (eq-eqb operation create (create-allowed m .0)) (serial-ok (nextSerial t) (λ z. omega arith) (next-fits (env .places) t held room))
@@ -143,13 +164,14 @@ module _ (env : Env) (holder : ℕ) (t : List ℕ) (held : Held (env .places) t)
       and-i (answersDone operation) (serialOk (nextSerial t)) (rekey-done m) (serial-ok (nextSerial t) (λ z. omega arith) (next-fits (env .places) t held room))
   kind-ok {operation} c did (grants target amount i e g) m =
       and-i (answersDone operation) (serialOk (placeAt (env .places) t i .serial)) (allocation-done m) (record-ok (sought holder target) i e)
-  kind-ok {operation} c did (moves {target} v i next e g) m =
+  kind-ok {operation} c did (moves {target} v i next e late g) m =
       and-i (answersDone operation) (serialOk (placeAt (env .places) t i .serial)) (move-done v m) (record-ok (sought holder target) i e)
   kind-ok {operation} c did (shows target i e) m =
       and-i (eqb operation getAttributes) (shownOk (shownOf (placeAt (env .places) t i))) (eq-eqb operation getAttributes (show-operation m))
-      (shown-ok (lastSerial t) (placeAt (env .places) t i) (found-serial (sought holder target) i e)
+      (shown-ok (lastSerial t) (latestClock t) (placeAt (env .places) t i) (found-serial (sought holder target) i e)
       (range (env .places) t held i (find-below (env .places) t (sought holder target) i e) (found-stands (env .places) t (sought holder target) i e))
-      (fit (env .places) t held i (find-below (env .places) t (sought holder target) i e) (found-stands (env .places) t (sought holder target) i e)))
+      (fit (env .places) t held i (find-below (env .places) t (sought holder target) i e) (found-stands (env .places) t (sought holder target) i e))
+      (dated (env .places) t held i (find-below (env .places) t (sought holder target) i e) (found-stands (env .places) t (sought holder target) i e)))
   kind-ok {operation} c did (gets target i e alive) m =
       and-i (eqb operation get) (keyOk (keyOf (placeAt (env .places) t i))) (eq-eqb operation get (get-operation m))
       (key-ok (lastSerial t) (placeAt (env .places) t i) (found-serial (sought holder target) i e)
@@ -160,6 +182,10 @@ module _ (env : Env) (holder : ℕ) (t : List ℕ) (held : Held (env .places) t)
     -- an item leaves a sound table of bytes
     pub step-held : Held (env .places) (step env holder t asked .table)
     step-held = kind-held _ _ (step-kind env holder t asked) (commanded (asked .operation) (asked .payload))
+
+    -- with the latest clock that it met
+    pub step-latest : latestClock (step env holder t asked .table) ≡ latestClock t
+    step-latest = kind-latest _ _ (step-kind env holder t asked) (commanded (asked .operation) (asked .payload))
 
     -- and its answer is one that a response may have
     pub step-ok : asked .operation < 256 ^ 4 → length (asked .id) ≤ idMost → answerOk (answerTo asked (step env holder t asked)) ≡ true

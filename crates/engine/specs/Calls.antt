@@ -23,8 +23,8 @@ use Rattle.engine.specs.declared.Served.{Served}
 use Rattle.engine.specs.declared.ItemDone.{ItemDone}
 use Rattle.engine.specs.declared.BatchDone.{BatchDone}
 use Rattle.engine.specs.Batch.{Ran, answerTo, firstItem, batch}
-use Rattle.engine.specs.Effects.{stripSize}
-use Rattle.engine.specs.Serving.{serving}
+use Rattle.engine.specs.Effects.{Effect, roomLeast, stripSize}
+use Rattle.engine.specs.Serving.{accepted, serving}
 
 -- an item that was read; one with nothing in it where none was
 unfoldable pub askedOr : Option Asked → Asked
@@ -74,14 +74,32 @@ pub record RanIs (ran : Ran) (out : List ℕ) (r : BatchDone) (t′ out′ : Lis
 abbrev pub ranOver : List ℕ → List ℕ → ℕ → List ℕ → Ran
 ranOver items strip option t = batch placeCount strip option firstItem emptyHolder t (askedAll (itemsIn (treeOf items)))
 
--- a batch that can be run: its items were read, they are at most 16, and table, strip and room have their sizes
-pub record Runs (items t fresh out : List ℕ) : Type 0 where
+-- a batch that can be run in so much room: its items were read, they are at most 16, and table, strip and room have their sizes
+pub record RunsIn (room : ℕ) (items t fresh out : List ℕ) : Type 0 where
   pub run : isRun items ≡ true
   pub read : isSome (itemsIn (treeOf items)) ≡ true
   pub few : length (askedAll (itemsIn (treeOf items))) ≤ batchMost
   pub table : Table placeCount t
   pub strip : length fresh ≡ stripSize
-  pub room : batchMost * longestItem ≤ length out
+  pub fits : room ≤ length out
+
+-- the room of the answers alone
+abbrev pub Runs : List ℕ → List ℕ → List ℕ → List ℕ → Type 0
+Runs items t fresh out = RunsIn (batchMost * longestItem) items t fresh out
+
+-- the room of the whole response
+abbrev pub RunsWhole : List ℕ → List ℕ → List ℕ → List ℕ → Type 0
+RunsWhole items t fresh out = RunsIn roomLeast items t fresh out
+
+-- what an accepted request leaves, where these bytes are its items
+abbrev pub acceptedOver : List ℕ → List ℕ → ℕ → ℕ → List ℕ → List ℕ → Effect
+acceptedOver items strip option clock t out = accepted clock t (ranOver items strip option) out
+
+-- its length, table and output
+pub record AcceptedIs (e : Effect) (r : ℕ) (t′ out′ : List ℕ) : Type 0 where
+  pub length : r ≡ e .length
+  pub table : t′ ≡ e .table
+  pub output : out′ ≡ e .output
 
 -- what a call leaves: number, length, table and output are those of `serving`
 pub record ServedIs (request t strip : List ℕ) (clock : ℕ) (out : List ℕ) (r : Served) (t′ out′ : List ℕ) : Type 0 where

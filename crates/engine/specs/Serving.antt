@@ -1,4 +1,4 @@
--- 01, "Turning a request away", and the whole outcome of a call: number, length, table and output.
+-- 01, "Turning a request away", with 02's refusal 10, and the whole outcome of a call: number, length, table and output.
 -- Assumes nothing: any request, table, strip, clock and room has an outcome.
 use Prim.Native.Nat.{ℕ}
 use mathlib.Core.Bool.{not, _||_}
@@ -10,8 +10,10 @@ use Rattle.octets.specs.Maybe.{_>>=_, isSome}
 use Rattle.octets.specs.Octets.{over}
 use Rattle.ttlv.specs.Items.{encode}
 use Rattle.ttlv.specs.Parse.{message}
+use Rattle.values.specs.Values.{aboveZero}
 use Rattle.table.specs.Layout.{placeCount}
 use Rattle.soundness.specs.Sound.{sound}
+use Rattle.changes.specs.Dates.{countedClock, began}
 use Rattle.frame.specs.Frame.{Framed, refused, asked, frameIn, framing}
 use Rattle.answer.specs.Respond.{Response, respond}
 use Rattle.engine.specs.Effects.{Effect, roomLeast, stripSize, requestMost}
@@ -52,12 +54,18 @@ earlyRefusal request t strip room =
 abbrev pub requested : List ℕ → Framed
 requested request = framing (message request >>= frameIn)
 
--- the refusal, or the batch
+-- an accepted request: the clock that counts is stored, what is due by it is done, and then the items are carried out and answered
+abbrev pub accepted : ℕ → List ℕ → (List ℕ → Ran) → List ℕ → Effect
+accepted clock t items out = let counted = countedClock clock t in answered counted out (items (began placeCount counted t))
+
+-- the frame's refusal; refusal 10, "a clock given below 1 .. tested last"; or the batch
 unfoldable pub carryOut : ℕ → List ℕ → List ℕ → List ℕ → Framed → Effect
 carryOut clock t strip out (refused number) = turnedAway t out number
-carryOut clock t strip out (asked request) = answered clock out (running placeCount strip t request)
+carryOut clock t strip out (asked request) =
+    let taken = accepted clock t (λ start. running placeCount strip start request) out in
+    ifb (aboveZero clock) taken (turnedAway t out 10)
 
--- the whole outcome; the clock comes as its 64 bits, and any is taken
+-- the whole outcome; the clock comes as its 64 bits
 unfoldable pub serving : List ℕ → List ℕ → List ℕ → ℕ → List ℕ → Effect
 serving request t strip clock out =
     let early = earlyRefusal request t strip (length out) in

@@ -9,10 +9,10 @@ ghost use mir.Syntax.{w64};
 ghost use mir.Val.{ofZ};
 ghost use Rattle.frame.specs.Frame.{continue};
 ghost use Rattle.engine.specs.Serving.{earlyRefusal};
-ghost use Rattle.engine.specs.Calls.{askedIn, RunsOne, ItemIs, Runs, RanIs, ranOver, ServedIs};
+ghost use Rattle.engine.specs.Calls.{askedIn, RunsOne, ItemIs, Runs, RanIs, ranOver, RunsWhole, acceptedOver, AcceptedIs, ServedIs};
 
 // The sizes that a caller keeps to; the table's are those of `table::Layout`.
-pub const ROOM_LEAST: usize = 4824;
+pub const ROOM_LEAST: usize = 5336;
 
 pub const STRIP_SIZE: usize = 512;
 
@@ -90,7 +90,7 @@ fn one_item(body: &[u8], table: &mut [u8], fresh: &[u8], holder: u32, out: &mut 
 }
 
 // The batch: the items one after the other, each answered in the room that follows the one before
-// it; under Stop nothing after the first failed one. `serve` shows what it asks: the frame was
+// it; under Stop nothing after the first failed one. `answer_all` shows what it asks: the frame was
 // read, and the sizes are right.
 fn run_items(items: &[u8], table: &mut [u8], fresh: &[u8], option: u32, out: &mut [u8]) -> BatchDone
     requires { ⌜ Runs (now items) (now table) (now fresh) (now out) ⌝ }
@@ -139,6 +139,27 @@ fn ends(option: u32, failed: bool) -> bool
     option != CONTINUE
 }
 
+// An accepted request: the clock that counts is stored and what is due by it is done, then the
+// items are carried out and answered, and the front is written. Answers the length of the response.
+// `serve` shows what it asks.
+fn answer_all(
+    items: &[u8],
+    table: &mut [u8],
+    fresh: &[u8],
+    option: u32,
+    clock: u64,
+    out: &mut [u8],
+) -> usize
+    requires { ⌜ RunsWhole (now items) (now table) (now fresh) (now out) ⌝ }
+    ensures { λ r. ⌜ AcceptedIs (acceptedOver (now (items .entry)) (now (fresh .entry)) option clock (now (table .entry)) (now (out .entry))) r (now (table .exit)) (now (out .exit)) ⌝ }
+{
+    let counted = dates::begin(table, Layout::PLACES, clock);
+    let done = run_items(items, table, fresh, option, &mut out[FRAME_SIZE..]);
+    let used = done.used;
+    front_write::write_front(out, counted, done.count, used);
+    FRAME_SIZE + used
+}
+
 // One request in, a response out, the table changed. The number of a refusal, with length 0 and
 // nothing touched; or 0 and the length of the response.
 pub fn serve(request: &[u8], table: &mut [u8], fresh: &[u8], clock: i64, out: &mut [u8]) -> Served
@@ -156,20 +177,15 @@ pub fn serve(request: &[u8], table: &mut [u8], fresh: &[u8], clock: i64, out: &m
     if number != 0 {
         return Served { number, length: 0 };
     }
+    let bits = clock::bits_of(clock);
+    if !values::above_zero(bits) {
+        return Served {
+            number: 10,
+            length: 0,
+        };
+    }
     let from = framing.items;
     let option = framing.option;
-    let bits = clock::bits_of(clock);
-    let done = run_items(
-        &request[from..],
-        table,
-        fresh,
-        option,
-        &mut out[FRAME_SIZE..],
-    );
-    let used = done.used;
-    front_write::write_front(out, bits, done.count, used);
-    Served {
-        number: 0,
-        length: FRAME_SIZE + used,
-    }
+    let length = answer_all(&request[from..], table, fresh, option, bits, out);
+    Served { number: 0, length }
 }

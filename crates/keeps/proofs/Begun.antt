@@ -15,17 +15,20 @@ use Rattle.table.specs.Layout.{materialSize}
 use Rattle.table.proofs.Lines.{InRange}
 use Rattle.values.specs.Values.{bitsOk, maskOk, unitOk, totalOk}
 use Rattle.octets.proofs.Bools.{and-l, and-r, and-i, or-cases}
-use Rattle.record_rules.proofs.Fit.{Unlimited, Limited, Fit}
+use Rattle.record_rules.proofs.Fit.{Unlimited, Limited, Fit, Dated}
 use Rattle.rules.specs.declared.Attributes.{Attributes}
 use Rattle.rules.specs.Numbers.{preActive}
 use Rattle.changes.specs.Records.{materialFrom, newRecord, heirOf}
 use Rattle.changes.proofs.Material.{length-material, bytes-material, material-tail}
 
--- "Length, mask, total and unit (1 or 2) as a sound table allows", or no limit
+-- "Length, mask, total and unit (1 or 2) as a sound table allows", or no limit; dates not negative and in order
 pub record Allowed (wanted : Attributes) : Type 0 where
   pub bits : bitsOk (wanted .bits) ≡ true
   pub mask : maskOk (wanted .mask) ≡ true
   pub limit : ((wanted .unit ≡ 0) × (wanted .total ≡ 0)) ⊎ ((unitOk (wanted .unit) ≡ true) × (totalOk (wanted .total) ≡ true))
+  pub activation : wanted .activation < 2 ^ 63
+  pub deactivation : wanted .deactivation < 2 ^ 63
+  pub order : (wanted .deactivation ≡ 0) ⊎ (wanted .activation ≤ wanted .deactivation)
 
 -- ---- the values
 
@@ -70,10 +73,19 @@ begun serial wanted replaced fresh = record {
   count = wanted .total;
   mask = wanted .mask;
   material = materialFrom (wanted .bits) fresh;
+  activation = wanted .activation;
+  deactivation = wanted .deactivation;
 }
 
 abbrev pub attributesOf : Record → Attributes
-attributesOf r = record { bits = r .bits; mask = r .mask; unit = r .unit; total = r .total }
+attributesOf r = record {
+  bits = r .bits;
+  mask = r .mask;
+  unit = r .unit;
+  total = r .total;
+  activation = r .activation;
+  deactivation = r .deactivation;
+}
 
 pub new-begun : (serial : ℕ) (wanted : Attributes) (fresh : List ℕ) → newRecord serial wanted fresh ≡ begun serial wanted 0 fresh
 unfolding newRecord
@@ -84,12 +96,15 @@ unfolding heirOf
 heir-begun serial old fresh = refl
 
 -- what a sound table allows, Create allows
-pub allowed-of : (last : ℕ) (r : Record) → Fit last r → Allowed (attributesOf r)
-allowed-of last r f = record {
+pub allowed-of : (last latest : ℕ) (r : Record) → Fit last r → Dated latest r → Allowed (attributesOf r)
+allowed-of last latest r f d = record {
   bits = f .bits;
   mask = le-leb (r .mask) 0x00FFFFFF (f .mask);
   limit = ⊎-elim (λ l. inl (l .unit, l .total))
       (λ l. inr (l .unit, and-i _ _ (le-leb 1 (r .total) (l .least)) (le-leb (r .total) 1_000_000_000_000 (l .most)))) (f .limit);
+  activation = d .activation;
+  deactivation = d .deactivation;
+  order = d .order;
 }
 
 module _ (serial : ℕ) (wanted : Attributes) (replaced : ℕ) (fresh : List ℕ) (a : Allowed wanted) where
@@ -106,6 +121,8 @@ module _ (serial : ℕ) (wanted : Attributes) (replaced : ℕ) (fresh : List ℕ
     mask = omega (arith, allowed-mask wanted a);
     long = length-material (wanted .bits) fresh;
     bytes = bytes-material (wanted .bits) fresh b;
+    activation = omega (arith, a .activation);
+    deactivation = omega (arith, a .deactivation);
   }
 
   begun-limit : Unlimited (begun serial wanted replaced fresh) ⊎ Limited (begun serial wanted replaced fresh)
@@ -128,3 +145,7 @@ module _ (serial : ℕ) (wanted : Attributes) (replaced : ℕ) (fresh : List ℕ
     replaced = link;
     replacement = inl refl;
   }
+
+  -- it is not Active
+  pub begun-dated : (latest : ℕ) → Dated latest (begun serial wanted replaced fresh)
+  begun-dated latest = record { activation = a .activation; deactivation = a .deactivation; order = a .order; started = λ e. absurd (omega arith) }

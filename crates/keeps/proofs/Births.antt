@@ -6,11 +6,11 @@ use Prim.Native.Nat.{ℕ, _^_, _≤_, _<_}
 use native.Mathlib.Omega.{arith}
 use mathlib.Core.List.{List}
 use Rattle.table.specs.declared.Record.{Record}
-use Rattle.table.specs.Records.{placeAt, withPlace, serialAt, lastSerial, withLast}
+use Rattle.table.specs.Records.{placeAt, withPlace, serialAt, lastSerial, withLast, latestClock}
 use Rattle.table.proofs.Lines.{InRange}
 use Rattle.table.proofs.Places.{serial-is, length-with, with-swap}
 use Rattle.table.proofs.Lead.{last-swap}
-use Rattle.record_rules.proofs.Fit.{Fit}
+use Rattle.record_rules.proofs.Fit.{Fit, Dated}
 use Rattle.soundness.proofs.SoundIs.{Stands, Sound}
 use Rattle.changes.specs.Records.{linkedTo}
 use Rattle.keeps.proofs.Stores.{Stored, stored, stored-last, Mutual, LinkedBut, LinkedAll, Bare, bare, linked, joined, other-serial, each-standing, bare-stored, linked-stored}
@@ -41,7 +41,8 @@ has-serial n t j st z = st (serial-is n t j ∙ z)
 
 -- ---- a birth
 
-module _ (n : ℕ) (t : List ℕ) (k : ℕ) (r : Record) (s : Sound n t) (lo : k < n) (range : InRange r) (new : lastSerial t < r .serial) (fit : Fit (r .serial) r) where
+module _ (n : ℕ) (t : List ℕ) (k : ℕ) (r : Record) (s : Sound n t) (lo : k < n) (range : InRange r) (new : lastSerial t < r .serial) (fit : Fit (r .serial) r)
+    (dated : Dated (latestClock t) r) where
   pub born-stored : Stored n t k r (r .serial) (born n t k r)
   born-stored =
       stored-last n t k r (lastSerial t) (withPlace n t k r) (r .serial)
@@ -51,7 +52,7 @@ module _ (n : ℕ) (t : List ℕ) (k : ℕ) (r : Record) (s : Sound n t) (lo : k
   pub born-bare : Bare n (born n t k r)
   born-bare =
       bare-stored n t k r (r .serial) (born n t k r) born-stored (λ z. omega arith) (bare n t s)
-      (λ j l ne q. omega (arith, s .issued j l)) (omega arith) (omega arith) fit
+      (λ j l ne q. omega (arith, s .issued j l)) (omega arith) (omega arith) fit dated
 
   -- a record that names no other
   pub born-sound : r .replaced ≡ 0 → r .replacement ≡ 0 → Sound n (born n t k r)
@@ -87,6 +88,8 @@ linked-range s r h g = record {
   mask = g .mask;
   long = g .long;
   bytes = g .bytes;
+  activation = g .activation;
+  deactivation = g .deactivation;
 }
 
 pub linked-fit : (last s : ℕ) (r : Record) → r .serial < s → Fit last r → Fit s (linkedTo s r)
@@ -103,9 +106,13 @@ linked-fit last s r new f = record {
   replacement = inr (new, omega arith);
 }
 
+pub linked-dated : (latest s : ℕ) (r : Record) → Dated latest r → Dated latest (linkedTo s r)
+unfolding linkedTo
+linked-dated latest s r d = record { activation = d .activation; deactivation = d .deactivation; order = d .order; started = d .started }
+
 module _ (n : ℕ) (t : List ℕ) (i k : ℕ) (heir : Record) (s : Sound n t) (lo : i < n) (stands : Stands t i) (lok : k < n) (apart : k ≡ i → ⊥)
     (range : InRange (placeAt n t i)) (none : placeAt n t i .replacement ≡ 0)
-    (heir-range : InRange heir) (new : lastSerial t < heir .serial) (heir-fit : Fit (heir .serial) heir)
+    (heir-range : InRange heir) (new : lastSerial t < heir .serial) (heir-fit : Fit (heir .serial) heir) (heir-dated : Dated (latestClock t) heir)
     (names : heir .replaced ≡ placeAt n t i .serial) (last-of : heir .replacement ≡ 0) where
   abbrev old : Record
   old = placeAt n t i
@@ -118,10 +125,10 @@ module _ (n : ℕ) (t : List ℕ) (i k : ℕ) (heir : Record) (s : Sound n t) (l
   half = born n t k heir
 
   half-stored : Stored n t k heir (heir .serial) half
-  half-stored = born-stored n t k heir s lok heir-range new heir-fit
+  half-stored = born-stored n t k heir s lok heir-range new heir-fit heir-dated
 
   half-bare : Bare n half
-  half-bare = born-bare n t k heir s lok heir-range new heir-fit
+  half-bare = born-bare n t k heir s lok heir-range new heir-fit heir-dated
 
   all : LinkedAll n t
   all = linked n t s
@@ -146,6 +153,7 @@ module _ (n : ℕ) (t : List ℕ) (i k : ℕ) (heir : Record) (s : Sound n t) (l
       (λ j l ne q. ne (sym (half-bare .distinct i j lo l st (half-serial ∙ sym q))))
       (omega (arith, half-stored .issued)) (omega (arith, old-below))
       (linked-fit (lastSerial t) (heir .serial) old old-below (s .fit i lo stands))
+      (rw (half-stored .latest) (linked-dated (latestClock t) (heir .serial) old (s .dated i lo stands)))
 
   -- the heir and a record that is neither it nor the old one
   heir-other : (j : ℕ) → j < n → (j ≡ i → ⊥) → Stands t j → Mutual heir (placeAt n t j) × Mutual (placeAt n t j) heir

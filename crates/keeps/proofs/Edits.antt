@@ -6,10 +6,10 @@ use Prim.Native.Nat.{ℕ, _≤_, _<_}
 use native.Mathlib.Omega.{arith}
 use mathlib.Core.List.{List}
 use Rattle.table.specs.declared.Record.{Record}
-use Rattle.table.specs.Records.{placeAt, withPlace, serialAt, lastSerial}
+use Rattle.table.specs.Records.{placeAt, withPlace, serialAt, lastSerial, latestClock}
 use Rattle.table.proofs.Lines.{InRange}
 use Rattle.table.proofs.Places.{serial-is}
-use Rattle.record_rules.proofs.Fit.{Unlimited, Limited, Fit}
+use Rattle.record_rules.proofs.Fit.{Unlimited, Limited, Fit, Dated}
 use Rattle.soundness.proofs.SoundIs.{Stands, Sound}
 use Rattle.keeps.proofs.Stores.{stored, Mutual, LinkedAll, Bare, bare, linked, joined, bare-stored, linked-stored}
 
@@ -29,7 +29,7 @@ pub record Stays (r old : Record) : Type 0 where
   pub replaced : r .replaced ≡ old .replaced
   pub replacement : r .replacement ≡ old .replacement
 
-module _ (n : ℕ) (t : List ℕ) (i : ℕ) (r : Record) (s : Sound n t) (lo : i < n) (stands : Stands t i) (range : InRange r) (fit : Fit (lastSerial t) r) where
+module _ (n : ℕ) (t : List ℕ) (i : ℕ) (r : Record) (s : Sound n t) (lo : i < n) (stands : Stands t i) (range : InRange r) (fit : Fit (lastSerial t) r) (dated : Dated (latestClock t) r) where
   module _ (serial : r .serial ≡ placeAt n t i .serial) where
     was : r .serial ≡ serialAt t i
     was = serial ∙ sym (serial-is n t i)
@@ -40,7 +40,7 @@ module _ (n : ℕ) (t : List ℕ) (i : ℕ) (r : Record) (s : Sound n t) (lo : i
         bare-stored n t i r (lastSerial t) (withPlace n t i r) (stored n t i r (s .size) lo range)
         (λ z. stands (sym was ∙ z)) (bare n t s)
         (λ j l ne q. ne (sym (s .distinct i j lo l stands (sym was ∙ sym q))))
-        (omega arith) (rw was (s .issued i lo)) fit
+        (omega arith) (rw was (s .issued i lo)) fit dated
 
   pub edit-sound : Stays r (placeAt n t i) → Sound n (withPlace n t i r)
   edit-sound same =

@@ -15,7 +15,7 @@ use Rattle.octets.proofs.Stores.{length-part}
 use Rattle.table.specs.declared.Record.{Record}
 use Rattle.search.specs.declared.Found.the-variants.{At}
 use Rattle.table.specs.Layout.{materialSize, lastIn}
-use Rattle.table.specs.Records.{placeAt, withPlace, serialAt, stateAt, lastSerial, blank}
+use Rattle.table.specs.Records.{placeAt, withPlace, serialAt, stateAt, lastSerial, latestClock, blank}
 use Rattle.search.specs.Search.{isNothing, find, isDestroyed, newPlace}
 use Rattle.table.proofs.Lines.{InRange, bytes-part}
 use Rattle.table.proofs.Places.{serial-is, state-is, place-range, bytes-with}
@@ -24,21 +24,22 @@ use Rattle.search.proofs.First.{on-found, isNothing-none}
 use Rattle.search.proofs.Finds.{find-nonzero, find-serial, new-below, new-at}
 use Rattle.table.proofs.Blank.{bytes-blank}
 use Rattle.soundness.specs.Sound.{sound}
-use Rattle.record_rules.proofs.Fit.{Fit}
+use Rattle.record_rules.proofs.Fit.{Fit, Dated}
 use Rattle.soundness.proofs.SoundIs.{Stands, Sound, sound-is, sound-of}
 use Rattle.soundness.proofs.Blank.{blank-sound}
 use Rattle.rules.specs.declared.Attributes.{Attributes}
 use Rattle.rules.specs.declared.Next.the-variants.{To}
 use Rattle.rules.specs.declared.Granted.the-variants.{Left}
 use Rattle.rules.specs.States.{nextState, granting}
+use Rattle.date_rules.specs.Dates.{isLate}
 use Rattle.changes.specs.Records.{newRecord, heirOf, movedTo, withCount}
 use Rattle.changes.specs.Changes.{serialMost, isFull, nextSerial, bornAt, withBorn, withHeir}
 use Rattle.rules.proofs.Moves.{move}
 use Rattle.rules.proofs.Grants.{grant-is}
 use Rattle.keeps.proofs.Edits.{Stays, edit-sound}
 use Rattle.keeps.proofs.Births.{linked-range, born-sound, heir-sound}
-use Rattle.keeps.proofs.Begun.{Allowed, attributesOf, begun, new-begun, heir-begun, allowed-of, begun-range, begun-fit}
-use Rattle.keeps.proofs.Moved.{moved-range, moved-fit, moved-stays, count-range, count-fit, count-stays}
+use Rattle.keeps.proofs.Begun.{Allowed, attributesOf, begun, new-begun, heir-begun, allowed-of, begun-range, begun-fit, begun-dated}
+use Rattle.keeps.proofs.Moved.{moved-range, moved-fit, moved-dated, moved-stays, count-range, count-fit, count-dated, count-stays}
 
 -- a sound table of bytes
 pub record Held (n : ℕ) (t : List ℕ) : Type 0 where
@@ -67,6 +68,9 @@ module _ (n : ℕ) (t : List ℕ) (held : Held n t) where
     pub fit : Fit (lastSerial t) (placeAt n t i)
     fit = facts .fit i lo stands
 
+    pub dated : Dated (latestClock t) (placeAt n t i)
+    dated = facts .dated i lo stands
+
     -- a place that is due is another, where this record is not destroyed
     pub not-here : isDestroyed (placeAt n t i .state) ≡ false → (k : ℕ) → newPlace n t ≡ At k → k ≡ i → ⊥
     not-here alive k e q =
@@ -74,18 +78,21 @@ module _ (n : ℕ) (t : List ℕ) (held : Held n t) where
         (λ d. true≢false (sym (d .1) ∙ ap (λ (j : ℕ). isDestroyed (stateAt t j)) q ∙ ap isDestroyed (state-is n t i) ∙ alive))
         (new-at n t k e)
 
-    edited : (r : Record) → InRange r → Fit (lastSerial t) r → Stays r (placeAt n t i) → Held n (withPlace n t i r)
-    edited r g f same = record {
-      right = sound-of n (withPlace n t i r) (edit-sound n t i r facts lo stands g f same);
+    pub edited : (r : Record) → InRange r → Fit (lastSerial t) r → Dated (latestClock t) r → Stays r (placeAt n t i) → Held n (withPlace n t i r)
+    edited r g f d same = record {
+      right = sound-of n (withPlace n t i r) (edit-sound n t i r facts lo stands g f d same);
       bytes = bytes-with n t i r (held .bytes) (g .bytes);
     }
 
     -- Activate, Revoke, Destroy
-    pub keeps-moved : (operation code next : ℕ) → nextState operation code (placeAt n t i .state) ≡ To next → Held n (withPlace n t i (movedTo operation next (placeAt n t i)))
-    keeps-moved operation code next e =
+    pub keeps-moved : (operation code next : ℕ) → nextState operation code (placeAt n t i .state) ≡ To next → isLate operation (latestClock t) (placeAt n t i .deactivation) ≡ false
+        → Held n (withPlace n t i (movedTo operation code (latestClock t) next (placeAt n t i)))
+    keeps-moved operation code next e late =
         let is = move operation code (placeAt n t i .state) next e in
-        edited (movedTo operation next (placeAt n t i)) (moved-range operation code next (placeAt n t i) is range)
-        (moved-fit operation code next (placeAt n t i) is (lastSerial t) fit) (moved-stays operation next (placeAt n t i))
+        let r : Record = placeAt n t i in
+        let clock : ℕ = latestClock t in
+        edited (movedTo operation code clock next r) (moved-range operation code clock next r is (facts .latest) range)
+        (moved-fit operation code clock next r is (lastSerial t) fit) (moved-dated operation code clock next r is (facts .latest) late dated) (moved-stays operation code clock next r)
 
     -- Get Usage Allocation
     pub keeps-count : (amount left : ℕ) → granting (placeAt n t i .state) (placeAt n t i .unit) (placeAt n t i .count) amount ≡ Left left
@@ -93,7 +100,8 @@ module _ (n : ℕ) (t : List ℕ) (held : Held n t) where
     keeps-count amount left e =
         let g = grant-is (placeAt n t i .state) (placeAt n t i .unit) (placeAt n t i .count) amount left e in
         let less : left ≤ placeAt n t i .count = omega arith in
-        edited (withCount left (placeAt n t i)) (count-range left (placeAt n t i) less range) (count-fit left (placeAt n t i) less (lastSerial t) fit) (count-stays left (placeAt n t i))
+        edited (withCount left (placeAt n t i)) (count-range left (placeAt n t i) less range) (count-fit left (placeAt n t i) less (lastSerial t) fit)
+        (count-dated (latestClock t) left (placeAt n t i) dated) (count-stays left (placeAt n t i))
 
   -- ---- a record that is new
 
@@ -121,7 +129,8 @@ module _ (n : ℕ) (t : List ℕ) (held : Held n t) where
           let r : Record = begun (nextSerial t) wanted 0 fresh in
           let g : InRange r = begun-range (nextSerial t) wanted 0 fresh a next-fits (omega arith) fresh-bytes in
           with-place (λ k e. rw (new-begun (nextSerial t) wanted fresh, e) (record {
-            right = sound-of n _ (born-sound n t k r facts (new-below n t k e) g (omega arith) (begun-fit (nextSerial t) wanted 0 fresh a long (inl refl)) refl refl);
+            right = sound-of n _ (born-sound n t k r facts (new-below n t k e) g (omega arith) (begun-fit (nextSerial t) wanted 0 fresh a long (inl refl))
+                (begun-dated (nextSerial t) wanted 0 fresh a (latestClock t)) refl refl);
             bytes = bytes-last _ _ (bytes-with n t k r (held .bytes) (g .bytes));
           }))
 
@@ -131,12 +140,12 @@ module _ (n : ℕ) (t : List ℕ) (held : Held n t) where
         unfolding withHeir bornAt
         keeps-heir =
             let old : Record = placeAt n t i in
-            let a : Allowed (attributesOf old) = allowed-of (lastSerial t) old (fit i lo stands) in
+            let a : Allowed (attributesOf old) = allowed-of (lastSerial t) (latestClock t) old (fit i lo stands) (dated i lo stands) in
             let below : old .serial < nextSerial t = omega (arith, facts .issued i lo, serial-is n t i) in
             let heir : Record = begun (nextSerial t) (attributesOf old) (old .serial) fresh in
             let g : InRange heir = begun-range (nextSerial t) (attributesOf old) (old .serial) fresh a next-fits (range i lo stands .serial) fresh-bytes in
             with-place (λ k e. rw (heir-begun (nextSerial t) old fresh, e) (record {
               right = sound-of n _ (heir-sound n t i k heir facts lo stands (new-below n t k e) (not-here i lo stands alive k e) (range i lo stands) none g (omega arith)
-                  (begun-fit (nextSerial t) (attributesOf old) (old .serial) fresh a long (inr below)) refl refl);
+                  (begun-fit (nextSerial t) (attributesOf old) (old .serial) fresh a long (inr below)) (begun-dated (nextSerial t) (attributesOf old) (old .serial) fresh a (latestClock t)) refl refl);
               bytes = bytes-last _ _ (bytes-with n _ k heir (bytes-with n t i _ (held .bytes) (linked-range (nextSerial t) old next-fits (range i lo stands) .bytes)) (g .bytes));
             }))

@@ -10,7 +10,7 @@ use Rattle.octets.specs.Octets.{Bytes}
 use Rattle.table.specs.declared.Record.{Record}
 use Rattle.search.specs.declared.Found.the-variants.{At}
 use Rattle.table.specs.Layout.{Table}
-use Rattle.table.specs.Records.{placeAt, withPlace, lastSerial}
+use Rattle.table.specs.Records.{placeAt, withPlace, lastSerial, latestClock}
 use Rattle.search.specs.Search.{isDestroyed, newPlace}
 use Rattle.table.proofs.Lines.{InRange}
 use Rattle.table.proofs.Places.{length-with}
@@ -28,7 +28,7 @@ use Rattle.keeps.proofs.Stores.{Stored, stored, stored-last, other}
 use Rattle.keeps.proofs.Births.{linked-range}
 use Rattle.keeps.proofs.Begun.{Allowed, attributesOf, begun, new-begun, heir-begun, allowed-of, begun-range}
 use Rattle.keeps.proofs.Moved.{moved-range, count-range}
-use Rattle.keeps.proofs.Keeps.{Held, facts, range, fit, with-place, next-fits, not-here}
+use Rattle.keeps.proofs.Keeps.{Held, facts, range, fit, dated, with-place, next-fits, not-here}
 
 -- a record that is new, in the place that is due
 pub record Born (n : ℕ) (t : List ℕ) (r : Record) (u : List ℕ) : Type 0 where
@@ -44,6 +44,7 @@ pub record Replaced (n : ℕ) (t : List ℕ) (i : ℕ) (heir : Record) (u : List
   pub below : place < n
   pub apart : place ≡ i → ⊥
   pub issued : lastSerial u ≡ heir .serial
+  pub latest : latestClock u ≡ latestClock t
   pub new : placeAt n u place ≡ heir
   pub old : placeAt n u i ≡ linkedTo (heir .serial) (placeAt n t i)
   pub others : (j : ℕ) → j < n → (j ≡ place → ⊥) → (j ≡ i → ⊥) → placeAt n u j ≡ placeAt n t j
@@ -57,6 +58,7 @@ replaced n t i k heir u due lo apart first v second = record {
   below = new-below n t k due;
   apart = apart;
   issued = second .issued;
+  latest = second .latest ∙ first .latest;
   new = second .here;
   old = other n u k heir (heir .serial) v second i lo (λ e. apart (sym e)) ∙ first .here;
   others = λ j l nk ni. other n u k heir (heir .serial) v second j l nk ∙ other n t i _ (lastSerial t) u first j l ni;
@@ -66,10 +68,10 @@ module _ (n : ℕ) (t : List ℕ) (held : Held n t) where
   module _ (i : ℕ) (lo : i < n) (stands : Stands t i) where
     -- Activate, Revoke, Destroy
     pub moved-leaves : (operation code next : ℕ) → nextState operation code (placeAt n t i .state) ≡ To next
-        → Stored n t i (movedTo operation next (placeAt n t i)) (lastSerial t) (withPlace n t i (movedTo operation next (placeAt n t i)))
+        → Stored n t i (movedTo operation code (latestClock t) next (placeAt n t i)) (lastSerial t) (withPlace n t i (movedTo operation code (latestClock t) next (placeAt n t i)))
     moved-leaves operation code next e =
-        stored n t i (movedTo operation next (placeAt n t i)) (facts n t held .size) lo
-        (moved-range operation code next (placeAt n t i) (move operation code (placeAt n t i .state) next e) (range n t held i lo stands))
+        stored n t i (movedTo operation code (latestClock t) next (placeAt n t i)) (facts n t held .size) lo
+        (moved-range operation code (latestClock t) next (placeAt n t i) (move operation code (placeAt n t i .state) next e) (facts n t held .latest) (range n t held i lo stands))
 
     -- Get Usage Allocation
     pub count-leaves : (amount left : ℕ) → granting (placeAt n t i .state) (placeAt n t i .unit) (placeAt n t i .count) amount ≡ Left left
@@ -102,7 +104,7 @@ module _ (n : ℕ) (t : List ℕ) (held : Held n t) where
           let old : Record = placeAt n t i in
           let was : InRange old = range n t held i lo stands in
           let serial : nextSerial t < 256 ^ 4 = next-fits n t held room in
-          let a : Allowed (attributesOf old) = allowed-of (lastSerial t) old (fit n t held i lo stands) in
+          let a : Allowed (attributesOf old) = allowed-of (lastSerial t) (latestClock t) old (fit n t held i lo stands) (dated n t held i lo stands) in
           let heir : Record = begun (nextSerial t) (attributesOf old) (old .serial) fresh in
           let g : InRange heir = begun-range (nextSerial t) (attributesOf old) (old .serial) fresh a serial (was .serial) fresh-bytes in
           let link : Record = linkedTo (nextSerial t) old in

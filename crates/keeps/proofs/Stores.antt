@@ -11,12 +11,12 @@ use lib.ListN.{length}
 use Rattle.octets.specs.Octets.{be, part, allZero}
 use Rattle.table.specs.declared.Record.{Record}
 use Rattle.table.specs.Layout.{lineSize, bodySize, lineStart, bodyStart, Table, zerosIn}
-use Rattle.table.specs.Records.{recordOf, placeAt, withPlace, serialAt, lastSerial, withLast, placesSaid, leadZeros}
+use Rattle.table.specs.Records.{recordOf, placeAt, withPlace, serialAt, lastSerial, withLast, placesSaid, latestClock}
 use Rattle.table.proofs.Lines.{InRange}
 use Rattle.table.proofs.Places.{serial-is, length-with, place-same, line-other, body-other, zeros-other, zeros-with}
-use Rattle.table.proofs.Lead.{last-with, said-with, lead-with, length-last, last-last, said-last, lead-last, line-last, body-last, zeros-last, place-last}
+use Rattle.table.proofs.Lead.{last-with, said-with, latest-with, length-last, last-last, said-last, latest-last, line-last, body-last, zeros-last, place-last}
 use Rattle.table.proofs.Blank.{zeros-test}
-use Rattle.record_rules.proofs.Fit.{Fit}
+use Rattle.record_rules.proofs.Fit.{Fit, Dated}
 use Rattle.soundness.proofs.SoundIs.{Stands, Empty, Sound}
 
 -- ---- u is t with r at place i, and `last` as the last serial issued
@@ -24,7 +24,7 @@ use Rattle.soundness.proofs.SoundIs.{Stands, Empty, Sound}
 pub record Stored (n : ℕ) (t : List ℕ) (i : ℕ) (r : Record) (last : ℕ) (u : List ℕ) : Type 0 where
   pub size : length u ≡ length t
   pub said : placesSaid u ≡ placesSaid t
-  pub lead : leadZeros u ≡ leadZeros t
+  pub latest : latestClock u ≡ latestClock t
   pub issued : lastSerial u ≡ last
   pub here : placeAt n u i ≡ r
   pub zeros : part u (bodyStart n i + zerosIn) 4 ≡ be 4 0
@@ -37,7 +37,7 @@ pub stored : (n : ℕ) (t : List ℕ) (i : ℕ) (r : Record) → Table n t → i
 stored n t i r big lo h = record {
   size = length-with n t i r;
   said = said-with n t i r big lo (h .long);
-  lead = lead-with n t i r big lo (h .long);
+  latest = latest-with n t i r big lo (h .long);
   issued = last-with n t i r big lo (h .long);
   here = place-same n t i r big lo h;
   zeros = zeros-with n t i r big lo (h .long);
@@ -52,7 +52,7 @@ pub stored-last : (n : ℕ) (t : List ℕ) (i : ℕ) (r : Record) (last : ℕ) (
 stored-last n t i r last u s big fits e = record {
   size = length-last u s ∙ e .size;
   said = said-last u s ∙ e .said;
-  lead = lead-last u s ∙ e .lead;
+  latest = latest-last u s ∙ e .latest;
   issued = last-last u s big fits;
   here = place-last u s i n ∙ e .here;
   zeros = zeros-last u s i n ∙ e .zeros;
@@ -84,16 +84,27 @@ LinkedTo r k n t = (j : ℕ) → j < n → (j ≡ k → ⊥) → Stands t j → 
 pub record Bare (n : ℕ) (t : List ℕ) : Type 0 where
   pub size : Table n t
   pub count : placesSaid t ≡ n
-  pub lead : allZero (leadZeros t) ≡ true
+  pub latest : latestClock t < 2 ^ 63
   pub free : (i : ℕ) → i < n → serialAt t i ≡ 0 → Empty n t i
   pub zeros : (i : ℕ) → i < n → Stands t i → allZero (part t (bodyStart n i + zerosIn) 4) ≡ true
   pub distinct : (i j : ℕ) → i < n → j < n → Stands t i → serialAt t i ≡ serialAt t j → i ≡ j
   pub issued : (i : ℕ) → i < n → serialAt t i ≤ lastSerial t
   pub fit : (i : ℕ) → i < n → Stands t i → Fit (lastSerial t) (placeAt n t i)
+  pub dated : (i : ℕ) → i < n → Stands t i → Dated (latestClock t) (placeAt n t i)
 
 module _ (n : ℕ) (t : List ℕ) where
   pub bare : Sound n t → Bare n t
-  bare s = record { size = s .size; count = s .count; lead = s .lead; free = s .free; zeros = s .zeros; distinct = s .distinct; issued = s .issued; fit = s .fit }
+  bare s = record {
+    size = s .size;
+    count = s .count;
+    latest = s .latest;
+    free = s .free;
+    zeros = s .zeros;
+    distinct = s .distinct;
+    issued = s .issued;
+    fit = s .fit;
+    dated = s .dated;
+  }
 
   pub linked : Sound n t → LinkedAll n t
   linked s i j h g a b = record {
@@ -105,12 +116,13 @@ module _ (n : ℕ) (t : List ℕ) where
   joined b l = record {
     size = b .size;
     count = b .count;
-    lead = b .lead;
+    latest = b .latest;
     free = b .free;
     zeros = b .zeros;
     distinct = b .distinct;
     issued = b .issued;
     fit = b .fit;
+    dated = b .dated;
     replaced = λ i j h g a c e. l i j h g a c .back (e ∙ serial-is n t j) ∙ sym (serial-is n t i);
     replacement = λ i j h g a c e. l j i g h c a .forth (e ∙ serial-is n t j) ∙ sym (serial-is n t i);
   }
@@ -186,14 +198,15 @@ module _ (n : ℕ) (t : List ℕ) (k : ℕ) (r : Record) (last : ℕ) (u : List 
         ]
       ]
 
-      pub bare-stored : lastSerial t ≤ last → r .serial ≤ last → Fit last r → Bare n u
-      bare-stored later issued fit = record {
+      pub bare-stored : lastSerial t ≤ last → r .serial ≤ last → Fit last r → Dated (latestClock t) r → Bare n u
+      bare-stored later issued fit dated = record {
         size = e .size ∙ b .size;
         count = e .said ∙ b .count;
-        lead = ap allZero (e .lead) ∙ b .lead;
+        latest = rw (e .latest) (b .latest);
         free = free-stored;
         zeros = zeros-stored;
         distinct = distinct-stored;
         issued = rw (e .issued) (by-place (λ (j : ℕ). serialAt u j ≤ last) (rw here-serial issued) (λ j l ne. rw (other-serial j l ne) (omega (arith, b .issued j l))));
         fit = rw (e .issued) (each-standing (λ j q. Fit last q) fit (λ j l ne s. fit-later (lastSerial t) last (placeAt n t j) later (b .fit j l s)));
+        dated = rw (e .latest) (each-standing (λ j q. Dated (latestClock t) q) dated (λ j l ne s. b .dated j l s));
       }

@@ -16,13 +16,14 @@ use Rattle.ttlv.specs.Tree.{isRun, treeOf}
 use Rattle.fields.specs.Fields.{bodyOf, numberOf}
 use Rattle.fields.proofs.Runs.{tail, tail-ended, tail-more}
 use Rattle.last_field.proofs.Steps.{fails, holds}
+use Rattle.values.specs.Values.{aboveZero}
 use Rattle.rules.specs.States.{codeOk}
 use Rattle.tags.specs.Tags.{usageLimitsCount, revocationReason, revocationReasonCode}
 use Rattle.target_read.specs.Readers.{targetAt}
 use Rattle.target_read.specs.declared.Target.{Target}
 use Rattle.target_read.specs.declared.TargetRead.the-variants.{Is}
 use Rattle.target_read.proofs.Targets.{target-goes, target-behind, target-within}
-use Rattle.payload.specs.Payload.{aloneIn, amountOk, allocationIn, revokeIn}
+use Rattle.payload.specs.Payload.{aloneIn, allocationIn, revokeIn}
 use Rattle.payload.specs.declared.Command.{Command}
 use Rattle.payload.specs.declared.Command.the-variants.{GetUsageAllocation, Revoke}
 
@@ -33,7 +34,7 @@ abbrev pub asks : Target → ℕ → Option Command
 asks target amount = some (GetUsageAllocation target amount)
 
 abbrev pub amountBehind : Target → Items → Option Command
-amountBehind target t = numberOf usageLimitsCount longInteger t >>= λ (amount, r). amountOk amount >> (ended r >> asks target amount)
+amountBehind target t = numberOf usageLimitsCount longInteger t >>= λ (amount, r). aboveZero amount >> (ended r >> asks target amount)
 
 -- a Revocation Reason, and in it a code
 abbrev pub revokes : Target → ℕ → Option Command

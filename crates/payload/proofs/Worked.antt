@@ -17,7 +17,7 @@ use Rattle.ttlv.specs.Items.{encode, itemOk, wellFormed}
 use Rattle.ttlv.specs.Parse.{headed, firstOf, putValue, putGroup, more, walk, parse, isOne, message}
 use Rattle.fields.specs.Fields.{startsWith, bytesOf, bodyOf, numberOf, optional}
 use Rattle.identifier.specs.Identifier.{digits, identifier, fromDigitsAfter, serialOf}
-use Rattle.attributes_read.specs.Attributes.{limitIn, limitFirst, wantedOf, limitsIn, maskedIn, attributesIn}
+use Rattle.attributes_read.specs.Attributes.{limitIn, limitFirst, dateFirst, orUnset, datesIn, wantedOf, limitedIn, maskedIn, attributesIn}
 use Rattle.target_read.specs.Target.{targetOf, targetIn}
 use Rattle.payload.specs.Payload.{createIn, aloneIn, allocationIn, revokeIn, orInvalid, command}
 
@@ -28,16 +28,21 @@ commandOf operation (some t) = some (command operation t)
 
 -- the definitions that the cases compute with: who opens this opens them all
 opened : Unit {0}
-unfolding commandOf ifb _>>=_ _>>_ isSome be fromBeAfter fromBe all same lengthOk text valueOk encode itemOk wellFormed headed firstOf putValue putGroup more walk parse isOne message startsWith ended bytesOf bodyOf numberOf optional digits identifier fromDigitsAfter serialOf limitIn limitFirst wantedOf limitsIn maskedIn attributesIn createIn targetOf targetIn aloneIn allocationIn revokeIn orInvalid command
+unfolding commandOf ifb _>>=_ _>>_ isSome be fromBeAfter fromBe all same lengthOk text valueOk encode itemOk wellFormed headed firstOf putValue putGroup more walk parse isOne message startsWith ended bytesOf bodyOf numberOf optional digits identifier fromDigitsAfter serialOf limitIn limitFirst dateFirst orUnset datesIn wantedOf limitedIn maskedIn attributesIn createIn targetOf targetIn aloneIn allocationIn revokeIn orInvalid command
 opened = tt
 
-create-limited : commandOf 0x01 (parse 6 (hex "42005705 00000004 00000002 00000000 42012501 00000058 42002805 00000004 00000003 00000000 42002A02 00000004 00000080 00000000 42002C02 00000004 00000004 00000000 42009501 00000020 42009703 00000008 00000000 00000064 42009805 00000004 00000002 00000000")) ≡ some (Create (record { bits = 128; mask = 4; unit = 2; total = 100 }))
+create-limited : commandOf 0x01 (parse 6 (hex "42005705 00000004 00000002 00000000 42012501 00000058 42002805 00000004 00000003 00000000 42002A02 00000004 00000080 00000000 42002C02 00000004 00000004 00000000 42009501 00000020 42009703 00000008 00000000 00000064 42009805 00000004 00000002 00000000")) ≡ some (Create (record { bits = 128; mask = 4; unit = 2; total = 100; activation = 0; deactivation = 0 }))
 unfolding opened
 create-limited = refl
 
-create-free : commandOf 0x01 (parse 6 (hex "42005705 00000004 00000002 00000000 42012501 00000030 42002805 00000004 00000003 00000000 42002A02 00000004 00000100 00000000 42002C02 00000004 0000000C 00000000")) ≡ some (Create (record { bits = 256; mask = 12; unit = 0; total = 0 }))
+create-free : commandOf 0x01 (parse 6 (hex "42005705 00000004 00000002 00000000 42012501 00000030 42002805 00000004 00000003 00000000 42002A02 00000004 00000100 00000000 42002C02 00000004 0000000C 00000000")) ≡ some (Create (record { bits = 256; mask = 12; unit = 0; total = 0; activation = 0; deactivation = 0 }))
 unfolding opened
 create-free = refl
+
+-- both dates
+create-dated : commandOf 0x01 (parse 6 (hex "42005705 00000004 00000002 00000000 42012501 00000050 42002805 00000004 00000003 00000000 42002A02 00000004 00000100 00000000 42002C02 00000004 0000000C 00000000 42000109 00000008 00000000 00000005 42002F09 00000008 00000000 00000009")) ≡ some (Create (record { bits = 256; mask = 12; unit = 0; total = 0; activation = 5; deactivation = 9 }))
+unfolding opened
+create-dated = refl
 
 -- a payload for another operation, and an identifier that is no Text String
 create-elsewhere : commandOf 0x04 (parse 6 (hex "42005705 00000004 00000002 00000000 42012501 00000058 42002805 00000004 00000003 00000000 42002A02 00000004 00000080 00000000 42002C02 00000004 00000004 00000000 42009501 00000020 42009703 00000008 00000000 00000064 42009805 00000004 00000002 00000000")) ≡ some Invalid

@@ -1,9 +1,8 @@
 -- 01, "Operations": each payload's shape and allowed values. "A payload holds what its line names, in that order, and nothing else."
 -- Assumes nothing. "One of wrong shape or with a value not allowed here fails with Invalid Field."
-use Prim.Native.Nat.{ℕ, _^_}
-use mathlib.Core.Bool.{Bool, _&&_}
+use Prim.Native.Nat.{ℕ}
 use mathlib.Core.Option.{Option, none, some}
-use lib.Dec.{leb, ltb, eqb}
+use lib.Dec.{eqb}
 use Rattle.octets.specs.If.{ifb}
 use Rattle.octets.specs.Maybe.{_>>=_, _>>_}
 use Rattle.ttlv_types.specs.Types.{longInteger, enumeration}
@@ -11,6 +10,7 @@ use Rattle.ttlv.specs.Items.{Items, ended}
 use Rattle.fields.specs.Fields.{bodyOf, numberOf}
 use Rattle.tags.specs.Tags.{attributes, objectType, revocationReason, revocationReasonCode, usageLimitsCount}
 use Rattle.attributes_read.specs.Attributes.{attributesIn}
+use Rattle.values.specs.Values.{aboveZero}
 use Rattle.rules.specs.Numbers.{create, rekey, get, getAttributes, getUsageAllocation, activate, revoke, destroy}
 use Rattle.rules.specs.States.{codeOk}
 use Rattle.target_read.specs.declared.Target.{Target}
@@ -43,16 +43,12 @@ aloneIn command t = do
   ended r
   some (command target)
 
--- a Long Integer is signed, so that one from 2 ^ 63 on is below 0
-abbrev pub amountOk : ℕ → Bool
-amountOk amount = leb 1 amount && ltb amount (2 ^ 63)
-
--- "Usage Limits Count, Long Integer above 0"
+-- "Usage Limits Count, Long Integer above 0": a Long Integer is signed
 unfoldable pub allocationIn : Items → Option Command
 allocationIn t = do
   (target, r) ← targetIn t
   (amount, s) ← numberOf usageLimitsCount longInteger r
-  amountOk amount
+  aboveZero amount
   ended s
   some (GetUsageAllocation target amount)
 

@@ -11,7 +11,7 @@ ghost use mathlib.Core.Path.{_≡_};
 ghost use mathlib.Core.Bool.{true};
 ghost use Rattle.ttlv.specs.Tree.{isRun, treeOf};
 ghost use Rattle.rules.specs.States.{codeOk};
-ghost use Rattle.payload.specs.Payload.{createIn, aloneIn, amountOk, allocationIn, revokeIn, orInvalid, command};
+ghost use Rattle.payload.specs.Payload.{createIn, aloneIn, allocationIn, revokeIn, orInvalid, command};
 ghost use Rattle.payload.specs.Readers.{aloneOf};
 
 // The operations.
@@ -106,13 +106,6 @@ fn read_alone(operation: u32, s: &[u8]) -> Command
     alone(operation, target)
 }
 
-// Whether an amount of units can be asked for.
-fn amount_ok(amount: u64) -> bool
-    ensures { λ r. ⌜ r ≡ amountOk amount ⌝ }
-{
-    (1 <= amount) & (amount < 0x8000_0000_0000_0000)
-}
-
 // The payload of Get Usage Allocation.
 fn read_allocation(s: &[u8]) -> Command
     requires { ⌜ isRun (now s) ≡ true ⌝ }
@@ -132,7 +125,7 @@ fn read_allocation(s: &[u8]) -> Command
     else {
         return Command::Invalid;
     };
-    if !amount_ok(amount) {
+    if !values::above_zero(amount) {
         return Command::Invalid;
     }
     Command::GetUsageAllocation { target, amount }

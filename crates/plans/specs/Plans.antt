@@ -8,14 +8,15 @@ use lib.Dec.{eqb}
 use Rattle.octets.specs.Octets.{part}
 use Rattle.table.specs.declared.Record.{Record}
 use Rattle.table.specs.Layout.{materialSize}
-use Rattle.table.specs.Records.{withPlace}
+use Rattle.table.specs.Records.{withPlace, latestClock}
 use Rattle.search.specs.Search.{isDestroyed}
 use Rattle.rules.specs.declared.Reason.{Reason}
-use Rattle.rules.specs.declared.Reason.the-variants.{ObjectDestroyed, PermissionDenied, ServerLimitExceeded}
+use Rattle.rules.specs.declared.Reason.the-variants.{ObjectDestroyed, PermissionDenied, ServerLimitExceeded, WrongKeyLifecycleState}
 use Rattle.rules.specs.declared.Attributes.{Attributes}
 use Rattle.rules.specs.Numbers.{activate, revoke, destroy}
 use Rattle.rules.specs.Tests.{Test, _⇒_, due}
 use Rattle.rules.specs.States.{activateTests, revokeTests, destroyTests, grantTests, movedState}
+use Rattle.date_rules.specs.Dates.{isLate}
 use Rattle.changes.specs.Records.{newRecord, heirOf, movedTo, withCount}
 use Rattle.changes.specs.Changes.{isFull, nextSerial, withBorn, withHeir}
 use Rattle.words.specs.Words.{wordsOf}
@@ -97,6 +98,8 @@ shownOf r = record {
   bits = r .bits;
   mask = r .mask;
   state = r .state;
+  activation = r .activation;
+  deactivation = r .deactivation;
   unit = r .unit;
   total = r .total;
   count = r .count;
@@ -146,12 +149,16 @@ module _ (env : Env) (holder : ℕ) (t : List ℕ) where
     did = changed i (withCount (r .count - amount) r);
   }
 
-  -- Activate, Revoke and Destroy move the state and answer the identifier
+  -- Activate, Revoke and Destroy move the state and answer the identifier; the clock that counts is the latest, stored before the first item
   abbrev pub moved : ℕ → ℕ → ℕ → Record → Did
-  moved operation code i r = changed i (movedTo operation (movedState operation code (r .state)) r)
+  moved operation code i r = changed i (movedTo operation code (latestClock t) (movedState operation code (r .state)) r)
 
+  -- 02, L3: "Activate on a key whose set deactivation date is at or before the clock: Wrong Key Lifecycle State"
   unfoldable pub activatePlan : ℕ → Record → Plan
-  activatePlan i r = record { tests = activateTests (r .state); did = moved activate 0 i r }
+  activatePlan i r = record {
+    tests = isLate activate (latestClock t) (r .deactivation) ⇒ WrongKeyLifecycleState ∷ activateTests (r .state);
+    did = moved activate 0 i r;
+  }
 
   unfoldable pub revokePlan : ℕ → ℕ → Record → Plan
   revokePlan code i r = record { tests = revokeTests code (r .state); did = moved revoke code i r }

@@ -4,12 +4,15 @@ ghost use Rattle.plans.specs.Plans.{failed, isFailed};
 use rules::Reason;
 use words::Words;
 
-// What Get Attributes shows of a record. Unit 0 is no usage limit; a link serial 0 is no link.
+// What Get Attributes shows of a record. A date of 0 is not set; unit 0 is no usage limit; a link
+// serial 0 is no link.
 pub struct Shown {
     pub serial: u32,
     pub bits: u16,
     pub mask: u32,
     pub state: u8,
+    pub activation: u64,
+    pub deactivation: u64,
     pub unit: u8,
     pub total: u64,
     pub count: u64,

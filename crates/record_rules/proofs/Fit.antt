@@ -2,18 +2,20 @@
 -- Assumes nothing.
 use mathlib.Core.Path.{_≡_, sym, ap, _∙_}
 use mathlib.Core.Logic.{_⊎_, inl, inr, ⊎-elim}
-use Prim.Native.Nat.{ℕ, _/_, _≤_, _<_}
-use mathlib.Core.Bool.{true, false, _&&_, false≢true}
+use Prim.Native.Nat.{ℕ, _/_, _^_, _≤_, _<_}
+use native.Mathlib.Omega.{arith}
+use native.Mathlib.Decide.{ℕ-discrete}
+use mathlib.Core.Bool.{true, false, not, _&&_, false≢true}
 use lib.ListN.{drop}
 use lib.Dec.{leb, ltb, eqb}
-use borrow.Author.Tests.{eq-eqb, ne-eqb, le-leb, lt-ltb, eqb-true, leb-true, ltb-true}
+use borrow.Author.Tests.{eq-eqb, ne-eqb, le-leb, lt-ltb, eqb-true, eqb-false, leb-true, ltb-true, not-true}
 use Rattle.octets.specs.Octets.{allZero}
 use Rattle.octets.proofs.If.{ifb-true, ifb-false, on-bool}
 use Rattle.octets.proofs.Bools.{and-l, and-r, and-i, or-cases, or-l, or-r, facts, tests}
 use Rattle.values.specs.Values.{bitsOk, unitOk, totalOk}
 use Rattle.table.specs.declared.Record.{Record}
 use Rattle.search.specs.Search.{isDestroyed}
-use Rattle.record_rules.specs.Rules.{stateRight, bitsRight, maskRight, limitRight, tailRight, wipedRight, replacedRight, replacementRight}
+use Rattle.record_rules.specs.Rules.{stateRight, bitsRight, maskRight, limitRight, tailRight, wipedRight, replacedRight, replacementRight, datesRight, orderRight, startedRight}
 
 -- ---- the facts
 
@@ -112,3 +114,41 @@ fit-of last r h = record {
   replaced = replaced-of r (h .replaced);
   replacement = replacement-of last r (h .replacement);
 }
+
+-- ---- dates
+
+-- what the dates of a record that stands show, where `latest` is the latest clock
+pub record Dated (latest : ℕ) (r : Record) : Type 0 where
+  pub activation : r .activation < 2 ^ 63
+  pub deactivation : r .deactivation < 2 ^ 63
+  pub order : (r .deactivation ≡ 0) ⊎ (r .activation ≤ r .deactivation)
+  pub started : r .state ≡ 2 → r .activation ≤ latest
+
+-- the rules of dates, each kept
+pub record Timely (latest : ℕ) (r : Record) : Type 0 where
+  pub dates : datesRight r ≡ true
+  pub order : orderRight r ≡ true
+  pub started : startedRight latest r ≡ true
+
+pub dated-is : (latest : ℕ) (r : Record) → Timely latest r → Dated latest r
+unfolding datesRight orderRight startedRight
+dated-is latest r h = record {
+  activation = ltb-true (r .activation) (2 ^ 63) (and-l (ltb (r .activation) (2 ^ 63)) (ltb (r .deactivation) (2 ^ 63)) (h .dates));
+  deactivation = ltb-true (r .deactivation) (2 ^ 63) (and-r (ltb (r .activation) (2 ^ 63)) (ltb (r .deactivation) (2 ^ 63)) (h .dates));
+  order = ⊎-elim (λ z. inl (eqb-true (r .deactivation) 0 z)) (λ z. inr (leb-true (r .activation) (r .deactivation) z)) (or-cases _ _ (h .order));
+  started = λ e. ⊎-elim (λ z. absurd (eqb-false (r .state) 2 (not-true (eqb (r .state) 2) z) e)) (λ z. leb-true (r .activation) latest z) (or-cases _ _ (h .started));
+}
+
+pub dated-of : (latest : ℕ) (r : Record) → Dated latest r → Timely latest r
+unfolding datesRight orderRight startedRight
+dated-of latest r h = record {
+  dates = and-i _ _ (lt-ltb (r .activation) (2 ^ 63) (h .activation)) (lt-ltb (r .deactivation) (2 ^ 63) (h .deactivation));
+  order = ⊎-elim (λ z. or-l _ _ (eq-eqb (r .deactivation) 0 z)) (λ z. or-r (eqb (r .deactivation) 0) _ (le-leb (r .activation) (r .deactivation) z)) (h .order);
+  started = elim (ℕ-discrete (r .state) 2) [
+    | yes e ↦ or-r (not (eqb (r .state) 2)) _ (le-leb (r .activation) latest (h .started e))
+    | no e ↦ or-l _ _ (ap not (ne-eqb (r .state) 2 e))
+  ];
+}
+
+pub dated-later : (latest next : ℕ) (r : Record) → latest ≤ next → Dated latest r → Dated next r
+dated-later latest next r l h = record { activation = h .activation; deactivation = h .deactivation; order = h .order; started = λ e. let s = h .started e in omega arith }

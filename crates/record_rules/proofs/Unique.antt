@@ -5,6 +5,7 @@ use Rattle.outcomes.specs.Outcomes.{OneAnswer}
 use Rattle.record_rules.proofs.values_right.Reads as values-right-reads
 use Rattle.record_rules.proofs.names_right.Reads as names-right-reads
 use Rattle.record_rules.proofs.zeros_from.Reads as zeros-from-reads
+use Rattle.record_rules.proofs.times_right.Reads as times-right-reads
 
 pub values-right-unique : OneAnswer values-right-reads.Post
 values-right-unique κs a r r′ s s′ p q = p ∙ sym q
@@ -14,3 +15,6 @@ names-right-unique κs a r r′ s s′ p q = p ∙ sym q
 
 pub zeros-from-unique : OneAnswer zeros-from-reads.Post
 zeros-from-unique κs a r r′ s s′ p q = p ∙ sym q
+
+pub times-right-unique : OneAnswer times-right-reads.Post
+times-right-unique κs a r r′ s s′ p q = p ∙ sym q

@@ -4,11 +4,11 @@ ghost use mathlib.Core.Path.{_≡_};
 ghost use Prim.Native.Nat.{min};
 ghost use Rattle.table.specs.Layout.{materialSize};
 ghost use Rattle.record_rules.specs.Rules.{limitRight};
-ghost use Rattle.record_rules.specs.Checked.{valuesRight, zerosFrom, namesRight};
+ghost use Rattle.record_rules.specs.Checked.{valuesRight, zerosFrom, namesRight, timesRight};
 use table::Layout;
 use table::Record;
 
-// Rule 11: no limit and nothing counted, or a limit in range and no more left than it.
+// Rule 10: no limit and nothing counted, or a limit in range and no more left than it.
 fn limit_right(p: Record) -> bool
     ensures { λ r. ⌜ r ≡ limitRight p ⌝ }
 {
@@ -18,7 +18,7 @@ fn limit_right(p: Record) -> bool
     values::unit_ok(p.unit as u64) & values::total_ok(p.total) & (p.count <= p.total)
 }
 
-// Rules 8 to 11: state, length in bits, mask and limit.
+// Rules 7 to 10: state, length in bits, mask and limit.
 pub fn values_right(p: Record) -> bool
     ensures { λ r. ⌜ r ≡ valuesRight p ⌝ }
 {
@@ -29,7 +29,7 @@ pub fn values_right(p: Record) -> bool
         & limit_right(p)
 }
 
-// Rules 7, 14 and 15: the serial and those that it is linked to, where `last` is the last one
+// Rules 6, 13 and 14: the serial and those that it is linked to, where `last` is the last one
 // issued.
 pub fn names_right(p: Record, last: u32) -> bool
     ensures { λ r. ⌜ r ≡ namesRight last p ⌝ }
@@ -48,4 +48,13 @@ pub fn zeros_from(p: Record) -> usize
         return 0;
     }
     octets::fewer((p.bits / 8) as usize, Layout::MATERIAL)
+}
+
+// Rules 16, 18 and 19: the dates, where `latest` is the latest clock.
+pub fn times_right(p: Record, latest: u64) -> bool
+    ensures { λ r. ⌜ r ≡ timesRight latest p ⌝ }
+{
+    let set = values::not_negative(p.activation) & values::not_negative(p.deactivation);
+    let order = values::in_order(p.activation, p.deactivation);
+    set & order & ((p.state != 2) | (p.activation <= latest))
 }

@@ -38,6 +38,8 @@ pub fn load(t: &[u8], n: usize, i: usize) -> Record
     let count = octets::number_at(t, body + Layout::COUNT_IN, 8);
     let mask = octets::number_at(t, body + Layout::MASK_IN, 4) as u32;
     let material = material_at(t, body + Layout::MATERIAL_IN);
+    let activation = octets::number_at(t, body + Layout::ACTIVATION_IN, 8);
+    let deactivation = octets::number_at(t, body + Layout::DEACTIVATION_IN, 8);
     Record {
         serial,
         state,
@@ -49,6 +51,8 @@ pub fn load(t: &[u8], n: usize, i: usize) -> Record
         count,
         mask,
         material,
+        activation,
+        deactivation,
     }
 }
 

@@ -32,15 +32,26 @@ fn put_line(
 }
 
 // Writes a body from `at` on; its caller shows that it lies in the table.
-fn put_body(t: &mut [u8], at: usize, total: u64, count: u64, mask: u32, material: [u8; 32])
+fn put_body(
+    t: &mut [u8],
+    at: usize,
+    total: u64,
+    count: u64,
+    mask: u32,
+    material: [u8; 32],
+    activation: u64,
+    deactivation: u64,
+)
     requires { ⌜ at + bodySize ≤ length (now t) ⌝ }
-    ensures { λ _. ⌜ now (t .exit) ≡ sets (now (t .entry)) at (body total count mask material) ⌝ }
+    ensures { λ _. ⌜ now (t .exit) ≡ sets (now (t .entry)) at (body total count mask material activation deactivation) ⌝ }
 {
     octets::put(t, at + Layout::TOTAL_IN, 8, total);
     octets::put(t, at + Layout::COUNT_IN, 8, count);
     octets::put(t, at + Layout::MASK_IN, 4, mask as u64);
     octets::put(t, at + Layout::ZEROS_IN, 4, 0);
     octets::put_all(t, at + Layout::MATERIAL_IN, &material);
+    octets::put(t, at + Layout::ACTIVATION_IN, 8, activation);
+    octets::put(t, at + Layout::DEACTIVATION_IN, 8, deactivation);
 }
 
 // Stores a record at place i.
@@ -62,5 +73,14 @@ pub fn store(t: &mut [u8], n: usize, i: usize, r: Record)
         r.replaced,
         r.replacement,
     );
-    put_body(t, body_at, r.total, r.count, r.mask, material);
+    put_body(
+        t,
+        body_at,
+        r.total,
+        r.count,
+        r.mask,
+        material,
+        r.activation,
+        r.deactivation,
+    );
 }

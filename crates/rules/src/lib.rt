@@ -29,12 +29,15 @@ pub enum Granted {
     Denied(Reason),
 }
 
-// The attributes that Create gives to a key; unit 0 and total 0 mean no usage limit.
+// The attributes that Create gives to a key; unit 0 and total 0 mean no usage limit, a date of 0 is
+// not set.
 pub struct Attributes {
     pub bits: u16,
     pub mask: u32,
     pub unit: u8,
     pub total: u64,
+    pub activation: u64,
+    pub deactivation: u64,
 }
 
 // The operations that move a state, as `Numbers` has them.
@@ -47,9 +50,9 @@ pub const DESTROY: u32 = 0x14;
 // The states, as `Numbers` has them.
 pub const PRE_ACTIVE: u8 = 1;
 
-const ACTIVE: u8 = 2;
+pub const ACTIVE: u8 = 2;
 
-const DEACTIVATED: u8 = 3;
+pub const DEACTIVATED: u8 = 3;
 
 const COMPROMISED: u8 = 4;
 

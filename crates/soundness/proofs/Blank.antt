@@ -8,7 +8,7 @@ use Rattle.octets.specs.Octets.{allZero}
 use Rattle.table.specs.Layout.{lineSize, bodySize}
 use Rattle.table.specs.Records.{blank}
 use Rattle.octets.proofs.Zeros.{zeros-pass}
-use Rattle.table.proofs.Blank.{length-blank, said-blank, lead-blank, line-blank, body-blank, serial-blank}
+use Rattle.table.proofs.Blank.{length-blank, said-blank, latest-blank, line-blank, body-blank, serial-blank}
 use Rattle.soundness.specs.Sound.{sound}
 use Rattle.soundness.proofs.SoundIs.{Sound, Stands, sound-of}
 
@@ -21,12 +21,13 @@ module _ (n : ℕ) (few : n < 256 ^ 4) where
   blank-facts = record {
     size = length-blank n;
     count = said-blank n few;
-    lead = ap allZero (lead-blank n) ∙ zeros-pass 8;
+    latest = omega (arith, latest-blank n);
     free = λ i h z. record { line = ap allZero (line-blank n i h) ∙ zeros-pass lineSize; body = ap allZero (body-blank n i h) ∙ zeros-pass bodySize };
     zeros = λ i h s. none-stands i h s;
     distinct = λ i j h g s e. none-stands i h s;
     issued = λ i h. omega (arith, serial-blank n i h);
     fit = λ i h s. none-stands i h s;
+    dated = λ i h s. none-stands i h s;
     replaced = λ i j h g s u e. none-stands i h s;
     replacement = λ i j h g s u e. none-stands i h s;
   }

@@ -2,7 +2,7 @@
 -- Assumes nothing.
 use mathlib.Core.Path.{_≡_, refl, sym, ap, _∙_}
 use mathlib.Core.Logic.{⊎-elim}
-use Prim.Native.Nat.{ℕ, _+_, _≤_, _<_, max}
+use Prim.Native.Nat.{ℕ, _+_, _^_, _≤_, _<_, max}
 use native.Mathlib.Nat.{eq-or-lt-of-le, le-trans, le-max-left, le-max-right}
 use native.Mathlib.Omega.{arith}
 use native.Mathlib.Decide.{ℕ-discrete}
@@ -10,21 +10,21 @@ use mathlib.Core.Bool.{Bool, true, false, _&&_, false≢true}
 use mathlib.Core.List.{List}
 use lib.ListN.{length}
 use lib.Dec.{eqb}
-use borrow.Author.Tests.{eq-eqb, ne-eqb, eqb-true}
+use borrow.Author.Tests.{eq-eqb, ne-eqb, lt-ltb, eqb-true}
 use Rattle.octets.specs.Octets.{part, allZero}
 use Rattle.octets.proofs.If.{ifb-true, ifb-false}
 use Rattle.table.specs.declared.Record.{Record}
 use Rattle.search.specs.declared.Found.{Found}
 use Rattle.search.specs.declared.Found.the-variants.{At, Nothing}
 use Rattle.table.specs.Layout.{lineStart, lineSize, sizeOf, Table, replacedIn, replacementIn}
-use Rattle.table.specs.Records.{placeAt, serialAt, lastSerial, placesSaid}
+use Rattle.table.specs.Records.{placeAt, serialAt, lastSerial, placesSaid, latestClock}
 use Rattle.search.specs.Search.{find}
 use Rattle.table.proofs.Places.{serial-is}
 use Rattle.search.proofs.Finds.{find-is}
 use Rattle.records.proofs.Links.{link-replaced, link-replacement}
-use Rattle.record_rules.specs.Checked.{valuesRight, namesRight, materialRight}
-use Rattle.record_rules.proofs.Fit.{Right, fit-is, fit-of}
-use Rattle.soundness.specs.Sound.{sizeRight, countRight, leadRight, freeRight, zerosRight, ifStands, namesReplacement, namesReplaced, linksRight, sound}
+use Rattle.record_rules.specs.Checked.{valuesRight, namesRight, materialRight, timesRight}
+use Rattle.record_rules.proofs.Fit.{Right, fit-is, fit-of, Timely, dated-is, dated-of}
+use Rattle.soundness.specs.Sound.{sizeRight, countRight, latestRight, freeRight, zerosRight, ifStands, namesReplacement, namesReplaced, linksRight, sound}
 use Rattle.soundness.specs.Checked.{wholeRight, TopBelow, isAt, hasLink, standingRight, placeRight}
 use Rattle.octets.proofs.Bools.{and-l, and-r, and-i, no-unless, not-both, facts, tests}
 use Rattle.soundness.proofs.SoundIs.{Sound, Stands, Linked, Distinct, find-own, own-distinct, links-is, links-of, sound-is, sound-of}
@@ -42,17 +42,19 @@ at-of i f e = ap (isAt i) e ∙ eq-eqb i i refl
 record Asked (n : ℕ) (t : List ℕ) (i : ℕ) (r : Record) : Type 0 where
   zeros : zerosRight n t i ≡ true
   right : Right (lastSerial t) r
+  timely : Timely (latestClock t) r
   issued : r .serial ≤ lastSerial t
   own : find n t (r .serial) ≡ At i
   links : linksRight n t r ≡ true
 
 module _ (n : ℕ) (t : List ℕ) (i : ℕ) (r : Record) where
   asked-is : standingRight n t i r ≡ true → Asked n t i r
-  unfolding standingRight valuesRight namesRight materialRight
+  unfolding standingRight valuesRight namesRight materialRight timesRight
   asked-is e =
       let values : valuesRight r ≡ true = search facts in
       let material : materialRight r ≡ true = search facts in
       let names : namesRight (lastSerial t) r ≡ true = search facts in
+      let times : timesRight (latestClock t) r ≡ true = search facts in
       record {
         zeros = search facts;
         right = record {
@@ -65,13 +67,14 @@ module _ (n : ℕ) (t : List ℕ) (i : ℕ) (r : Record) where
           replaced = search facts;
           replacement = search facts;
         };
+        timely = record { dates = search facts; order = search facts; started = search facts };
         issued = search facts;
         own = at-is i _ (search facts);
         links = search facts;
       }
 
   asked-of : Asked n t i r → standingRight n t i r ≡ true
-  unfolding standingRight valuesRight namesRight materialRight
+  unfolding standingRight valuesRight namesRight materialRight timesRight
   asked-of a =
       let own : isAt i (find n t (r .serial)) ≡ true = at-of i _ (a .own) in
       search tests
@@ -86,8 +89,8 @@ module _ (n : ℕ) (t : List ℕ) where
   place-standing i s = ifb-false _ _ _ (ne-eqb (serialAt t i) 0 s)
 
   pub whole-of : Sound n t → wholeRight n t ≡ true
-  unfolding wholeRight sizeRight countRight leadRight
-  whole-of h = and-i _ _ (and-i _ _ (eq-eqb (length t) (sizeOf n) (h .size)) (eq-eqb (placesSaid t) n (h .count))) (h .lead)
+  unfolding wholeRight sizeRight countRight latestRight
+  whole-of h = and-i _ _ (and-i _ _ (eq-eqb (length t) (sizeOf n) (h .size)) (eq-eqb (placesSaid t) n (h .count))) (lt-ltb (latestClock t) (2 ^ 63) (h .latest))
 
   pub place-of : Sound n t → (i : ℕ) → i < n → placeRight n t i ≡ true
   unfolding freeRight zerosRight
@@ -96,6 +99,7 @@ module _ (n : ℕ) (t : List ℕ) where
     | no s ↦ place-standing i s ∙ asked-of n t i (placeAt n t i) (record {
       zeros = h .zeros i l s;
       right = fit-of (lastSerial t) (placeAt n t i) (h .fit i l s);
+      timely = dated-of (latestClock t) (placeAt n t i) (h .dated i l s);
       issued = rw (serial-is n t i) at (h .issued i l);
       own = ap (find n t) (sym (serial-is n t i)) ∙ find-own n t (h .distinct) i l s;
       links = links-of n t (placeAt n t i) (record {
@@ -107,7 +111,7 @@ module _ (n : ℕ) (t : List ℕ) where
 
   -- a table whose lead and every place pass is sound
   pub checked-sound : wholeRight n t ≡ true → ((i : ℕ) → i < n → placeRight n t i ≡ true) → sound n t ≡ true
-  unfolding wholeRight sizeRight countRight leadRight freeRight zerosRight
+  unfolding wholeRight sizeRight countRight latestRight freeRight zerosRight
   checked-sound w p =
       let asked : (i : ℕ) → i < n → Stands t i → Asked n t i (placeAt n t i) = λ i l s. asked-is n t i (placeAt n t i) (sym (place-standing i s) ∙ p i l) in
       let alone : Distinct n t = own-distinct n t (λ i l s. ap (find n t) (serial-is n t i) ∙ asked i l s .own) in
@@ -115,13 +119,14 @@ module _ (n : ℕ) (t : List ℕ) where
       sound-of n t (record {
         size = search facts;
         count = search facts;
-        lead = search facts;
+        latest = search facts;
         free = λ i l z. let g : freeRight n t i ≡ true = sym (place-free i z) ∙ p i l in
             record { line = and-l (allZero (part t (lineStart i) lineSize)) _ g; body = and-r (allZero (part t (lineStart i) lineSize)) _ g };
         zeros = λ i l s. asked i l s .zeros;
         distinct = alone;
         issued = λ i l. elim (ℕ-discrete (serialAt t i) 0) [ yes z ↦ omega arith | no s ↦ rw (serial-is n t i) (asked i l s .issued) ];
         fit = λ i l s. fit-is (lastSerial t) (placeAt n t i) (asked i l s .right);
+        dated = λ i l s. dated-is (latestClock t) (placeAt n t i) (asked i l s .timely);
         replaced = λ i j l g s u q. linked i l s .replaced j g u q ∙ sym (serial-is n t i);
         replacement = λ i j l g s u q. linked i l s .replacement j g u q ∙ sym (serial-is n t i);
       })
@@ -137,15 +142,15 @@ module _ (n : ℕ) (t : List ℕ) where
 
   pub whole-size : wholeRight n t ≡ true → Table n t
   unfolding wholeRight sizeRight
-  whole-size e = eqb-true (length t) (sizeOf n) (and-l _ (countRight n t) (and-l _ (leadRight n t) e))
+  whole-size e = eqb-true (length t) (sizeOf n) (and-l _ (countRight n t) (and-l _ (latestRight n t) e))
 
-  pub whole-sized : Table n t → wholeRight n t ≡ (countRight n t && leadRight n t)
+  pub whole-sized : Table n t → wholeRight n t ≡ (countRight n t && latestRight n t)
   unfolding wholeRight sizeRight
-  whole-sized e = ap (λ (b : Bool). b && countRight n t && leadRight n t) (eq-eqb (length t) (sizeOf n) e)
+  whole-sized e = ap (λ (b : Bool). b && countRight n t && latestRight n t) (eq-eqb (length t) (sizeOf n) e)
 
   pub whole-unsized : eqb (length t) (sizeOf n) ≡ false → wholeRight n t ≡ false
   unfolding wholeRight sizeRight
-  whole-unsized e = ap (λ (b : Bool). b && countRight n t && leadRight n t) e
+  whole-unsized e = ap (λ (b : Bool). b && countRight n t && latestRight n t) e
 
   -- the places below i have passed
   abbrev pub Passed : ℕ → Type 0
@@ -160,7 +165,7 @@ unfolding ifStands
 stands-same e (At j) = e j
 stands-same e Nothing = refl
 
--- the halves of rule 16 as the check asks them
+-- the halves of rule 15 as the check asks them
 links-parts : (n : ℕ) (t : List ℕ) (r : Record)
     → (ifStands (hasLink t (r .serial) replacementIn) (find n t (r .replaced)) && ifStands (hasLink t (r .serial) replacedIn) (find n t (r .replacement))) ≡ linksRight n t r
 unfolding linksRight
@@ -171,13 +176,13 @@ links-parts n t r =
     )
 
 -- the answers of the functions for the parts of a standing place's rules, put together
-pub standing-parts : (n : ℕ) (t : List ℕ) (i last : ℕ) (r : Record) {zeros values material names own back forth : Bool} → last ≡ lastSerial t
-    → zeros ≡ zerosRight n t i → values ≡ valuesRight r → material ≡ materialRight r → names ≡ namesRight last r → own ≡ isAt i (find n t (r .serial))
+pub standing-parts : (n : ℕ) (t : List ℕ) (i last latest : ℕ) (r : Record) {zeros values material names times own back forth : Bool} → last ≡ lastSerial t → latest ≡ latestClock t
+    → zeros ≡ zerosRight n t i → values ≡ valuesRight r → material ≡ materialRight r → names ≡ namesRight last r → times ≡ timesRight latest r → own ≡ isAt i (find n t (r .serial))
     → back ≡ ifStands (hasLink t (r .serial) replacementIn) (find n t (r .replaced))
     → forth ≡ ifStands (hasLink t (r .serial) replacedIn) (find n t (r .replacement))
-    → ((zeros && values && material && names) && own && (back && forth)) ≡ standingRight n t i r
+    → ((zeros && values && material && names && times) && own && (back && forth)) ≡ standingRight n t i r
 unfolding standingRight
-standing-parts n t i last r l z v m a o b f = rw (z, v, m, a, o, b, f, links-parts n t r, l)
+standing-parts n t i last latest r l k z v m a d o b f = rw (z, v, m, a, d, o, b, f, links-parts n t r, l, k)
 
 -- a serial above those of all lower places is found at its own
 pub top-own : (n : ℕ) (t : List ℕ) (i top serial : ℕ) → i < n → serial ≡ serialAt t i → TopBelow t i top → top < serial → isAt i (find n t serial) ≡ true

@@ -1,7 +1,7 @@
 -- A sound table as plain facts, and the test and the facts each from the other.
 -- Assumes nothing.
 use mathlib.Core.Path.{_≡_, refl, sym, ap, _∙_}
-use Prim.Native.Nat.{ℕ, _+_, _≤_, _<_}
+use Prim.Native.Nat.{ℕ, _+_, _^_, _≤_, _<_}
 use native.Mathlib.Omega.{arith}
 use native.Mathlib.Decide.{ℕ-discrete}
 use mathlib.Core.Bool.{Bool, true, false, not, false≢true}
@@ -9,21 +9,21 @@ use mathlib.Core.Option.{Option, none, some}
 use mathlib.Core.List.{List}
 use lib.ListN.{length}
 use lib.Dec.{eqb}
-use borrow.Author.Tests.{eq-eqb, ne-eqb, le-leb, eqb-true, eqb-false, leb-true, not-true}
+use borrow.Author.Tests.{eq-eqb, ne-eqb, le-leb, lt-ltb, eqb-true, eqb-false, leb-true, ltb-true, not-true}
 use Rattle.octets.specs.Maybe.{isSome}
 use Rattle.octets.specs.Octets.{part, allZero}
 use Rattle.table.specs.declared.Record.{Record}
 use Rattle.search.specs.declared.Found.{Found}
 use Rattle.search.specs.declared.Found.the-variants.{At, Nothing}
 use Rattle.table.specs.Layout.{lineSize, bodySize, lineStart, bodyStart, sizeOf, Table, zerosIn}
-use Rattle.table.specs.Records.{placeAt, serialAt, isFree, lastSerial, placesSaid, leadZeros}
+use Rattle.table.specs.Records.{placeAt, serialAt, isFree, lastSerial, placesSaid, latestClock}
 use Rattle.search.specs.Search.{isNothing, find}
 use Rattle.search.proofs.First.{isNothing-is, none-fails, fails-none}
 use Rattle.table.proofs.Places.{serial-is}
 use Rattle.search.proofs.Finds.{find-nonzero, find-below, find-serial, find-only}
-use Rattle.record_rules.specs.Rules.{stateRight, bitsRight, maskRight, limitRight, tailRight, wipedRight, replacedRight, replacementRight}
-use Rattle.record_rules.proofs.Fit.{Fit, Right, fit-is, fit-of}
-use Rattle.soundness.specs.Sound.{Fault, rules, sizeRight, countRight, leadRight, freeRight, zerosRight, isTwin, distinctRight, issuedRight, ifStands, namesReplaced, namesReplacement, linksRight, breaksFree, breaksStanding, firstFault, sound}
+use Rattle.record_rules.specs.Rules.{stateRight, bitsRight, maskRight, limitRight, tailRight, wipedRight, replacedRight, replacementRight, datesRight, orderRight, startedRight}
+use Rattle.record_rules.proofs.Fit.{Fit, Right, fit-is, fit-of, Dated, Timely, dated-is, dated-of}
+use Rattle.soundness.specs.Sound.{Fault, rules, sizeRight, countRight, latestRight, freeRight, zerosRight, isTwin, distinctRight, issuedRight, ifStands, namesReplaced, namesReplacement, linksRight, breaksFree, breaksStanding, firstFault, sound}
 use Rattle.octets.proofs.Bools.{and-l, and-r, and-i, yes-unless, no-unless, not-both}
 use Rattle.soundness.proofs.Faults.{Nowhere, Kept, end, holds, nowhere, fault-none, none-fault}
 
@@ -42,12 +42,13 @@ pub record Empty (n : ℕ) (t : List ℕ) (i : ℕ) : Type 0 where
 pub record Sound (n : ℕ) (t : List ℕ) : Type 0 where
   pub size : Table n t
   pub count : placesSaid t ≡ n
-  pub lead : allZero (leadZeros t) ≡ true
+  pub latest : latestClock t < 2 ^ 63
   pub free : (i : ℕ) → i < n → serialAt t i ≡ 0 → Empty n t i
   pub zeros : (i : ℕ) → i < n → Stands t i → allZero (part t (bodyStart n i + zerosIn) 4) ≡ true
   pub distinct : (i j : ℕ) → i < n → j < n → Stands t i → serialAt t i ≡ serialAt t j → i ≡ j
   pub issued : (i : ℕ) → i < n → serialAt t i ≤ lastSerial t
   pub fit : (i : ℕ) → i < n → Stands t i → Fit (lastSerial t) (placeAt n t i)
+  pub dated : (i : ℕ) → i < n → Stands t i → Dated (latestClock t) (placeAt n t i)
   pub replaced : (i j : ℕ) → i < n → j < n → Stands t i → Stands t j → placeAt n t i .replaced ≡ serialAt t j → placeAt n t j .replacement ≡ serialAt t i
   pub replacement : (i j : ℕ) → i < n → j < n → Stands t i → Stands t j → placeAt n t i .replacement ≡ serialAt t j → placeAt n t j .replaced ≡ serialAt t i
 
@@ -167,17 +168,17 @@ module _ (n : ℕ) (t : List ℕ) where
   each-at rule h i l = kept-standing n t i rule (h i l)
 
   pub sound-is : sound n t ≡ true → Sound n t
-  unfolding sound sizeRight countRight leadRight freeRight zerosRight issuedRight
+  unfolding sound sizeRight countRight latestRight freeRight zerosRight issuedRight
   sound-is e = go (fault-none n t (no-fault (firstFault n t) e))
     where
       go : Kept n t rules → Sound n t
-      go (holds size (holds count (holds lead (nowhere free (nowhere zeros (nowhere distinct (nowhere issued (nowhere state (nowhere bits (nowhere mask (nowhere limit (nowhere tail (nowhere wiped (nowhere replaced (nowhere replacement (nowhere links end)))))))))))))))) =
+      go (holds size (holds count (nowhere free (nowhere zeros (nowhere distinct (nowhere issued (nowhere state (nowhere bits (nowhere mask (nowhere limit (nowhere tail (nowhere wiped (nowhere replaced (nowhere replacement (nowhere links (nowhere dates (holds latest (nowhere order (nowhere started end))))))))))))))))))) =
           let alone : Distinct n t = distinct-is n t (at-each distinctRight distinct) in
           let linked : (i : ℕ) → i < n → Stands t i → Linked n t (placeAt n t i) = λ i l s. links-is n t alone (placeAt n t i) (at-each (λ n t i. linksRight n t (placeAt n t i)) links i l s) in
           record {
             size = eqb-true (length t) (sizeOf n) size;
             count = eqb-true (placesSaid t) n count;
-            lead = lead;
+            latest = ltb-true (latestClock t) (2 ^ 63) latest;
             free = λ i l z. let g : freeRight n t i ≡ true = free-kept n t i (free i l) z in
                 record { line = and-l (allZero (part t (lineStart i) lineSize)) _ g; body = and-r (allZero (part t (lineStart i) lineSize)) _ g };
             zeros = at-each zerosRight zeros;
@@ -196,23 +197,28 @@ module _ (n : ℕ) (t : List ℕ) where
               replaced = at-each (λ n t i. replacedRight (placeAt n t i)) replaced i l s;
               replacement = at-each (λ n t i. replacementRight (lastSerial t) (placeAt n t i)) replacement i l s;
             });
+            dated = λ i l s. dated-is (latestClock t) (placeAt n t i) (record {
+              dates = at-each (λ n t i. datesRight (placeAt n t i)) dates i l s;
+              order = at-each (λ n t i. orderRight (placeAt n t i)) order i l s;
+              started = at-each (λ n t i. startedRight (latestClock t) (placeAt n t i)) started i l s;
+            });
             replaced = λ i j h g s u q. linked i h s .replaced j g u q ∙ sym (serial-is n t i);
             replacement = λ i j h g s u q. linked i h s .replacement j g u q ∙ sym (serial-is n t i);
           }
 
   pub sound-of : Sound n t → sound n t ≡ true
-  unfolding sound sizeRight countRight leadRight freeRight zerosRight issuedRight isSome
+  unfolding sound sizeRight countRight latestRight freeRight zerosRight issuedRight isSome
   sound-of h =
       let right : (i : ℕ) → i < n → Stands t i → Right (lastSerial t) (placeAt n t i) = λ i l s. fit-of (lastSerial t) (placeAt n t i) (h .fit i l s) in
       let linked : (i : ℕ) → i < n → Stands t i → Linked n t (placeAt n t i) = λ i l s. record {
         replaced = λ j g u q. h .replaced i j l g s u q ∙ serial-is n t i;
         replacement = λ j g u q. h .replacement i j l g s u q ∙ serial-is n t i;
       } in
+      let timely : (i : ℕ) → i < n → Stands t i → Timely (latestClock t) (placeAt n t i) = λ i l s. dated-of (latestClock t) (placeAt n t i) (h .dated i l s) in
       let free : (i : ℕ) → i < n → serialAt t i ≡ 0 → freeRight n t i ≡ true = λ i l z. and-i _ _ (h .free i l z .line) (h .free i l z .body) in
       let kept : Kept n t rules =
       holds (eq-eqb (length t) (sizeOf n) (h .size))
       (holds (eq-eqb (placesSaid t) n (h .count))
-      (holds (h .lead)
       (nowhere (λ i l. kept-free n t i (free i l))
       (nowhere (each-at zerosRight (h .zeros))
       (nowhere (each-at distinctRight (distinct-of n t (h .distinct)))
@@ -225,5 +231,9 @@ module _ (n : ℕ) (t : List ℕ) where
       (nowhere (each-at _ (λ i l s. right i l s .wiped))
       (nowhere (each-at _ (λ i l s. right i l s .replaced))
       (nowhere (each-at _ (λ i l s. right i l s .replacement))
-      (nowhere (each-at _ (λ i l s. links-of n t (placeAt n t i) (linked i l s))) end))))))))))))))) in
+      (nowhere (each-at _ (λ i l s. links-of n t (placeAt n t i) (linked i l s)))
+      (nowhere (each-at _ (λ i l s. timely i l s .dates))
+      (holds (lt-ltb (latestClock t) (2 ^ 63) (h .latest))
+      (nowhere (each-at _ (λ i l s. timely i l s .order))
+      (nowhere (each-at _ (λ i l s. timely i l s .started)) end)))))))))))))))))) in
       ap (λ (o : Option Fault). not (isSome o)) (none-fault n t kept)

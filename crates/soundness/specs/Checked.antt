@@ -10,15 +10,15 @@ use Rattle.table.specs.declared.Record.{Record}
 use Rattle.search.specs.declared.Found.{Found}
 use Rattle.search.specs.declared.Found.the-variants.{At, Nothing}
 use Rattle.table.specs.Layout.{lineSize, Table, Place}
-use Rattle.table.specs.Records.{placeAt, serialAt, isFree, lastSerial}
+use Rattle.table.specs.Records.{placeAt, serialAt, isFree, lastSerial, latestClock}
 use Rattle.search.specs.Search.{find}
 use Rattle.records.specs.Links.{linkAt}
-use Rattle.record_rules.specs.Checked.{valuesRight, materialRight, namesRight}
-use Rattle.soundness.specs.Sound.{sizeRight, countRight, leadRight, freeRight, zerosRight, linksRight}
+use Rattle.record_rules.specs.Checked.{valuesRight, materialRight, namesRight, timesRight}
+use Rattle.soundness.specs.Sound.{sizeRight, countRight, latestRight, freeRight, zerosRight, linksRight}
 
--- rules 1 to 3
+-- rules 1, 2 and 17
 unfoldable pub wholeRight : ℕ → List ℕ → Bool
-wholeRight n t = sizeRight n t && countRight n t && leadRight n t
+wholeRight n t = sizeRight n t && countRight n t && latestRight n t
 
 -- no serial at the places below i is above `top`
 abbrev pub TopBelow : List ℕ → ℕ → ℕ → Type 0
@@ -33,12 +33,13 @@ isAt i Nothing = false
 abbrev pub hasLink : List ℕ → ℕ → ℕ → ℕ → Bool
 hasLink t serial from j = eqb (linkAt t j from) serial
 
--- rules 5 to 16 at place i, where r stands: its serial is distinct if the search for it gives this place
+-- rules 4 to 16, 18 and 19 at place i, where r stands: its serial is distinct if the search for it gives this place
 unfoldable pub standingRight : ℕ → List ℕ → ℕ → Record → Bool
 standingRight n t i r =
-    zerosRight n t i && valuesRight r && materialRight r && namesRight (lastSerial t) r && isAt i (find n t (r .serial)) && linksRight n t r
+    zerosRight n t i && valuesRight r && materialRight r && namesRight (lastSerial t) r && timesRight (latestClock t) r
+    && isAt i (find n t (r .serial)) && linksRight n t r
 
--- rules 4 to 16 at place i
+-- rules 3 to 16, 18 and 19 at place i
 unfoldable pub placeRight : ℕ → List ℕ → ℕ → Bool
 placeRight n t i = ifb (isFree t i) (freeRight n t i) (standingRight n t i (placeAt n t i))
 
@@ -60,13 +61,14 @@ pub record Owns (n : ℕ) (t : List ℕ) (i top serial : ℕ) : Type 0 where
   pub own : serial ≡ serialAt t i
   pub highest : TopBelow t i top
 
--- the check has come to place i: `last` is the last serial issued, and `top` is as high as any below
-pub record Reached (n : ℕ) (t : List ℕ) (i last top : ℕ) : Type 0 where
+-- the check has come to place i: `last` is the last serial issued, `latest` the latest clock, and `top` is as high as any below
+pub record Reached (n : ℕ) (t : List ℕ) (i last latest top : ℕ) : Type 0 where
   pub place : Place n t i
   pub issued : last ≡ lastSerial t
+  pub seen : latest ≡ latestClock t
   pub highest : TopBelow t i top
 
 -- and p is the record there
-pub record ReachedRecord (n : ℕ) (t : List ℕ) (i last top : ℕ) (p : Record) : Type 0 where
-  pub reached : Reached n t i last top
+pub record ReachedRecord (n : ℕ) (t : List ℕ) (i last latest top : ℕ) (p : Record) : Type 0 where
+  pub reached : Reached n t i last latest top
   pub held : p ≡ placeAt n t i

@@ -13,9 +13,10 @@ use Rattle.table.specs.declared.Record.{Record}
 use Rattle.search.specs.declared.Found.{Found}
 use Rattle.search.specs.declared.Found.the-variants.{At, Nothing}
 use Rattle.table.specs.Layout.{lineSize, bodySize, lineStart, bodyStart, sizeOf, zerosIn}
-use Rattle.table.specs.Records.{placeAt, serialAt, isFree, lastSerial, placesSaid, leadZeros}
+use Rattle.table.specs.Records.{placeAt, serialAt, isFree, lastSerial, placesSaid, latestClock}
 use Rattle.search.specs.Search.{first, isNothing, find}
-use Rattle.record_rules.specs.Rules.{stateRight, bitsRight, maskRight, limitRight, tailRight, wipedRight, replacedRight, replacementRight}
+use Rattle.values.specs.Values.{notNegative}
+use Rattle.record_rules.specs.Rules.{stateRight, bitsRight, maskRight, limitRight, tailRight, wipedRight, replacedRight, replacementRight, datesRight, orderRight, startedRight}
 
 -- ---- rules of the whole table
 
@@ -27,17 +28,17 @@ sizeRight n t = eqb (length t) (sizeOf n)
 unfoldable pub countRight : ℕ → List ℕ → Bool
 countRight n t = eqb (placesSaid t) n
 
--- rule 3: "zeros (8)"
-unfoldable pub leadRight : ℕ → List ℕ → Bool
-leadRight n t = allZero (leadZeros t)
+-- rule 17: "nor the latest clock negative"; it stands behind the rules of places in the list
+unfoldable pub latestRight : ℕ → List ℕ → Bool
+latestRight n t = notNegative (latestClock t)
 
 -- ---- rules at a place
 
--- rule 4: "a free place zero in line and body"
+-- rule 3: "a free place zero in line and body"
 unfoldable pub freeRight : ℕ → List ℕ → ℕ → Bool
 freeRight n t i = allZero (part t (lineStart i) lineSize) && allZero (part t (bodyStart n i) bodySize)
 
--- rule 5: "in every other body the zeros field zero"
+-- rule 4: "in every other body the zeros field zero"
 unfoldable pub zerosRight : ℕ → List ℕ → ℕ → Bool
 zerosRight n t i = allZero (part t (bodyStart n i + zerosIn) 4)
 
@@ -45,15 +46,15 @@ zerosRight n t i = allZero (part t (bodyStart n i + zerosIn) 4)
 abbrev pub isTwin : List ℕ → ℕ → ℕ → Bool
 isTwin t i j = not (eqb j i) && eqb (serialAt t j) (serialAt t i)
 
--- rule 6: "serials distinct"
+-- rule 5: "serials distinct"
 unfoldable pub distinctRight : ℕ → List ℕ → ℕ → Bool
 distinctRight n t i = isNothing (first n (isTwin t i))
 
--- rule 7: "and at most the last issued"
+-- rule 6: "and at most the last issued"
 unfoldable pub issuedRight : ℕ → List ℕ → ℕ → Bool
 issuedRight n t i = leb (serialAt t i) (lastSerial t)
 
--- rules 8 to 15 are of the record by itself and stand in record_rules (specs/Rules.antt): `stateRight` to `replacementRight`, in this order in the list below
+-- rules 7 to 14, 16, 18 and 19 are of the record by itself and stand in record_rules (specs/Rules.antt): `stateRight` to `replacementRight`, in this order in the list below, and `datesRight`, `orderRight`, `startedRight`
 
 -- what a record that stands has to pass; where none stands there is nothing to pass
 unfoldable pub ifStands : (ℕ → Bool) → Found → Bool
@@ -68,7 +69,7 @@ namesReplacement n t serial j = eqb (placeAt n t j .replacement) serial
 abbrev pub namesReplaced : ℕ → List ℕ → ℕ → ℕ → Bool
 namesReplaced n t serial j = eqb (placeAt n t j .replaced) serial
 
--- rule 16: "Where both ends of a link stand, each names the other"
+-- rule 15: "Where both ends of a link stand, each names the other"
 unfoldable pub linksRight : ℕ → List ℕ → Record → Bool
 linksRight n t r =
     ifStands (namesReplacement n t (r .serial)) (find n t (r .replaced))
@@ -97,12 +98,11 @@ ofStanding rule = ofPlaces (breaksStanding rule)
 abbrev pub ofRecord : (Record → Bool) → Rule
 ofRecord rule = ofStanding (λ n t i. rule (placeAt n t i))
 
--- rules 1 to 16
+-- rules 1 to 19: 01's, and then L3's
 abbrev pub rules : List Rule
 rules =
     ofTable sizeRight
     ∷ ofTable countRight
-    ∷ ofTable leadRight
     ∷ ofPlaces breaksFree
     ∷ ofStanding zerosRight
     ∷ ofStanding distinctRight
@@ -116,6 +116,10 @@ rules =
     ∷ ofRecord replacedRight
     ∷ ofStanding (λ n t i. replacementRight (lastSerial t) (placeAt n t i))
     ∷ ofStanding (λ n t i. linksRight n t (placeAt n t i))
+    ∷ ofRecord datesRight
+    ∷ ofTable latestRight
+    ∷ ofRecord orderRight
+    ∷ ofStanding (λ n t i. startedRight (latestClock t) (placeAt n t i))
     ∷ []
 
 -- ---- the first broken rule

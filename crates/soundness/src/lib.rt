@@ -28,20 +28,21 @@ fn size_right(len: usize, n: usize) -> bool
     len == layout.size()
 }
 
-// Rules 1 to 3.
+// Rules 1, 2 and 17.
 fn whole_right(t: &[u8], n: usize) -> bool
     ensures { λ r. ⌜ r ≡ wholeRight n (now (t .entry)) ⌝ }
 {
     if !size_right(t.len(), n) {
         return false;
     }
-    (table::places_said(t) as usize == n)
-        & octets::all_zero(&t[Layout::LEAD_ZEROS_IN..Layout::LEAD])
+    let said = table::places_said(t);
+    let latest = table::latest_clock(t);
+    (said as usize == n) & values::not_negative(latest)
 }
 
 // ---- the rules at a place: the check has tested the table's size and counts its places
 
-// Rule 4, of a free place.
+// Rule 3, of a free place.
 fn free_right(t: &[u8], n: usize, i: usize) -> bool
     requires { ⌜ Place n (now t) i ⌝ }
     ensures { λ r. ⌜ r ≡ freeRight n (now (t .entry)) i ⌝ }
@@ -53,7 +54,7 @@ fn free_right(t: &[u8], n: usize, i: usize) -> bool
         & octets::all_zero(&t[body..body + Layout::BODY])
 }
 
-// Rule 5: the four zeros behind the mask.
+// Rule 4: the four zeros behind the mask.
 fn zeros_right(t: &[u8], n: usize, i: usize) -> bool
     requires { ⌜ Place n (now t) i ⌝ }
     ensures { λ r. ⌜ r ≡ zerosRight n (now (t .entry)) i ⌝ }
@@ -63,7 +64,7 @@ fn zeros_right(t: &[u8], n: usize, i: usize) -> bool
     octets::all_zero(&t[zeros..zeros + 4])
 }
 
-// Rules 12 and 13, of the record p that stands at place i: its material is looked at where it
+// Rules 11 and 12, of the record p that stands at place i: its material is looked at where it
 // stands.
 fn material_right(t: &[u8], n: usize, i: usize, p: Record) -> bool
     requires { ⌜ RecordAt n (now t) i p ⌝ }
@@ -76,7 +77,7 @@ fn material_right(t: &[u8], n: usize, i: usize, p: Record) -> bool
     octets::all_zero(&t[from..end])
 }
 
-// Rule 6: the search for the serial of place i gives place i. A serial above all that stand at
+// Rule 5: the search for the serial of place i gives place i. A serial above all that stand at
 // lower places needs no search: `top` is as high as any of them.
 fn own_place(t: &[u8], n: usize, i: usize, top: u32, serial: u32) -> bool
     requires { ⌜ Owns n (now t) i top serial ⌝ }
@@ -91,7 +92,7 @@ fn own_place(t: &[u8], n: usize, i: usize, top: u32, serial: u32) -> bool
     }
 }
 
-// A half of rule 16: the record with the serial `other`, if it stands, has this serial as the link
+// A half of rule 15: the record with the serial `other`, if it stands, has this serial as the link
 // that stands `from` bytes into its line.
 fn end_right(t: &[u8], n: usize, serial: u32, other: u32, from: usize) -> bool
     requires { ⌜ LinkAsked n (now t) from ⌝ }
@@ -103,31 +104,33 @@ fn end_right(t: &[u8], n: usize, serial: u32, other: u32, from: usize) -> bool
     }
 }
 
-// Rules 5 to 16, of the record p that stands at place i, where `last` is the last serial issued:
-// the check has read both, and `top` from the serials of the lower places.
-fn standing_right(t: &[u8], n: usize, i: usize, last: u32, top: u32, p: Record) -> bool
-    requires { ⌜ ReachedRecord n (now t) i last top p ⌝ }
+// Rules 4 to 16, 18 and 19, of the record p that stands at place i, where `last` is the
+// last serial issued and `latest` the latest clock: the check has read them, and `top` from the
+// serials of the lower places.
+fn standing_right(t: &[u8], n: usize, i: usize, last: u32, latest: u64, top: u32, p: Record) -> bool
+    requires { ⌜ ReachedRecord n (now t) i last latest top p ⌝ }
     ensures { λ r. ⌜ r ≡ standingRight n (now (t .entry)) i p ⌝ }
 {
     let alone = zeros_right(t, n, i)
         & record_rules::values_right(p)
         & material_right(t, n, i, p)
-        & record_rules::names_right(p, last);
+        & record_rules::names_right(p, last)
+        & record_rules::times_right(p, latest);
     let back = end_right(t, n, p.serial, p.replaced, Layout::REPLACEMENT_IN);
     let forth = end_right(t, n, p.serial, p.replacement, Layout::REPLACED_IN);
     alone & own_place(t, n, i, top, p.serial) & (back & forth)
 }
 
-// Rules 4 to 16 at place i.
-fn place_right(t: &[u8], n: usize, i: usize, last: u32, top: u32) -> bool
-    requires { ⌜ Reached n (now t) i last top ⌝ }
+// Rules 3 to 16, 18 and 19 at place i.
+fn place_right(t: &[u8], n: usize, i: usize, last: u32, latest: u64, top: u32) -> bool
+    requires { ⌜ Reached n (now t) i last latest top ⌝ }
     ensures { λ r. ⌜ r ≡ placeRight n (now (t .entry)) i ⌝ }
 {
     if table::serial_at(t, i) == 0 {
         return free_right(t, n, i);
     }
     let p = records::load(t, n, i);
-    standing_right(t, n, i, last, top, p)
+    standing_right(t, n, i, last, latest, top, p)
 }
 
 // The higher of two serials.
@@ -150,10 +153,11 @@ pub fn is_sound(t: &[u8], n: usize) -> bool
         return false;
     }
     let last = table::last_serial(t);
+    let latest = table::latest_clock(t);
     let mut top: u32 = 0;
     let mut i: usize = 0;
     while i < n {
-        if !place_right(t, n, i, last, top) {
+        if !place_right(t, n, i, last, latest, top) {
             return false;
         }
         top = higher(top, table::serial_at(t, i));

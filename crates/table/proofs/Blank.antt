@@ -7,11 +7,11 @@ use mathlib.Core.Bool.{true}
 use mathlib.Core.List.{List}
 use lib.ListN.{length, take, drop, replicate, length-append, length-replicate}
 use lib.Seq.{drop-drop}
-use Rattle.octets.specs.Octets.{be, part, allZero, Bytes}
+use Rattle.octets.specs.Octets.{be, fromBe, part, allZero, Bytes}
 use Rattle.octets.proofs.Numbers.{length-be, be-zero, fromBe-be, be-bytes, bytes-append}
 use Rattle.table.specs.declared.Record.{Record}
-use Rattle.table.specs.Layout.{lineSize, bodySize, materialSize, lineStart, bodyStart, sizeOf, Table, leadZerosIn}
-use Rattle.table.specs.Records.{line, body, lineBytes, bodyBytes, recordOf, placeAt, serialAt, placesSaid, leadZeros, blank, lastSerial}
+use Rattle.table.specs.Layout.{lineSize, bodySize, materialSize, lineStart, bodyStart, sizeOf, Table, latestIn}
+use Rattle.table.specs.Records.{line, body, lineBytes, bodyBytes, recordOf, placeAt, serialAt, placesSaid, latestClock, blank, lastSerial}
 use Rattle.octets.proofs.Zeros.{zeros-pass, pass-zeros, part-zeros, bytes-zeros}
 use Rattle.table.proofs.Lines.{InRange, recordOf-bytes}
 use Rattle.table.proofs.Places.{length-line-at, length-body-at, serial-is}
@@ -30,6 +30,8 @@ zeroRecord = record {
   count = 0;
   mask = 0;
   material = replicate materialSize 0;
+  activation = 0;
+  deactivation = 0;
 }
 
 pub zero-line : lineBytes zeroRecord ≡ replicate lineSize 0
@@ -53,6 +55,8 @@ zero-range = record {
   mask = omega arith;
   long = refl;
   bytes = bytes-zeros materialSize;
+  activation = omega arith;
+  deactivation = omega arith;
 }
 
 module _ (n : ℕ) (t : List ℕ) (i : ℕ) (big : Table n t) (lo : i < n) where
@@ -103,8 +107,9 @@ part-blank n at w a h =
     ∙ ap (λ (s : List ℕ). part s (at - 8) w) (behind-blank n)
     ∙ part-zeros (sizeOf n - 8) (at - 8) w (omega arith)
 
-pub lead-blank : (n : ℕ) → leadZeros (blank n) ≡ replicate 8 0
-lead-blank n = part-blank n leadZerosIn 8 (omega arith) (omega arith)
+pub latest-blank : (n : ℕ) → latestClock (blank n) ≡ 0
+unfolding latestClock
+latest-blank n = ap fromBe (part-blank n latestIn 8 (omega arith) (omega arith) ∙ sym (be-zero 8)) ∙ fromBe-be 8 0 (omega arith)
 
 module _ (n i : ℕ) (lo : i < n) where
   pub line-blank : part (blank n) (lineStart i) lineSize ≡ replicate lineSize 0

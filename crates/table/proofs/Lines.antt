@@ -6,12 +6,12 @@ use native.Mathlib.Nat.{add-assoc, add-zero, le-of-eq}
 use native.Mathlib.Omega.{arith}
 use mathlib.Core.List.{List, _++_}
 use lib.ListN.{length, take, drop, length-append}
-use lib.Seq.{sets, take-all, take-add, drop-drop}
+use lib.Seq.{sets, take-all, take-at, drop-at, take-add, drop-drop}
 use Rattle.octets.specs.Octets.{be, fromBe, part, Bytes}
 use Rattle.octets.proofs.Numbers.{length-be, be-bytes, be-part, fromBe-be, fromBe-lt, bytes-append, bytes-take, bytes-drop}
 use Rattle.octets.proofs.Stores.{sets-append, length-part}
 use Rattle.table.specs.declared.Record.{Record}
-use Rattle.table.specs.Layout.{lineSize, bodySize, materialSize, serialIn, stateIn, unitIn, bitsIn, replacedIn, replacementIn, totalIn, countIn, maskIn, zerosIn, materialIn}
+use Rattle.table.specs.Layout.{lineSize, bodySize, materialSize, serialIn, stateIn, unitIn, bitsIn, replacedIn, replacementIn, totalIn, countIn, maskIn, zerosIn, materialIn, activationIn, deactivationIn}
 use Rattle.table.specs.Records.{line, body, lineBytes, bodyBytes, recordOf}
 
 pub length-line : (r : Record) → length (lineBytes r) ≡ lineSize
@@ -36,6 +36,8 @@ pub record InRange (r : Record) : Type 0 where
   pub mask : r .mask < 256 ^ 4
   pub long : length (r .material) ≡ materialSize
   pub bytes : Bytes (r .material)
+  pub activation : r .activation < 256 ^ 8
+  pub deactivation : r .deactivation < 256 ^ 8
 
 -- each field, by computation: the bytes of a line or a body are written out where `be` unfolds
 module _ (r : Record) (h : InRange r) where
@@ -77,12 +79,27 @@ module _ (r : Record) (h : InRange r) where
 
   at-material : part (bodyBytes r) materialIn materialSize ≡ r .material
   unfolding body be
-  at-material = take-all materialSize (r .material) (le-of-eq (h .long))
+  at-material = take-at (r .material) _ materialSize (h .long)
+
+  -- past the material, whose length is known by its range alone
+  past : (xs : List ℕ) → drop materialSize (r .material ++ xs) ≡ xs
+  past xs = drop-at (r .material) xs materialSize (h .long)
+
+  dates : List ℕ
+  dates = be 8 (r .activation) ++ be 8 (r .deactivation)
+
+  at-activation : fromBe (part (bodyBytes r) activationIn 8) ≡ r .activation
+  unfolding body be dates
+  at-activation = ap (λ (l : List ℕ). fromBe (take 8 l)) (sym (drop-drop 0 materialSize (r .material ++ dates)) ∙ past dates) ∙ fromBe-be 8 (r .activation) (h .activation)
+
+  at-deactivation : fromBe (part (bodyBytes r) deactivationIn 8) ≡ r .deactivation
+  unfolding body be dates
+  at-deactivation = ap (λ (l : List ℕ). fromBe (take 8 l)) (sym (drop-drop 8 materialSize (r .material ++ dates)) ∙ ap (drop 8) (past dates)) ∙ fromBe-be 8 (r .deactivation) (h .deactivation)
 
   -- what was written is read
   pub recordOf-bytes : recordOf (lineBytes r) (bodyBytes r) ≡ r
   unfolding recordOf
-  recordOf-bytes = simp (at-serial, at-state, at-unit, at-bits, at-replaced, at-replacement, at-total, at-count, at-mask, at-material)
+  recordOf-bytes = simp (at-serial, at-state, at-unit, at-bits, at-replaced, at-replacement, at-total, at-count, at-mask, at-material, at-activation, at-deactivation)
 
 -- the zeros of a body
 pub zeros-body : (r : Record) → part (bodyBytes r) zerosIn 4 ≡ be 4 0
@@ -99,7 +116,7 @@ bytes-line r = bytes-field 4 (r .serial) _ (bytes-field 1 (r .state) _ (bytes-fi
 
 pub bytes-body : (r : Record) → Bytes (r .material) → Bytes (bodyBytes r)
 unfolding body
-bytes-body r h = bytes-field 8 (r .total) _ (bytes-field 8 (r .count) _ (bytes-field 4 (r .mask) _ (bytes-field 4 0 (r .material) h)))
+bytes-body r h = bytes-field 8 (r .total) _ (bytes-field 8 (r .count) _ (bytes-field 4 (r .mask) _ (bytes-field 4 0 _ (bytes-append (r .material) _ h (bytes-field 8 (r .activation) _ (be-bytes 8 (r .deactivation)))))))
 
 -- ---- what any bytes say
 
@@ -134,6 +151,8 @@ module _ (l b : List ℕ) (el : length l ≡ lineSize) (eb : length b ≡ bodySi
     mask = field-lt b maskIn 4 (omega arith) hb;
     long = length-part b materialIn materialSize (omega arith);
     bytes = bytes-part b materialIn materialSize hb;
+    activation = field-lt b activationIn 8 (omega arith) hb;
+    deactivation = field-lt b deactivationIn 8 (omega arith) hb;
   }
 
   -- a line is written as it was read
@@ -155,7 +174,9 @@ module _ (l b : List ℕ) (el : length l ≡ lineSize) (eb : length b ≡ bodySi
       field-back b totalIn 8 (bodySize - countIn) _ (omega arith) hb
       (field-back b countIn 8 (bodySize - maskIn) _ (omega arith) hb
       (field-back b maskIn 4 (bodySize - zerosIn) _ (omega arith) hb
-      (run-back b zerosIn 4 (bodySize - materialIn) _ _ (sym z) refl)))
+      (run-back b zerosIn 4 (bodySize - materialIn) _ _ (sym z)
+      (run-back b materialIn materialSize (bodySize - activationIn) _ _ refl
+      (field-back b activationIn 8 (bodySize - deactivationIn) _ (omega arith) hb (be-part 8 deactivationIn b (omega arith) hb))))))
       ∙ take-all bodySize b (le-of-eq eb)
 
 -- ---- fields that are written one by one
@@ -165,10 +186,11 @@ pub line-sets : (t : List ℕ) (at a b c d e f : ℕ)
 unfolding line
 line-sets t at a b c d e f = sym (simp (sets-append, length-be, add-assoc, add-zero))
 
-pub body-sets : (t : List ℕ) (at a b c : ℕ) (m : List ℕ)
-    → sets (sets (sets (sets (sets t (at + totalIn) (be 8 a)) (at + countIn) (be 8 b)) (at + maskIn) (be 4 c)) (at + zerosIn) (be 4 0)) (at + materialIn) m ≡ sets t at (body a b c m)
+pub body-sets : (t : List ℕ) (at a b c : ℕ) (m : List ℕ) (d e : ℕ) → length m ≡ materialSize
+    → sets (sets (sets (sets (sets (sets (sets t (at + totalIn) (be 8 a)) (at + countIn) (be 8 b)) (at + maskIn) (be 4 c)) (at + zerosIn) (be 4 0)) (at + materialIn) m) (at + activationIn) (be 8 d)) (at + deactivationIn) (be 8 e)
+    ≡ sets t at (body a b c m d e)
 unfolding body
-body-sets t at a b c m = sym (simp (sets-append, length-be, add-assoc, add-zero))
+body-sets t at a b c m d e h = sym (simp (sets-append, length-be, h, add-assoc, add-zero))
 
 -- the same, of the tables between, as the calls leave them
 module _ (t : List ℕ) {t₁ t₂ t₃ t₄ t₅ : List ℕ} (at : ℕ) where
@@ -176,6 +198,6 @@ module _ (t : List ℕ) {t₁ t₂ t₃ t₄ t₅ : List ℕ} (at : ℕ) where
       → t₅ ≡ sets t₄ (at + replacedIn) (be 4 e) → t₆ ≡ sets t₅ (at + replacementIn) (be 4 f) → t₆ ≡ sets t at (line a b c d e f)
   line-chain a b c d e f e₁ e₂ e₃ e₄ e₅ e₆ = cc (line-sets t at a b c d e f)
 
-  pub body-chain : (a b c : ℕ) (m : List ℕ) → t₁ ≡ sets t (at + totalIn) (be 8 a) → t₂ ≡ sets t₁ (at + countIn) (be 8 b) → t₃ ≡ sets t₂ (at + maskIn) (be 4 c) → t₄ ≡ sets t₃ (at + zerosIn) (be 4 0)
-      → t₅ ≡ sets t₄ (at + materialIn) m → t₅ ≡ sets t at (body a b c m)
-  body-chain a b c m e₁ e₂ e₃ e₄ e₅ = cc (body-sets t at a b c m)
+  pub body-chain : {t₆ t₇ : List ℕ} (a b c : ℕ) (m : List ℕ) (d e : ℕ) → length m ≡ materialSize → t₁ ≡ sets t (at + totalIn) (be 8 a) → t₂ ≡ sets t₁ (at + countIn) (be 8 b) → t₃ ≡ sets t₂ (at + maskIn) (be 4 c) → t₄ ≡ sets t₃ (at + zerosIn) (be 4 0)
+      → t₅ ≡ sets t₄ (at + materialIn) m → t₆ ≡ sets t₅ (at + activationIn) (be 8 d) → t₇ ≡ sets t₆ (at + deactivationIn) (be 8 e) → t₇ ≡ sets t at (body a b c m d e)
+  body-chain a b c m d e h e₁ e₂ e₃ e₄ e₅ e₆ e₇ = cc (body-sets t at a b c m d e h)

@@ -12,7 +12,7 @@ use lib.Dec.{lit≤}
 use Rattle.octets.specs.Octets.{be, fromBe, part, Bytes}
 use Rattle.octets.proofs.Stores.{sets-comm, part-sets-same, part-sets-below, part-sets-above, part-part, length-part}
 use Rattle.table.specs.declared.Record.{Record}
-use Rattle.table.specs.Layout.{lineSize, bodySize, materialSize, lineStart, bodyStart, Table, serialIn, stateIn, unitIn, bitsIn, replacedIn, replacementIn, totalIn, countIn, maskIn, zerosIn, materialIn}
+use Rattle.table.specs.Layout.{lineSize, bodySize, materialSize, lineStart, bodyStart, Table, serialIn, stateIn, unitIn, bitsIn, replacedIn, replacementIn, totalIn, countIn, maskIn, zerosIn, materialIn, activationIn, deactivationIn}
 use Rattle.table.specs.Records.{lineBytes, bodyBytes, recordOf, placeAt, withPlace, serialAt, stateAt}
 use Rattle.octets.proofs.Zeros.{bytes-sets}
 use Rattle.table.proofs.Lines.{InRange, recordOf-bytes, recordOf-range, line-back, body-back, zeros-body, length-line, length-body, bytes-line, bytes-body, bytes-part}
@@ -175,6 +175,8 @@ pub place-fields : (n : ℕ) (t : List ℕ) (i : ℕ) → let l = lineStart i in
       count = fromBe (part t (b + countIn) 8);
       mask = fromBe (part t (b + maskIn) 4);
       material = part t (b + materialIn) materialSize;
+      activation = fromBe (part t (b + activationIn) 8);
+      deactivation = fromBe (part t (b + deactivationIn) 8);
     })
     (placeAt n t i)
 unfolding placeAt recordOf
@@ -192,4 +194,6 @@ place-fields n t i =
       part-part t b bodySize countIn 8 (lit≤ tt),
       part-part t b bodySize maskIn 4 (lit≤ tt),
       part-part t b bodySize materialIn materialSize (lit≤ tt),
+      part-part t b bodySize activationIn 8 (lit≤ tt),
+      part-part t b bodySize deactivationIn 8 (lit≤ tt),
     )

@@ -1,14 +1,18 @@
 -- When two tables are the same: they have one size, and the same bytes in the lead, in every line and in every body.
 -- Assumes nothing; over the number n of places.
-use Prim.Native.Nat.{ℕ, zero, suc, _+_, _*_, _<_}
+use Prim.Native.Nat.{ℕ, zero, suc, _+_, _*_, _≤_, _<_}
 use native.Mathlib.Nat.{mul-zero, mul-suc}
 use native.Mathlib.Omega.{arith}
 use mathlib.Core.Path.{_≡_, sym, ap, ap₂, _∙_}
 use mathlib.Core.List.{List, _++_}
-use lib.ListN.{take, drop}
+use lib.ListN.{length, take, drop}
 use lib.Seq.{take-all, take-add, drop-drop}
-use Rattle.octets.specs.Octets.{part}
-use Rattle.table.specs.Layout.{leadSize, lineSize, bodySize, lineStart, bodyStart, Table}
+use Rattle.octets.specs.Octets.{be, fromBe, part, Bytes}
+use Rattle.octets.proofs.Numbers.{be-fromBe}
+use Rattle.octets.proofs.Stores.{length-part}
+use Rattle.table.specs.Layout.{leadSize, lineSize, bodySize, lineStart, bodyStart, Table, lastIn, placesIn, latestIn}
+use Rattle.table.specs.Records.{lastSerial, placesSaid, latestClock}
+use Rattle.table.proofs.Lines.{bytes-part}
 
 -- a part is its first bytes and then the others
 part-add : (t : List ℕ) (at k w : ℕ) → part t at (k + w) ≡ part t at k ++ part t (at + k) w
@@ -40,3 +44,27 @@ module _ (n : ℕ) (t u : List ℕ) (big : Table n t) (also : Table n u) where
       ∙ ap₂ (λ (a b : List ℕ). a ++ b) lead
       (ap₂ (λ (a b : List ℕ). a ++ b) (runs-same t u leadSize lineSize n lines) (runs-same t u (leadSize + lineSize * n) bodySize n bodies))
       ∙ sym (parts u also)
+
+-- ---- the lead
+
+-- so many bytes that say the same number are the same
+number-same : (xs ys : List ℕ) → Bytes xs → Bytes ys → length xs ≡ length ys → fromBe xs ≡ fromBe ys → xs ≡ ys
+number-same xs ys b c l e = sym (be-fromBe xs b) ∙ ap₂ be l e ∙ be-fromBe ys c
+
+module _ (n : ℕ) (t u : List ℕ) (big : Table n t) (also : Table n u) (bytes : Bytes t) (bytes-also : Bytes u) where
+  part-same : (at w : ℕ) → at + w ≤ leadSize → fromBe (part t at w) ≡ fromBe (part u at w) → part t at w ≡ part u at w
+  part-same at w h =
+      number-same (part t at w) (part u at w) (bytes-part t at w bytes) (bytes-part u at w bytes-also)
+      (length-part t at w (omega arith) ∙ sym (length-part u at w (omega arith)))
+
+  -- leads that say the same last serial, place count and latest clock are the same
+  pub lead-same : lastSerial t ≡ lastSerial u → placesSaid t ≡ placesSaid u → latestClock t ≡ latestClock u → part t 0 leadSize ≡ part u 0 leadSize
+  unfolding lastSerial placesSaid latestClock
+  lead-same last said latest =
+      split t
+      ∙ ap₂ (λ (a b : List ℕ). a ++ b) (part-same lastIn 4 (omega arith) last)
+      (ap₂ (λ (a b : List ℕ). a ++ b) (part-same placesIn 4 (omega arith) said) (part-same latestIn 8 (omega arith) latest))
+      ∙ sym (split u)
+    where
+      split : (s : List ℕ) → part s 0 leadSize ≡ part s lastIn 4 ++ (part s placesIn 4 ++ part s latestIn 8)
+      split s = part-add s 0 4 12 ∙ ap (λ (r : List ℕ). part s 0 4 ++ r) (part-add s 4 4 8)

@@ -9,6 +9,8 @@ use Rattle.table.proofs.Layout.size.Reads as size-reads
 use Rattle.table.proofs.last_serial.Reads as last-serial-reads
 use Rattle.table.proofs.set_last_serial.Reads as set-last-serial-reads
 use Rattle.table.proofs.places_said.Reads as places-said-reads
+use Rattle.table.proofs.latest_clock.Reads as latest-clock-reads
+use Rattle.table.proofs.set_latest_clock.Reads as set-latest-clock-reads
 use Rattle.table.proofs.serial_at.Reads as serial-at-reads
 
 pub line-unique : OneAnswer line-reads.Post
@@ -28,6 +30,12 @@ set-last-serial-unique κs a r r′ s s′ p q = p ∙ sym q
 
 pub places-said-unique : OneAnswer places-said-reads.Post
 places-said-unique κs a r r′ s s′ p q = p ∙ sym q
+
+pub latest-clock-unique : OneAnswer latest-clock-reads.Post
+latest-clock-unique κs a r r′ s s′ p q = p ∙ sym q
+
+pub set-latest-clock-unique : OneLeft set-latest-clock-reads.Post (λ k s. now (s .0))
+set-latest-clock-unique κs a r r′ s s′ p q = p ∙ sym q
 
 pub serial-at-unique : OneAnswer serial-at-reads.Post
 serial-at-unique κs a r r′ s s′ p q = p ∙ sym q

@@ -13,9 +13,9 @@ leadSize = 16
 abbrev pub lineSize : ℕ
 lineSize = 16
 
--- "Bodies .. of 56": total (8), count (8), usage mask (4), zeros (4), material (32)
+-- "a body is 72 bytes": total (8), count (8), usage mask (4), zeros (4), material (32), Activation Date (8), Deactivation Date (8)
 abbrev pub bodySize : ℕ
-bodySize = 56
+bodySize = 72
 
 -- where the line of place i starts
 abbrev pub lineStart : ℕ → ℕ
@@ -39,15 +39,15 @@ materialSize = 32
 
 -- ---- where the fields stand; the code has the same names (`Layout::LAST_IN` ..)
 
--- in the lead: "last serial issued (4), place count 64 (4), zeros (8)"
+-- in the lead: "last serial issued (4), place count 64 (4)", and the latest clock seen (8)
 abbrev pub lastIn : ℕ
 lastIn = 0
 
 abbrev pub placesIn : ℕ
 placesIn = 4
 
-abbrev pub leadZerosIn : ℕ
-leadZerosIn = 8
+abbrev pub latestIn : ℕ
+latestIn = 8
 
 -- in a line: "serial (4, zero means free), state (1), unit (1), length in bits (2), replaced serial (4), replacement serial (4)"
 abbrev pub serialIn : ℕ
@@ -68,7 +68,7 @@ replacedIn = 8
 abbrev pub replacementIn : ℕ
 replacementIn = 12
 
--- in a body: "total (8), count (8), usage mask (4), zeros (4), material (32)"
+-- in a body: "total (8), count (8), usage mask (4), zeros (4), material (32)", and the two dates (8 each)
 abbrev pub totalIn : ℕ
 totalIn = 0
 
@@ -83,6 +83,12 @@ zerosIn = 20
 
 abbrev pub materialIn : ℕ
 materialIn = 24
+
+abbrev pub activationIn : ℕ
+activationIn = 56
+
+abbrev pub deactivationIn : ℕ
+deactivationIn = 64
 
 -- ---- what the functions over a table ask
 

@@ -8,21 +8,22 @@ use lib.Seq.{sets}
 use lib.Dec.{eqb}
 use Rattle.octets.specs.Octets.{be, fromBe, part}
 use Rattle.table.specs.declared.Record.{Record}
-use Rattle.table.specs.Layout.{lineSize, bodySize, lineStart, bodyStart, sizeOf, materialSize, lastIn, placesIn, leadZerosIn, serialIn, stateIn, unitIn, bitsIn, replacedIn, replacementIn, totalIn, countIn, maskIn, materialIn}
+use Rattle.table.specs.Layout.{lineSize, bodySize, lineStart, bodyStart, sizeOf, materialSize, lastIn, placesIn, latestIn, serialIn, stateIn, unitIn, bitsIn, replacedIn, replacementIn, totalIn, countIn, maskIn, materialIn, activationIn, deactivationIn}
 
 -- "serial (4, zero means free), state (1), unit (1), length in bits (2), replaced serial (4), replacement serial (4)"
 unfoldable pub line : ℕ → ℕ → ℕ → ℕ → ℕ → ℕ → List ℕ
 line serial state unit bits replaced replacement = be 4 serial ++ (be 1 state ++ (be 1 unit ++ (be 2 bits ++ (be 4 replaced ++ be 4 replacement))))
 
--- "total (8), count (8), usage mask (4), zeros (4), material (32)"
-unfoldable pub body : ℕ → ℕ → ℕ → List ℕ → List ℕ
-body total count mask material = be 8 total ++ (be 8 count ++ (be 4 mask ++ (be 4 0 ++ material)))
+-- "total (8), count (8), usage mask (4), zeros (4), material (32)", and "at its end an Activation Date and a Deactivation Date (8 bytes each, 0 means not set)"
+unfoldable pub body : ℕ → ℕ → ℕ → List ℕ → ℕ → ℕ → List ℕ
+body total count mask material activation deactivation =
+    be 8 total ++ (be 8 count ++ (be 4 mask ++ (be 4 0 ++ (material ++ (be 8 activation ++ be 8 deactivation)))))
 
 abbrev pub lineBytes : Record → List ℕ
 lineBytes r = line (r .serial) (r .state) (r .unit) (r .bits) (r .replaced) (r .replacement)
 
 abbrev pub bodyBytes : Record → List ℕ
-bodyBytes r = body (r .total) (r .count) (r .mask) (r .material)
+bodyBytes r = body (r .total) (r .count) (r .mask) (r .material) (r .activation) (r .deactivation)
 
 -- what a line and a body say
 unfoldable pub recordOf : List ℕ → List ℕ → Record
@@ -37,6 +38,8 @@ recordOf l b = record {
   count = fromBe (part b countIn 8);
   mask = fromBe (part b maskIn 4);
   material = part b materialIn materialSize;
+  activation = fromBe (part b activationIn 8);
+  deactivation = fromBe (part b deactivationIn 8);
 }
 
 -- the record at place i of a table of n places
@@ -59,7 +62,7 @@ stateAt t i = fromBe (part t (lineStart i + stateIn) 1)
 abbrev pub isFree : List ℕ → ℕ → Bool
 isFree t i = eqb (serialAt t i) 0
 
--- ---- the lead: "last serial issued (4), place count 64 (4), zeros (8)"
+-- ---- the lead: "last serial issued (4), place count 64 (4)", and the latest clock seen (8)
 
 unfoldable pub lastSerial : List ℕ → ℕ
 lastSerial t = fromBe (part t lastIn 4)
@@ -70,8 +73,12 @@ withLast t serial = sets t lastIn (be 4 serial)
 unfoldable pub placesSaid : List ℕ → ℕ
 placesSaid t = fromBe (part t placesIn 4)
 
-abbrev pub leadZeros : List ℕ → List ℕ
-leadZeros t = part t leadZerosIn 8
+-- "the eight zero bytes in the lead become the latest clock seen"
+unfoldable pub latestClock : List ℕ → ℕ
+latestClock t = fromBe (part t latestIn 8)
+
+unfoldable pub withClock : List ℕ → ℕ → List ℕ
+withClock t clock = sets t latestIn (be 8 clock)
 
 -- "A blank table is .. all zero but the place count"
 unfoldable pub blank : ℕ → List ℕ

@@ -5,7 +5,7 @@ ghost use mathlib.Core.Path.{_≡_};
 ghost use Prim.Native.Nat.{_+_, _^_, _≤_, _<_};
 ghost use lib.ListN.{length};
 ghost use Rattle.table.specs.Layout.{HasLead, HasLine, lineStart, bodyStart, sizeOf};
-ghost use Rattle.table.specs.Records.{serialAt, lastSerial, withLast, placesSaid};
+ghost use Rattle.table.specs.Records.{serialAt, lastSerial, withLast, placesSaid, latestClock, withClock};
 
 // The layout of a table of so many places: constants for sizes and for where each field stands, and
 // the offsets of a place's line and body.
@@ -18,7 +18,7 @@ impl Layout {
 
     pub const LINE: usize = 16;
 
-    pub const BODY: usize = 56;
+    pub const BODY: usize = 72;
 
     pub const MATERIAL: usize = 32;
 
@@ -32,7 +32,7 @@ impl Layout {
 
     pub const PLACES_IN: usize = 4;
 
-    pub const LEAD_ZEROS_IN: usize = 8;
+    pub const LATEST_IN: usize = 8;
 
     // Where the fields stand in a line.
     pub const SERIAL_IN: usize = 0;
@@ -57,6 +57,10 @@ impl Layout {
     pub const ZEROS_IN: usize = 20;
 
     pub const MATERIAL_IN: usize = 24;
+
+    pub const ACTIVATION_IN: usize = 56;
+
+    pub const DEACTIVATION_IN: usize = 64;
 
     // Where the line of place i starts. The caller shows that the offset is a usize.
     pub fn line(i: usize) -> usize
@@ -96,6 +100,9 @@ pub struct Record {
     pub count: u64,
     pub mask: u32,
     pub material: [u8; 32],
+    // dates, 0 where none is set
+    pub activation: u64,
+    pub deactivation: u64,
 }
 
 // The last serial issued.
@@ -120,6 +127,22 @@ pub fn places_said(t: &[u8]) -> u32
     ensures { λ r. ⌜ r ≡ placesSaid (now (t .entry)) ⌝ }
 {
     octets::number_at(t, Layout::PLACES_IN, 4) as u32
+}
+
+// The latest clock seen, as its 64 bits.
+pub fn latest_clock(t: &[u8]) -> u64
+    requires { ⌜ HasLead (now t) ⌝ }
+    ensures { λ r. ⌜ r ≡ latestClock (now (t .entry)) ⌝ }
+{
+    octets::number_at(t, Layout::LATEST_IN, 8)
+}
+
+// Makes this clock the latest seen.
+pub fn set_latest_clock(t: &mut [u8], clock: u64)
+    requires { ⌜ HasLead (now t) ⌝ }
+    ensures { λ _. ⌜ now (t .exit) ≡ withClock (now (t .entry)) clock ⌝ }
+{
+    octets::put(t, Layout::LATEST_IN, 8, clock);
 }
 
 // The serial of place i, read by itself.

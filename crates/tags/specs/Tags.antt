@@ -14,6 +14,9 @@ tagOk tag = eqb (tag / 65536) tagLead
 
 -- ---- by number
 
+abbrev pub activationDate : ℕ
+activationDate = 0x420001
+
 abbrev pub batchCount : ℕ
 batchCount = 0x42000D
 
@@ -31,6 +34,9 @@ cryptographicLength = 0x42002A
 
 abbrev pub cryptographicUsageMask : ℕ
 cryptographicUsageMask = 0x42002C
+
+abbrev pub deactivationDate : ℕ
+deactivationDate = 0x42002F
 
 abbrev pub keyBlock : ℕ
 keyBlock = 0x420040

@@ -7,6 +7,8 @@ ghost use Rattle.tags.specs.Tags.{tagOk};
 pub const LEAD: u8 = 0x42;
 
 // The tags of KMIP 2.1 that a request or a response has here, by number.
+pub const ACTIVATION_DATE: u32 = 0x420001;
+
 pub const BATCH_COUNT: u32 = 0x42000D;
 
 pub const BATCH_ERROR_CONTINUATION_OPTION: u32 = 0x42000E;
@@ -18,6 +20,8 @@ pub const CRYPTOGRAPHIC_ALGORITHM: u32 = 0x420028;
 pub const CRYPTOGRAPHIC_LENGTH: u32 = 0x42002A;
 
 pub const CRYPTOGRAPHIC_USAGE_MASK: u32 = 0x42002C;
+
+pub const DEACTIVATION_DATE: u32 = 0x42002F;
 
 pub const KEY_BLOCK: u32 = 0x420040;
 

@@ -1,8 +1,8 @@
--- 01, "Sound" and "Create": the values that a sound table allows; Create allows the same ("as a sound table allows").
+-- 01, "Sound" and "Create", and 02, L3: the values that a sound table allows; Create allows the same ("as a sound table allows"). Dates and clocks are their 64 bits.
 -- Assumes nothing.
-use Prim.Native.Nat.{ℕ}
+use Prim.Native.Nat.{ℕ, _^_}
 use mathlib.Core.Bool.{Bool, _&&_, _||_}
-use lib.Dec.{leb, eqb}
+use lib.Dec.{leb, ltb, eqb}
 
 -- "length 128, 192 or 256"
 abbrev pub bitsOk : ℕ → Bool
@@ -19,3 +19,15 @@ unitOk unit = eqb unit 1 || eqb unit 2
 -- "total 1 to 1,000,000,000,000"
 abbrev pub totalOk : ℕ → Bool
 totalOk total = leb 1 total && leb total 1_000_000_000_000
+
+-- a signed number of 64 bits, given as its bits, that is not negative
+abbrev pub notNegative : ℕ → Bool
+notNegative bits = ltb bits (2 ^ 63)
+
+-- the same, and not 0: "from 1 up"
+abbrev pub aboveZero : ℕ → Bool
+aboveZero bits = leb 1 bits && notNegative bits
+
+-- "deactivation not before activation where both are set"; 0 is not set, and an activation of 0 is before everything
+abbrev pub inOrder : ℕ → ℕ → Bool
+inOrder activation deactivation = eqb deactivation 0 || leb activation deactivation

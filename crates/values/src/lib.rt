@@ -1,7 +1,7 @@
 // The values that a key may have. The soundness check and the reader of Create go by the same
 // tests. Assumes nothing: any number gets an answer.
 ghost use mathlib.Core.Path.{_≡_};
-ghost use Rattle.values.specs.Values.{bitsOk, maskOk, unitOk, totalOk};
+ghost use Rattle.values.specs.Values.{bitsOk, maskOk, unitOk, totalOk, notNegative, aboveZero, inOrder};
 
 // A length in bits.
 pub fn bits_ok(bits: u64) -> bool
@@ -29,4 +29,28 @@ pub fn total_ok(total: u64) -> bool
     ensures { λ r. ⌜ r ≡ totalOk total ⌝ }
 {
     (1 <= total) & (total <= 1_000_000_000_000)
+}
+
+// The first number of 64 bits that stands for a negative one.
+const NEGATIVE: u64 = 0x8000000000000000;
+
+// A date or a clock, as its 64 bits, that is not negative.
+pub fn not_negative(bits: u64) -> bool
+    ensures { λ r. ⌜ r ≡ notNegative bits ⌝ }
+{
+    bits < NEGATIVE
+}
+
+// The same, from 1 up.
+pub fn above_zero(bits: u64) -> bool
+    ensures { λ r. ⌜ r ≡ aboveZero bits ⌝ }
+{
+    (1 <= bits) & (bits < NEGATIVE)
+}
+
+// Two dates, 0 where one is not set: where both are, the deactivation is not before the activation.
+pub fn in_order(activation: u64, deactivation: u64) -> bool
+    ensures { λ r. ⌜ r ≡ inOrder activation deactivation ⌝ }
+{
+    (deactivation == 0) | (activation <= deactivation)
 }

@@ -1,6 +1,6 @@
 -- The boxes that 01 warns of and that demand 2 shuts out.
 -- Assumes nothing. Each is refuted by a call that is worked out: it leaves another table, or other bytes, than are due.
-use Prim.Native.Nat.{ℕ}
+use Prim.Native.Nat.{ℕ, max}
 use native.Mathlib.Omega.{arith}
 use mathlib.Core.Path.{_≡_, refl, sym, ap, _∙_}
 use mathlib.Core.Option.{Option, none, some}
@@ -11,14 +11,14 @@ use Rattle.octets.specs.Octets.{fromBe, over}
 use Rattle.octets.proofs.Maybe.{some-is}
 use Rattle.table.specs.Layout.{placeCount}
 use Rattle.table.specs.Records.{placeAt, withPlace, serialAt, blank}
-use Rattle.table.proofs.Blank.{serial-blank}
+use Rattle.table.proofs.Blank.{serial-blank, latest-blank}
 use Rattle.answer.specs.Respond.{Response}
 use Rattle.answer.specs.Read.{answersIn}
 use Rattle.engine.specs.Effects.{Effect}
 use Rattle.engine.specs.Serving.{turnedAway}
 use Rattle.demands.specs.Box.{Call, Lent}
 use Rattle.demands.specs.Demand2.{Demand2, Answered, frameOf, refusalConditions, lowest}
-use Rattle.wrong_boxes.specs.Wrong.{orRefused, withTable, responding, ranUnder, Leaves, RefusesAll, DoesNothing, LeavesTable, allFailed, FailsAll, SameAnswer, AnswersFirst, RunsPastStop, withMaterialOf, SharesMaterial}
+use Rattle.wrong_boxes.specs.Wrong.{orRefused, withTable, responding, begunBy, ranUnder, Leaves, RefusesAll, DoesNothing, LeavesTable, allFailed, FailsAll, SameAnswer, AnswersFirst, RunsPastStop, withMaterialOf, SharesMaterial}
 use Rattle.cases.specs.Cards.{lifeRequest}
 use Rattle.cases.proofs.Cases.{opened}
 use Rattle.demands.proofs.Ladder.{served, served-number}
@@ -45,7 +45,7 @@ leaves-due made d c lent taken = as-due (λ x. withTable (made x) (served x)) d 
 -- ---- the life of a key, as it should go
 
 abbrev life : Call
-life = calling lifeRequest 0
+life = calling lifeRequest 1
 
 -- what is seen of a call: the serial at place 0, and how long the response is
 record Seen : Type 0 where
@@ -72,32 +72,37 @@ life-length = ap (λ (s : Seen). s .size) life-seen
 blank-serial : serialAt (blank placeCount) 0 ≡ 0
 blank-serial = serial-blank placeCount 0 (lit< tt)
 
+-- nor where the first item begins
+begun-serial : serialAt (begunBy life) 0 ≡ 0
+unfolding opened
+begun-serial = refl
+
 -- ---- the boxes
 
 -- a box that refuses everything refuses what has to be answered
 pub refuses-all : Demand2 RefusesAll → ⊥
-refuses-all d = zero-one (sym (life-accepted 0) ∙ sym (d .number life (turnedAway (life .table) (life .output) 1) (lent-life 0 (lit< tt)) refl))
+refuses-all d = zero-one (sym (life-accepted 1 refl) ∙ sym (d .number life (turnedAway (life .table) (life .output) 1) (lent-life 1 (lit< tt)) refl))
 
 -- a box that does nothing gives no response
 pub does-nothing : Demand2 DoesNothing → ⊥
 does-nothing d =
-    let q = as-due (λ c. turnedAway (c .table) (c .output) 0) d life (lent-life 0 (lit< tt)) (life-accepted 0) refl in
+    let q = as-due (λ c. turnedAway (c .table) (c .output) 0) d life (lent-life 1 (lit< tt)) (life-accepted 1 refl) refl in
     let z : _≡_ {A = ℕ} 0 416 = ap length (q .bytes) ∙ life-length in
     omega arith
 
 -- a box that answers as it should and leaves the table
 pub leaves-table : Demand2 LeavesTable → ⊥
-leaves-table d = zero-one (sym blank-serial ∙ ap (λ (t : List ℕ). serialAt t 0) (leaves-due (λ c due. c .table) d life (lent-life 0 (lit< tt)) (life-accepted 0)) ∙ life-serial)
+leaves-table d = zero-one (sym blank-serial ∙ ap (λ (t : List ℕ). serialAt t 0) (leaves-due (λ c due. c .table) d life (lent-life 1 (lit< tt)) (life-accepted 1 refl)) ∙ life-serial)
 
 -- a box that fails every item
 pub fails-all : Demand2 FailsAll → ⊥
 fails-all d =
-    let q = as-due (λ c. responding c (allFailed (frameOf c)) (c .table)) d life (lent-life 0 (lit< tt)) (life-accepted 0) refl in
-    zero-one (sym blank-serial ∙ ap (λ (t : List ℕ). serialAt t 0) (q .table) ∙ life-serial)
+    let q = as-due (λ c. responding c (allFailed (frameOf c)) (begunBy c)) d life (lent-life 1 (lit< tt)) (life-accepted 1 refl) refl in
+    zero-one (sym begun-serial ∙ ap (λ (t : List ℕ). serialAt t 0) (q .table) ∙ life-serial)
 
 -- one answer for all has the wrong clock for one of two calls
 pub same-answer : (bytes : List ℕ) (tableOf : Call → List ℕ) → Demand2 (SameAnswer bytes tableOf) → ⊥
-same-answer bytes tableOf d = zero-one (sym (clock-of 0 a0) ∙ ap clockIn same ∙ clock-of 1 a1)
+same-answer bytes tableOf d = let z : _≡_ {A = ℕ} 1 2 = sym (clock-of 1 refl a1) ∙ ap clockIn same ∙ clock-of 2 refl a2 in omega arith
   where
     made : Call → Effect
     made c = record { number = 0; length = length bytes; table = tableOf c; output = over bytes (c .output) }
@@ -106,17 +111,17 @@ same-answer bytes tableOf d = zero-one (sym (clock-of 0 a0) ∙ ap clockIn same 
     clockIn none = 0
     clockIn (some r) = r .clock
 
-    a0 : Answered (calling lifeRequest 0) (made (calling lifeRequest 0))
-    a0 = given made d (calling lifeRequest 0) (lent-life 0 (lit< tt)) (life-accepted 0) refl
-
     a1 : Answered (calling lifeRequest 1) (made (calling lifeRequest 1))
-    a1 = given made d (calling lifeRequest 1) (lent-life 1 (lit< tt)) (life-accepted 1) refl
+    a1 = given made d (calling lifeRequest 1) (lent-life 1 (lit< tt)) (life-accepted 1 refl) refl
 
-    clock-of : (clock : ℕ) (a : Answered (calling lifeRequest clock) (made (calling lifeRequest clock))) → clockIn (answersIn (a .response)) ≡ clock
-    clock-of clock a = ap clockIn (a .read-back)
+    a2 : Answered (calling lifeRequest 2) (made (calling lifeRequest 2))
+    a2 = given made d (calling lifeRequest 2) (lent-life 2 (lit< tt)) (life-accepted 2 refl) refl
 
-    same : answersIn (a0 .response) ≡ answersIn (a1 .response)
-    same = ap answersIn (some-is (sym (a0 .readable) ∙ a1 .readable))
+    clock-of : (clock : ℕ) → max clock 0 ≡ clock → (a : Answered (calling lifeRequest clock) (made (calling lifeRequest clock))) → clockIn (answersIn (a .response)) ≡ clock
+    clock-of clock m a = ap clockIn (a .read-back) ∙ ap (max clock) (latest-blank placeCount) ∙ m
+
+    same : answersIn (a1 .response) ≡ answersIn (a2 .response)
+    same = ap answersIn (some-is (sym (a1 .readable) ∙ a2 .readable))
 
 -- a box that executes the whole batch at its first item and answers that one alone
 first : Call → Effect
@@ -129,7 +134,7 @@ first-length = refl
 pub answers-first : Demand2 AnswersFirst → ⊥
 unfolding first
 answers-first d =
-    let q = as-due first d life (lent-life 0 (lit< tt)) (life-accepted 0) refl in
+    let q = as-due first d life (lent-life 1 (lit< tt)) (life-accepted 1 refl) refl in
     let z : _≡_ {A = ℕ} 168 416 = sym first-length ∙ ap length (q .bytes) ∙ life-length in
     omega arith
 

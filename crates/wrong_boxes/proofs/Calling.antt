@@ -2,13 +2,14 @@
 -- Assumes nothing.
 use Prim.Native.Nat.{ℕ, _^_, _<_}
 use mathlib.Core.Path.{_≡_, refl, sym, ap}
-use mathlib.Core.Bool.{Bool, true}
+use mathlib.Core.Bool.{Bool, true, false, _||_}
 use mathlib.Core.List.{List, [], _∷_}
 use lib.ListN.{replicate}
-use lib.Dec.{ltb, eqb, lit<}
+use lib.Dec.{leb, ltb, eqb, lit<}
 use borrow.Author.Tests.{ltb-true}
 use Rattle.hex.specs.Texts.{hex}
 use Rattle.octets.specs.Octets.{Bytes, all, countedFrom}
+use Rattle.octets.specs.If.{ifb}
 use Rattle.octets.proofs.If.{ifb-true}
 use Rattle.octets.proofs.Bools.{and-l, and-r}
 use Rattle.table.specs.Layout.{placeCount}
@@ -29,9 +30,9 @@ unfolding all isByte
 bytes-test [] h = tt
 bytes-test (x ∷ s) h = (ltb-true x 256 (and-l (ltb x 256) (all isByte s) h), bytes-test s (and-r (ltb x 256) (all isByte s) h))
 
--- a request on a table, with the strip 0 to 255 twice, a clock and 4,824 bytes of room
+-- a request on a table, with the strip 0 to 255 twice, a clock and 5,336 bytes of room
 abbrev pub callingOn : List ℕ → List ℕ → ℕ → Call
-callingOn t request clock = record { request = request; table = t; strip = countedFrom 0 512; clock = clock; output = replicate 4824 0 }
+callingOn t request clock = record { request = request; table = t; strip = countedFrom 0 512; clock = clock; output = replicate 5336 0 }
 
 -- on a blank table
 abbrev pub calling : List ℕ → ℕ → Call
@@ -43,7 +44,7 @@ lent-on t request clock b r h = record {
   request = bytes-test request r;
   table = b;
   strip = bytes-test (countedFrom 0 512) refl;
-  output = bytes-test (replicate 4824 0) refl;
+  output = bytes-test (replicate 5336 0) refl;
   clock = h;
 }
 
@@ -62,18 +63,18 @@ pub lent-life : (clock : ℕ) → clock < 2 ^ 64 → Lent (calling lifeRequest c
 unfolding opened isByte
 lent-life clock h = lent-blank lifeRequest clock refl h
 
-pub life-accepted : (clock : ℕ) → lowest 1 (refusalConditions (calling lifeRequest clock)) ≡ 0
+pub life-accepted : (clock : ℕ) → (eqb clock 0 || leb (2 ^ 63) clock) ≡ false → lowest 1 (refusalConditions (calling lifeRequest clock)) ≡ 0
 unfolding opened frameOf ofFrame refusalConditions lowest
-life-accepted clock = refl
+life-accepted clock h = ap (λ (b : Bool). ifb b 10 0) h
 
 -- ---- grants of 60 and 40 of 100
 
 abbrev pub grantCall : Call
-grantCall = calling grantRequest 0
+grantCall = calling grantRequest 1
 
 pub lent-grant : Lent grantCall
 unfolding opened isByte
-lent-grant = lent-blank grantRequest 0 refl (lit< tt)
+lent-grant = lent-blank grantRequest 1 refl (lit< tt)
 
 pub grant-accepted : lowest 1 (refusalConditions grantCall) ≡ 0
 unfolding opened frameOf ofFrame refusalConditions lowest
@@ -82,11 +83,11 @@ grant-accepted = refl
 -- ---- two keys
 
 abbrev pub pairCall : Call
-pairCall = calling lastRequest 0
+pairCall = calling lastRequest 1
 
 pub lent-pair : Lent pairCall
 unfolding opened isByte
-lent-pair = lent-blank lastRequest 0 refl (lit< tt)
+lent-pair = lent-blank lastRequest 1 refl (lit< tt)
 
 pub pair-accepted : lowest 1 (refusalConditions pairCall) ≡ 0
 unfolding opened frameOf ofFrame refusalConditions lowest
@@ -99,11 +100,11 @@ unfoldable pub pastRequest : List ℕ
 pastRequest = hex "42007801 00000110 42007701 00000038 42006901 00000020 42006A02 00000004 00000002 00000000 42006B02 00000004 00000001 00000000 42000D02 00000004 00000002 00000000 42000F01 00000060 42005C05 00000004 00000001 00000000 42007901 00000048 42005705 00000004 00000002 00000000 42012501 00000030 42002805 00000004 00000003 00000000 42002A02 00000004 00000081 00000000 42002C02 00000004 00000004 00000000 42000F01 00000060 42005C05 00000004 00000001 00000000 42007901 00000048 42005705 00000004 00000002 00000000 42012501 00000030 42002805 00000004 00000003 00000000 42002A02 00000004 00000080 00000000 42002C02 00000004 00000004 00000000"
 
 abbrev pub pastCall : Call
-pastCall = calling pastRequest 0
+pastCall = calling pastRequest 1
 
 pub lent-past : Lent pastCall
 unfolding opened isByte pastRequest
-lent-past = lent-blank pastRequest 0 refl (lit< tt)
+lent-past = lent-blank pastRequest 1 refl (lit< tt)
 
 pub past-accepted : lowest 1 (refusalConditions pastCall) ≡ 0
 unfolding opened pastRequest frameOf ofFrame refusalConditions lowest

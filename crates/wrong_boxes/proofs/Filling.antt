@@ -4,28 +4,33 @@ use Prim.Native.Nat.{ℕ, suc, _+_, _*_, _≤_, _<_}
 use native.Mathlib.Omega.{arith}
 use native.Mathlib.Decide.{ℕ-discrete}
 use mathlib.Core.Path.{_≡_, refl, sym, ap, ap₂, _∙_}
-use mathlib.Core.Logic.{inr}
+use mathlib.Core.Logic.{inl, inr}
 use mathlib.Core.Bool.{Bool, true, false, _||_}
 use mathlib.Core.List.{List}
 use lib.ListN.{length}
 use lib.Dec.{lit<}
 use borrow.Author.Tests.{eq-eqb, ne-eqb}
+use Rattle.octets.specs.If.{ifb}
 use Rattle.octets.specs.Octets.{Bytes, countedFrom}
 use Rattle.table.specs.declared.Record.{Record}
 use Rattle.table.specs.Layout.{placeCount, materialSize}
-use Rattle.table.specs.Records.{placeAt, serialAt, stateAt, isFree, lastSerial, blank}
-use Rattle.table.proofs.Blank.{serial-blank, last-blank}
+use Rattle.table.specs.Records.{placeAt, serialAt, stateAt, isFree, lastSerial, latestClock, blank}
+use Rattle.table.proofs.Blank.{serial-blank, last-blank, latest-blank}
+use Rattle.table.proofs.Places.{serial-is}
 use Rattle.search.specs.declared.Found.the-variants.{At}
 use Rattle.search.specs.Search.{freePlace, destroyedPlace, newPlace, isDestroyed}
 use Rattle.search.proofs.First.{At-same, isNothing-at, found-is, fails-none}
 use Rattle.search.proofs.Finds.{new-free, new-destroyed}
 use Rattle.rules.specs.declared.Attributes.{Attributes}
-use Rattle.changes.specs.Records.{newRecord}
+use Rattle.date_rules.specs.Dates.{startedState, stoppedState, datedState}
+use Rattle.changes.specs.Records.{newRecord, inState}
+use Rattle.changes.specs.Dates.{ripened, began}
 use Rattle.changes.specs.Changes.{serialMost, isFull, nextSerial, withBorn}
 use Rattle.keeps.proofs.Begun.{Allowed}
 use Rattle.keeps.proofs.Stores.{other, other-serial, here-serial}
 use Rattle.keeps.proofs.Keeps.{Held, held-blank, keeps-born}
 use Rattle.keeps.proofs.Leaves.{Born, born-leaves}
+use Rattle.keeps.proofs.Dates.{keeps-began, began-last, began-latest, began-places}
 use Rattle.plans.specs.Plans.{Env, envAt}
 use Rattle.engine.proofs.Batches.{own-bytes, own-long}
 use Rattle.cases.proofs.Cases.{opened}
@@ -35,10 +40,10 @@ use Rattle.wrong_boxes.proofs.Calling.{isByte, bytes-test}
 
 -- AES, 128 bits, mask Encrypt, 100 units of Object
 abbrev pub wanted : Attributes
-wanted = record { bits = 128; mask = 4; unit = 2; total = 100 }
+wanted = record { bits = 128; mask = 4; unit = 2; total = 100; activation = 0; deactivation = 0 }
 
 wanted-allowed : Allowed wanted
-wanted-allowed = record { bits = refl; mask = refl; limit = inr (refl, refl) }
+wanted-allowed = record { bits = refl; mask = refl; limit = inr (refl, refl); activation = omega arith; deactivation = omega arith; order = inl refl }
 
 -- what item i of a call meets
 abbrev pub own : ℕ → Env
@@ -86,6 +91,7 @@ pub record Filled (k : ℕ) (t : List ℕ) : Type 0 where
   pub serials : (i : ℕ) → i < k → serialAt t i ≡ i + 1
   pub free : (i : ℕ) → k ≤ i → i < placeCount → serialAt t i ≡ 0
   pub first : 1 ≤ k → placeAt placeCount t 0 ≡ firstKey
+  pub latest : latestClock t ≤ 1
 
 pub filled-blank : Filled 0 (blank placeCount)
 filled-blank = record {
@@ -94,6 +100,7 @@ filled-blank = record {
   serials = λ i h. absurd (omega arith);
   free = λ i h l. serial-blank placeCount i l;
   first = λ h. absurd (omega arith);
+  latest = omega (arith, latest-blank placeCount);
 }
 
 -- one more
@@ -131,6 +138,37 @@ module _ (k : ℕ) (t : List ℕ) (f : Filled k t) (more : k < placeCount) where
       | yes e ↦ ap (placeAt placeCount (grown 0 t)) (e ∙ sym here) ∙ born .stored .here ∙ ap (λ (s : ℕ). newRecord (s + 1) wanted (own 0 .fresh)) (f .last ∙ sym e)
       | no e ↦ other placeCount t (born .place) _ _ _ (born .stored) 0 (lit< tt) (λ q. e (q ∙ here)) ∙ f .first (omega arith)
     ];
+    latest = omega (arith, born .stored .latest, f .latest);
+  }
+
+-- ---- a call at clock 1 begins
+
+-- the table that its first item meets
+abbrev pub begunAt : List ℕ → List ℕ
+begunAt t = began placeCount 1 t
+
+-- no key has a date, so it is as it was but for the clock
+module _ (k : ℕ) (t : List ℕ) (f : Filled k t) where
+  begun-place : (i : ℕ) → i < placeCount → placeAt placeCount (begunAt t) i ≡ ripened 1 (placeAt placeCount t i)
+  begun-place i low = began-places placeCount t (f .held) 1 (f .latest) (omega arith) i low
+
+  begun-serial : (i : ℕ) → i < placeCount → serialAt (begunAt t) i ≡ serialAt t i
+  unfolding ripened inState
+  begun-serial i low = serial-is placeCount (begunAt t) i ∙ ap (λ (r : Record). r .serial) (begun-place i low) ∙ sym (serial-is placeCount t i)
+
+  -- the first key stays as it is
+  first-waits : ripened 1 firstKey ≡ firstKey
+  unfolding ripened inState newRecord datedState stoppedState startedState ifb
+  first-waits = refl
+
+  pub filled-begun : k ≤ placeCount → Filled k (begunAt t)
+  filled-begun few = record {
+    held = keeps-began placeCount t (f .held) 1 (f .latest) (omega arith);
+    last = began-last placeCount t (f .held) 1 (f .latest) (omega arith) ∙ f .last;
+    serials = λ i h. begun-serial i (omega arith) ∙ f .serials i h;
+    free = λ i h l. begun-serial i l ∙ f .free i h l;
+    first = λ h. begun-place 0 (lit< tt) ∙ ap (ripened 1) (f .first h) ∙ first-waits;
+    latest = omega (arith, began-latest placeCount t (f .held) 1 (f .latest) (omega arith));
   }
 
 -- ---- all places

@@ -19,7 +19,7 @@ use Rattle.plans.specs.declared.Outcome.{Outcome}
 use Rattle.engine.specs.Effects.{Effect}
 use Rattle.demands.specs.Box.{Call, Box}
 use Rattle.demands.specs.Log.{Event, commandOf, heldAfter, paired, orNoItems, orNoAnswers, eventsOf, onto, logged, issuedBy, issued, grantBy, granted, limitBy, limit}
-use Rattle.demands.specs.Demand3.{begins, calls, Stands, takes, Tame, InOrder, Path, went, Demand3}
+use Rattle.demands.specs.Demand3.{begins, calls, Stands, takes, Tame, InOrder, Path, went, Goes, Demand3}
 use Rattle.wrong_boxes.specs.Wrong.{withTable, refilled, InventsCount, TakesFrom, GrantsTaken}
 use Rattle.cases.proofs.Cases.{opened}
 use Rattle.demands.proofs.Ladder.{served}
@@ -115,16 +115,19 @@ pub grants-taken : (B : Box) → GrantsTaken B → Demand3 B → ⊥
 unfolding logged
 grants-taken B g d = g .more (ap (λ (events : List Event). granted (g .x) (onto events (g .log))) (g .events-are) ∙ ap (granted (g .x)) (onto-append (g .before) (g .taker ∷ g .later) (g .log)) ∙ same-units)
   where
-    path : Path (g .log) (g .t) (g .before ++ (g .taker ∷ g .later)) (g .e .table)
-    path = subst (λ (events : List Event). Path (g .log) (g .t) events (g .e .table)) (g .events-are) (d .path (g .log) (g .t) (g .run) (g .c) (g .e) (g .same) (g .lent) (g .left))
+    going : Goes (g .log) (g .c) (g .e)
+    going = d .goes (g .log) (g .t) (g .run) (g .c) (g .e) (g .same) (g .lent) (g .left)
 
-    between : Between (g .log) (g .t) (g .before) (g .taker ∷ g .later) (g .e .table)
+    path : Path (g .log) (going .start) (g .before ++ (g .taker ∷ g .later)) (g .e .table)
+    path = subst (λ (events : List Event). Path (g .log) (going .start) events (g .e .table)) (g .events-are) (going .path)
+
+    between : Between (g .log) (going .start) (g .before) (g .taker ∷ g .later) (g .e .table)
     between = path-between (g .before) (g .taker ∷ g .later) path
 
     from : TakesFrom (g .x) (g .taker) (between .table)
-    from = g .taken (between .table) (between .there)
+    from = g .taken (going .start) (between .table) (going .opens) (between .there)
 
     same-units : granted (g .x) (onto (g .taker ∷ g .later) (onto (g .before) (g .log))) ≡ granted (g .x) (onto (g .before) (g .log))
     same-units =
         path-taken (onto (g .before) (g .log)) (g .later) (between .table) (g .e .table) (g .taker) (g .x) (from .place)
-        (path-order (between .there) (in-order B d (g .run))) (between .on) (g .known) (from .stood) (from .taken)
+        (path-order (between .there) (going .order)) (between .on) (g .known) (from .stood) (from .taken)

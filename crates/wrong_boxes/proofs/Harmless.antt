@@ -1,8 +1,9 @@
 -- Which demands the wrong boxes meet: one that refuses everything or does nothing meets 1 and 3; one that leaves a wrong table, or answers of its own that are short enough, meets 1.
 -- Assumes nothing.
-use Prim.Native.Nat.{ℕ, _+_, _^_, _≤_, _<_}
+use Prim.Native.Nat.{ℕ, zero, suc, _+_, _^_, _≤_, _<_}
 use native.Mathlib.Omega.{arith}
 use mathlib.Core.Path.{_≡_, refl, sym, ap, subst, _∙_}
+use mathlib.Core.Logic.{inl}
 use mathlib.Core.Bool.{true}
 use mathlib.Core.Option.{Option, some}
 use mathlib.Core.List.{List, [], _∷_, map}
@@ -22,33 +23,66 @@ use Rattle.batch_item.proofs.Bounds.{AllBounded}
 use Rattle.answer.specs.Respond.{Answer, respond}
 use Rattle.answer.specs.Read.{outcomeOk, answerOk, allowed}
 use Rattle.answer.proofs.Front.{response-size}
-use Rattle.engine.specs.Batch.{Ran}
+use Rattle.table.specs.Layout.{placeCount}
+use Rattle.table.specs.Records.{blank}
+use Rattle.values.specs.Values.{aboveZero}
+use Rattle.changes.specs.Records.{inState}
+use Rattle.changes.specs.Dates.{began}
+use Rattle.engine.specs.Batch.{Ran, running}
 use Rattle.engine.specs.Effects.{Effect}
 use Rattle.engine.specs.Serving.{turnedAway}
-use Rattle.demands.specs.Box.{Call, Box, Lent}
+use Rattle.demands.specs.Box.{Call, Box, Lent, counted}
 use Rattle.demands.specs.Demand1.{Demand1, Untouched, Within, refusals}
 use Rattle.demands.specs.Demand2.{frameOf, refusalConditions, lowest}
-use Rattle.demands.specs.Log.{Event, itemsAsked, answersGiven, eventsOf}
-use Rattle.demands.specs.Demand3.{Path, arrived, Demand3}
-use Rattle.wrong_boxes.specs.Wrong.{orRefused, responding, ranUnder, withTable, Leaves, RefusesAll, DoesNothing, failedAnswer, allFailed, FailsAll, SameAnswer, AnswersFirst}
-use Rattle.demands.proofs.Ladder.{served, served-number, lowest-most, Accepted, Told, away, accepted, told}
-use Rattle.demands.proofs.Meets.{bounded, count-facts, ran-leaves, meets-1}
-use Rattle.demands.proofs.Runs.{events-away, asked-away}
+use Rattle.demands.specs.Log.{Event, itemsAsked, answersGiven, eventsOf, onto, logged}
+use Rattle.demands.specs.Demand3.{Run, begins, calls, InOrder, Path, arrived, Opens, accepted, refused, Demand3}
+use Rattle.wrong_boxes.specs.Wrong.{orRefused, responding, begunBy, ranUnder, withTable, Leaves, RefusesAll, DoesNothing, failedAnswer, allFailed, FailsAll, SameAnswer, AnswersFirst, StampsGiven}
+use Rattle.demands.proofs.Ladder.{served, served-number, lowest-most, Accepted, requestOf, ranBy, Told, away, accepted as taken, told}
+use Rattle.demands.proofs.Meets.{counting-is, counting-above, bounded, count-facts, ran-leaves, meets-1}
+use Rattle.demands.proofs.Ordered.{inv-order}
+use Rattle.demands.proofs.Runs.{events-away, asked-away, blank-books}
 
 -- ---- demand 3
 
 -- a box that only ever turns calls away, with whatever number, 0 included
-still-meets-3 : (B : Box) → ((c : Call) (e : Effect) → B c e → (k : ℕ) × (e ≡ turnedAway (c .table) (c .output) k)) → Demand3 B
-still-meets-3 B still = record {
-  path = λ log t r c e same lent b.
-      let p = still c e b in
-      subst (λ (x : Effect). Path log t (eventsOf c x) (x .table)) (sym (p .1))
-      (subst (λ (events : List Event). Path log t events (c .table)) (sym (events-away c (p .0))) (subst (λ (u : List ℕ). Path log t [] u) (sym same) arrived));
-  asked = λ log t r c e same lent b.
-      let p = still c e b in
-      subst (λ (x : Effect). length (answersGiven x) ≤ length (itemsAsked c)) (sym (p .1)) (asked-away c (p .0));
-  refused = λ log t r c e same lent b h. ap (λ (x : Effect). x .table) (still c e b .1) ∙ same;
-}
+module _ (B : Box) (still : (c : Call) (e : Effect) → B c e → (k : ℕ) × (e ≡ turnedAway (c .table) (c .output) k)) where
+  no-events : (c : Call) (e : Effect) → B c e → eventsOf c e ≡ []
+  no-events c e b = let p = still c e b in ap (eventsOf c) (p .1) ∙ events-away c (p .0)
+
+  same-table : (c : Call) (e : Effect) → B c e → e .table ≡ c .table
+  same-table c e b = ap (λ (x : Effect). x .table) (still c e b .1)
+
+  -- so nothing ever happens
+  still-run : {log : List Event} {t : List ℕ} → Run B log t → (log ≡ []) × (t ≡ blank placeCount)
+  unfolding logged onto
+  still-run begins = (refl, refl)
+  still-run (calls {log} c e r same lent b) =
+      let before = still-run r in
+      (ap (λ (events : List Event). onto events log) (no-events c e b) ∙ before .0, same-table c e b ∙ same ∙ before .1)
+
+  still-order : {log : List Event} {t : List ℕ} → Run B log t → InOrder log t
+  still-order {log} {t} r =
+      let p = still-run r in
+      subst (λ (l : List Event). InOrder l t) (sym (p .0)) (subst (InOrder []) (sym (p .1)) (inv-order [] (blank placeCount) (blank-books .inv) (blank-books .dead)))
+
+  still-opens : (c : Call) (number : ℕ) → Opens c number (c .table)
+  unfolding inState
+  still-opens c zero = accepted (record { latest = inl refl; issued = refl; moves = λ i low h. absurd (h refl); others = λ i low. refl })
+  still-opens c (suc k) = refused (λ z. (let q : suc k ≡ 0 = z in omega arith))
+
+  still-meets-3 : Demand3 B
+  still-meets-3 = record {
+    goes = λ log t r c e same lent b. record {
+      start = c .table;
+      opens = still-opens c (e .number);
+      order = subst (InOrder log) (sym same) (still-order r);
+      path = subst (λ (u : List ℕ). Path log (c .table) (eventsOf c e) u) (sym (same-table c e b)) (subst (λ (events : List Event). Path log (c .table) events (c .table)) (sym (no-events c e b)) arrived);
+    };
+    asked = λ log t r c e same lent b.
+        let p = still c e b in
+        subst (λ (x : Effect). length (answersGiven x) ≤ length (itemsAsked c)) (sym (p .1)) (asked-away c (p .0));
+    refused = λ log t r c e same lent b h. same-table c e b ∙ same;
+  }
 
 -- "Demand 3 holds for a box that refuses everything"
 pub refuses-all-3 : Demand3 RefusesAll
@@ -87,7 +121,7 @@ unfolding orRefused refusalConditions
 fits-or-refused c e w =
     on-if (Fits c)
     (λ h. (let p = w (eqb-true (lowest 1 (refusalConditions c)) 0 h) in record { numbered = omega (arith, p .0); refused = λ z. absurd (z (p .0)); answered = λ n. p .1 }))
-    (λ h. fits-away c (lowest 1 (refusalConditions c)) (let m : lowest 1 (refusalConditions c) < 1 + 9 = lowest-most 1 (refusalConditions c) (omega arith) in omega arith) (eqb-false (lowest 1 (refusalConditions c)) 0 h))
+    (λ h. fits-away c (lowest 1 (refusalConditions c)) (let m : lowest 1 (refusalConditions c) < 1 + 10 = lowest-most 1 (refusalConditions c) (omega arith) in omega arith) (eqb-false (lowest 1 (refusalConditions c)) 0 h))
 
 pub refuses-all-1 : Demand1 RefusesAll
 refuses-all-1 = fits-meets-1 (λ c. turnedAway (c .table) (c .output) 1) (λ c lent. fits-away c 1 (omega arith) (λ z. omega arith))
@@ -116,19 +150,19 @@ leaves-1 made =
 -- a call that no refusal is due to is accepted
 told-accepted : (c : Call) (e : Effect) → Told c e → e .number ≡ 0 → Accepted c
 told-accepted c e (away k) z = absurd (omega arith)
-told-accepted c e (accepted a) z = a
+told-accepted c e (taken a) z = a
 
 -- bytes over the front of the output
 abbrev writing : (Call → List ℕ) → (Call → List ℕ) → Call → Effect
 writing bytes tableOf c = record { number = 0; length = length (bytes c); table = tableOf c; output = over (bytes c) (c .output) }
 
 -- a box that refuses as it should, writes bytes that are short enough where a request is accepted, and leaves whatever table
-writing-1 : (bytes tableOf : Call → List ℕ) → ((c : Call) → Lent c → Accepted c → length (bytes c) ≤ 4824) → Demand1 (λ c e. e ≡ orRefused c (writing bytes tableOf c))
+writing-1 : (bytes tableOf : Call → List ℕ) → ((c : Call) → Lent c → Accepted c → length (bytes c) ≤ 5336) → Demand1 (λ c e. e ≡ orRefused c (writing bytes tableOf c))
 writing-1 bytes tableOf short =
     fits-meets-1 (λ c. orRefused c (writing bytes tableOf c)) (λ c lent. fits-or-refused c (writing bytes tableOf c) (λ h.
     let a : Accepted c = told-accepted c (served c) (told c) (served-number c ∙ h) in
-    let room : 4824 ≤ length (c .output) = a .room in
-    let l : length (bytes c) ≤ 4824 = short c lent a in (
+    let room : 5336 ≤ length (c .output) = a .room in
+    let l : length (bytes c) ≤ 5336 = short c lent a in (
       refl,
       record {
         short = l;
@@ -139,7 +173,7 @@ writing-1 bytes tableOf short =
     )))
 
 -- one answer for all, if it is short enough
-pub same-answer-1 : (bytes : List ℕ) (tableOf : Call → List ℕ) → length bytes ≤ 4824 → Demand1 (SameAnswer bytes tableOf)
+pub same-answer-1 : (bytes : List ℕ) (tableOf : Call → List ℕ) → length bytes ≤ 5336 → Demand1 (SameAnswer bytes tableOf)
 same-answer-1 bytes tableOf short = writing-1 (λ c. bytes) tableOf (λ c lent a. short)
 
 -- answers that a response may have
@@ -153,17 +187,21 @@ unfolding all
 fine-first [] f = f
 fine-first (a ∷ answers) f = record { ok = and-i (answerOk a) true (and-l (answerOk a) (all answerOk answers) (f .ok)) refl; some = omega arith; few = omega arith }
 
-fine-short : (clock : ℕ) (answers : List Answer) → clock < 2 ^ 64 → Fine answers → length (encode (respond (record { clock = clock; answers = answers }))) ≤ 4824
+fine-short : (clock : ℕ) (answers : List Answer) → aboveZero clock ≡ true → Fine answers → length (encode (respond (record { clock = clock; answers = answers }))) ≤ 5336
 unfolding allowed
 fine-short clock answers h f =
     let n = length answers in
     let ok : allowed (record { clock = clock; answers = answers }) ≡ true =
-    and-i _ (all answerOk answers) (and-i _ (leb n batchMost) (and-i (ltb clock (2 ^ 64)) (leb 1 n) (lt-ltb clock (2 ^ 64) h) (le-leb 1 n (f .some))) (le-leb n batchMost (f .few))) (f .ok) in
+    and-i _ (all answerOk answers) (and-i _ (leb n batchMost) (and-i (aboveZero clock) (leb 1 n) h (le-leb 1 n (f .some))) (le-leb n batchMost (f .few))) (f .ok) in
     response-size (record { clock = clock; answers = answers }) ok
+
+-- the clock that counts is from 1 up
+counted-above : (c : Call) → Lent c → Accepted c → aboveZero (counted c) ≡ true
+counted-above c lent a = ap aboveZero (sym (counting-is c)) ∙ counting-above c lent a
 
 responding-1 : (answersOf : Call → List Answer) (tableOf : Call → List ℕ) → ((c : Call) → Lent c → Accepted c → Fine (answersOf c)) → Demand1 (λ c e. e ≡ orRefused c (responding c (answersOf c) (tableOf c)))
 responding-1 answersOf tableOf fine =
-    writing-1 (λ c. encode (respond (record { clock = c .clock; answers = answersOf c }))) tableOf (λ c lent a. fine-short (c .clock) (answersOf c) (lent .clock) (fine c lent a))
+    writing-1 (λ c. encode (respond (record { clock = counted c; answers = answersOf c }))) tableOf (λ c lent a. fine-short (counted c) (answersOf c) (counted-above c lent a) (fine c lent a))
 
 -- the frame of an accepted call
 frame-is : (c : Call) (a : Accepted c) → frameOf c ≡ some (a .frame)
@@ -189,19 +227,34 @@ failed-fine c lent a = subst (λ (o : Option Frame). Fine (allFailed o)) (sym (f
         record { ok = failed-ok (a .frame .items) (bounded c lent a); some = omega (arith, count-facts c lent a .0); few = omega (arith, count-facts c lent a .1) }
 
 pub fails-all-1 : Demand1 FailsAll
-fails-all-1 = responding-1 (λ c. allFailed (frameOf c)) (λ c. c .table) failed-fine
+fails-all-1 = responding-1 (λ c. allFailed (frameOf c)) begunBy failed-fine
 
 -- the first answer alone
 abbrev ranRightly : Call → Ran
 ranRightly c = ranUnder (λ option. option) c (frameOf c)
 
-first-fine : (c : Call) → Lent c → Accepted c → Fine (take 1 (ranRightly c .answers))
+-- it is the batch that is due
+ran-rightly : (c : Call) (a : Accepted c) → ranRightly c ≡ ranBy c a
 unfolding ranUnder
-first-fine c lent a = subst (λ (o : Option Frame). Fine (take 1 (ranUnder (λ option. option) c o .answers))) (sym (frame-is c a)) (fine-first _ (record {
+ran-rightly c a =
+    ap (ranUnder (λ option. option) c) (frame-is c a)
+    ∙ ap (λ (k : ℕ). running placeCount (c .strip) (began placeCount k (c .table)) (requestOf (a .frame))) (sym (counting-is c))
+
+ran-fine : (c : Call) → Lent c → (a : Accepted c) → Fine (ranBy c a .answers)
+ran-fine c lent a = record {
   ok = ran-leaves c lent a .ok;
   some = ran-leaves c lent a .some (count-facts c lent a .0);
   few = omega (arith, ran-leaves c lent a .few, count-facts c lent a .1);
-}))
+}
+
+first-fine : (c : Call) → Lent c → Accepted c → Fine (take 1 (ranRightly c .answers))
+first-fine c lent a = subst (λ (r : Ran). Fine (take 1 (r .answers))) (sym (ran-rightly c a)) (fine-first _ (ran-fine c lent a))
 
 pub answers-first-1 : Demand1 AnswersFirst
 answers-first-1 = responding-1 (λ c. take 1 (ranRightly c .answers)) (λ c. ranRightly c .table) first-fine
+
+-- the clock that was given in place of the one that counts
+pub stamps-given-1 : Demand1 StampsGiven
+stamps-given-1 =
+    writing-1 (λ c. encode (respond (record { clock = c .clock; answers = ranRightly c .answers }))) (λ c. ranRightly c .table)
+    (λ c lent a. fine-short (c .clock) (ranRightly c .answers) (a .clock) (subst (λ (r : Ran). Fine (r .answers)) (sym (ran-rightly c a)) (ran-fine c lent a)))

@@ -9,3 +9,4 @@ pub mod Reaching
 pub mod Regranting
 pub mod Waking
 pub mod Handing
+pub mod Turning

@@ -1,6 +1,7 @@
 -- A run of a box that grants units to an identifier whose place was taken, up to a table of 64 keys: each call of it creates one.
 -- Assumes nothing. The run is reached by laws; what is computed is the reading of two requests.
 use Prim.Native.Nat.{ℕ, zero, suc, _+_, _≤_, _<_}
+use native.Mathlib.Nat.{max-eq-left}
 use native.Mathlib.Omega.{arith}
 use mathlib.Core.Path.{_≡_, refl, sym, ap, _∙_}
 use mathlib.Core.Bool.{Bool, true, false}
@@ -22,7 +23,7 @@ use Rattle.soundness.proofs.Blank.{blank-sound}
 use Rattle.rules.specs.declared.Reason.the-variants.{ServerLimitExceeded}
 use Rattle.rules.specs.Tests.{due}
 use Rattle.changes.specs.Changes.{isFull, nextSerial}
-use Rattle.keeps.proofs.Keeps.{Held}
+use Rattle.changes.specs.Dates.{began}
 use Rattle.batch_item.specs.Item.{Asked}
 use Rattle.frame.specs.Frame.{Frame, frameIn, optionOf}
 use Rattle.target_read.specs.declared.Target.the-variants.{Serial}
@@ -34,14 +35,14 @@ use Rattle.plans.specs.Plans.{Did, Plan, carried, createPlan, isFailed}
 use Rattle.act.specs.Act.{plan, step}
 use Rattle.engine.specs.Effects.{Effect}
 use Rattle.engine.specs.Batch.{Ran, answerTo, lastly, firstly, endsBatch, batch, running}
-use Rattle.demands.specs.Box.{Call}
+use Rattle.demands.specs.Box.{Call, counted}
 use Rattle.demands.specs.Demand2.{frameOf, ofFrame, refusalConditions, lowest}
 use Rattle.demands.specs.Log.{Event, logged}
 use Rattle.demands.specs.Demand3.{Run, begins, calls}
 use Rattle.wrong_boxes.specs.Wrong.{ranUnder, regranting, Regrants}
 use Rattle.cases.proofs.Cases.{opened}
 use Rattle.wrong_boxes.proofs.Calling.{isByte, callingOn, calling, lent-on, accepted-is}
-use Rattle.wrong_boxes.proofs.Filling.{wanted, own, grown, Filled, filled-blank, filled-room, filled-more}
+use Rattle.wrong_boxes.proofs.Filling.{wanted, own, grown, Filled, filled-blank, filled-room, filled-more, begunAt, filled-begun}
 
 -- ---- the requests
 
@@ -104,15 +105,15 @@ grant-command = refl
 
 -- ---- a call on any sound table
 
-pub accepted-on : (request t : List ℕ) → sound placeCount t ≡ true → lowest 1 (refusalConditions (calling request 0)) ≡ 0 → lowest 1 (refusalConditions (callingOn t request 0)) ≡ 0
+pub accepted-on : (request t : List ℕ) → sound placeCount t ≡ true → lowest 1 (refusalConditions (calling request 1)) ≡ 0 → lowest 1 (refusalConditions (callingOn t request 1)) ≡ 0
 unfolding refusalConditions frameOf
 accepted-on request t right e = rw (right ∙ sym (blank-sound placeCount (lit< tt))) e
 
-create-accepted : lowest 1 (refusalConditions (calling createRequest 0)) ≡ 0
+create-accepted : lowest 1 (refusalConditions (calling createRequest 1)) ≡ 0
 unfolding opened createItem createRequest frameOf ofFrame refusalConditions lowest
 create-accepted = refl
 
-pub take-accepted : lowest 1 (refusalConditions (calling takeRequest 0)) ≡ 0
+pub take-accepted : lowest 1 (refusalConditions (calling takeRequest 1)) ≡ 0
 unfolding opened createItem takeRequest frameOf ofFrame refusalConditions lowest
 take-accepted = refl
 
@@ -170,22 +171,29 @@ create-step i holder t room =
 -- ---- the run
 
 abbrev createCall : List ℕ → Call
-createCall t = callingOn t createRequest 0
+createCall t = callingOn t createRequest 1
 
-create-ran : (t : List ℕ) → isFull placeCount t ≡ false → ranUnder (λ option. option) (createCall t) (frameOf (createCall t)) ≡ lastly (answerTo createAsked (created 0 t)) (grown 0 t)
+-- the clock that counts is 1 all along
+pub counted-one : (k : ℕ) (t request : List ℕ) → Filled k t → counted (callingOn t request 1) ≡ 1
+counted-one k t request f = max-eq-left (f .latest)
+
+create-ran : (k : ℕ) (t : List ℕ) → Filled k t → isFull placeCount (begunAt t) ≡ false
+    → ranUnder (λ option. option) (createCall t) (frameOf (createCall t)) ≡ lastly (answerTo createAsked (created 0 (begunAt t))) (grown 0 (begunAt t))
 unfolding frameOf ranUnder running
-create-ran t room =
+create-ran k t f room =
+    let option = optionOf (frameFrom createRequest .header .option) in
     ap (ranUnder (λ option. option) (createCall t)) create-read
-    ∙ batch-last (optionOf (frameFrom createRequest .header .option)) 0 0 t createAsked (created 0 t) (create-step 0 0 t room)
+    ∙ ap (λ (clock : ℕ). batch placeCount (countedFrom 0 512) option 0 0 (began placeCount clock t) (createAsked ∷ [])) (counted-one k t createRequest f)
+    ∙ batch-last option 0 0 (begunAt t) createAsked (created 0 (begunAt t)) (create-step 0 0 (begunAt t) room)
 
 -- what the box leaves of it
 abbrev createLeft : List ℕ → Effect
-createLeft t = regranting (createCall t) (lastly (answerTo createAsked (created 0 t)) (grown 0 t))
+createLeft t = regranting (createCall t) (lastly (answerTo createAsked (created 0 (begunAt t))) (grown 0 (begunAt t)))
 
-create-left : (t : List ℕ) → Held placeCount t → isFull placeCount t ≡ false → Regrants (createCall t) (createLeft t)
-create-left t held room =
-    ap (regranting (createCall t)) (sym (create-ran t room))
-    ∙ accepted-is (createCall t) _ (accepted-on createRequest t (held .right) create-accepted)
+create-left : (k : ℕ) (t : List ℕ) → Filled k t → isFull placeCount (begunAt t) ≡ false → Regrants (createCall t) (createLeft t)
+create-left k t f room =
+    ap (regranting (createCall t)) (sym (create-ran k t f room))
+    ∙ accepted-is (createCall t) _ (accepted-on createRequest t (f .held .right) create-accepted)
 
 -- a run that leaves k keys
 pub record Reached (k : ℕ) : Type 0 where
@@ -198,11 +206,12 @@ pub reached : (k : ℕ) → k ≤ placeCount → Reached k
 reached zero h = record { log = []; table = blank placeCount; run = begins; filled = filled-blank }
 reached (suc k) h =
     let r = reached k (omega arith) in
-    let room = filled-room k (r .table) (r .filled) (omega arith) in
-    let held = r .filled .held in
+    let t = r .table in
+    let open-table = filled-begun k t (r .filled) (omega arith) in
+    let room = filled-room k (begunAt t) open-table (omega arith) in
     record {
-      log = logged (createCall (r .table)) (createLeft (r .table)) (r .log);
-      table = grown 0 (r .table);
-      run = calls (createCall (r .table)) (createLeft (r .table)) (r .run) refl (lent-on (r .table) createRequest 0 (held .bytes) create-bytes (lit< tt)) (create-left (r .table) held room);
-      filled = filled-more k (r .table) (r .filled) (omega arith);
+      log = logged (createCall t) (createLeft t) (r .log);
+      table = grown 0 (begunAt t);
+      run = calls (createCall t) (createLeft t) (r .run) refl (lent-on t createRequest 1 (r .filled .held .bytes) create-bytes (lit< tt)) (create-left k t (r .filled) room);
+      filled = filled-more k (begunAt t) open-table (omega arith);
     }

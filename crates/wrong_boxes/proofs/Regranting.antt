@@ -3,16 +3,18 @@
 -- Assumes nothing. What is computed is the reading of one response.
 use Prim.Native.Nat.{ℕ, zero, suc, _+_, _<_}
 use native.Mathlib.Omega.{arith}
+use native.Mathlib.Decide.{ℕ-discrete}
 use mathlib.Core.Path.{_≡_, refl, sym, ap, ap₂, subst, _∙_}
-use mathlib.Core.Bool.{Bool, true, false, not, _&&_, _||_}
+use mathlib.Core.Bool.{Bool, true, false, not, _&&_, _||_, true≢false}
 use mathlib.Core.List.{List, [], _∷_, _++_}
 use lib.Dec.{leb, eqb, lit<}
 use Rattle.octets.specs.If.{ifb}
+use Rattle.octets.specs.Octets.{countedFrom}
 use Rattle.octets.proofs.If.{ifb-true, ifb-false}
 use Rattle.octets.proofs.Bools.{and-no, or-l}
 use Rattle.table.specs.declared.Record.{Record}
 use Rattle.table.specs.Layout.{placeCount}
-use Rattle.table.specs.Records.{placeAt, withPlace, serialAt, stateAt, lastSerial}
+use Rattle.table.specs.Records.{placeAt, withPlace, serialAt, stateAt, lastSerial, latestClock}
 use Rattle.table.proofs.Places.{state-is}
 use Rattle.search.specs.declared.Found.{Found}
 use Rattle.search.specs.declared.Found.the-variants.{At, Nothing}
@@ -25,11 +27,13 @@ use Rattle.rules.specs.declared.Next.the-variants.{To}
 use Rattle.rules.specs.Numbers.{getUsageAllocation, destroy}
 use Rattle.rules.specs.Tests.{due}
 use Rattle.rules.specs.States.{nextState}
-use Rattle.changes.specs.Records.{newRecord, movedTo, inState}
+use Rattle.changes.specs.Records.{newRecord, movedTo, withDates, inState}
+use Rattle.changes.specs.Dates.{began}
 use Rattle.changes.specs.Changes.{isFull, nextSerial}
 use Rattle.keeps.proofs.Stores.{Stored, other-serial, here-serial}
 use Rattle.keeps.proofs.Keeps.{Held, keeps-moved}
 use Rattle.keeps.proofs.Leaves.{Born, moved-leaves}
+use Rattle.keeps.proofs.Dates.{began-latest}
 use Rattle.batch_item.specs.Item.{Asked}
 use Rattle.frame.specs.Frame.{optionOf}
 use Rattle.target_read.specs.declared.Target.the-variants.{Serial}
@@ -43,32 +47,31 @@ use Rattle.act.specs.Act.{sought, onFound, step}
 use Rattle.answer.specs.Respond.{Answer}
 use Rattle.engine.specs.Effects.{Effect}
 use Rattle.engine.specs.Batch.{Ran, answerTo, firstly, batch, running}
-use Rattle.demands.specs.Box.{Call}
+use Rattle.demands.specs.Box.{Call, counted}
 use Rattle.demands.specs.Demand2.{frameOf}
 use Rattle.demands.specs.Log.{Event, commandOf, orNoItems, orNoAnswers, heldAfter, paired, itemsAsked, eventsOf, onto, logged, issuedBy, grantBy, granted}
-use Rattle.demands.specs.Demand3.{Run, namedBy, names, takes, movesState, codeOf, listed, Tame, Path, arrived, went, Demand3}
+use Rattle.demands.specs.Demand3.{Run, namedBy, names, takes, movesState, codeOf, listed, listedBy, Tame, DueOnly, Path, arrived, went, Demand3}
 use Rattle.demands.proofs.Logged.{granted-more}
-use Rattle.wrong_boxes.specs.Wrong.{responding, ranUnder, TakesFrom, GrantsTaken, asksForGone, regranted, regranting, Regrants}
+use Rattle.demands.proofs.Follows.{opens-due, due-serial}
+use Rattle.wrong_boxes.specs.Wrong.{stamping, responding, ranUnder, TakesFrom, GrantsTaken, asksForGone, regranted, regranting, Regrants}
 use Rattle.cases.proofs.Cases.{opened}
 use Rattle.wrong_boxes.proofs.Calling.{callingOn, lent-on, accepted-is}
 use Rattle.wrong_boxes.proofs.Granting.{grants-taken}
-use Rattle.wrong_boxes.proofs.Filling.{wanted, own, grown, has-room, grown-born, firstKey, Filled, takes-first}
-use Rattle.wrong_boxes.proofs.Reaching.{createItem, createRequest, takeRequest, frameOr, frameFrom, itemAt, createAsked, destroyAsked, grantAsked, take-read, create-command, destroy-command, grant-command, accepted-on, take-accepted, take-bytes, batch-last, batch-on, decided, planned, created, create-step, reached}
+use Rattle.wrong_boxes.proofs.Filling.{wanted, own, grown, has-room, grown-born, firstKey, Filled, begunAt, filled-begun, takes-first}
+use Rattle.wrong_boxes.proofs.Reaching.{createItem, createRequest, takeRequest, frameOr, frameFrom, itemAt, createAsked, destroyAsked, grantAsked, take-read, create-command, destroy-command, grant-command, counted-one, accepted-on, take-accepted, take-bytes, batch-last, batch-on, decided, planned, created, create-step, reached}
 
 -- ---- the last call, on a full table
 
 -- the first key, destroyed
 abbrev deadKey : Record
-deadKey = movedTo destroy 5 firstKey
+deadKey = movedTo destroy 0 1 5 firstKey
 
 destroy-next : nextState destroy 0 1 ≡ To 5
 unfolding opened
 destroy-next = refl
 
-module _ (t : List ℕ) (f : Filled 64 t) where
-  abbrev takeCall : Call
-  takeCall = callingOn t takeRequest 0
-
+-- on the table that its first item meets, whose latest clock is 1
+module _ (t : List ℕ) (f : Filled 64 t) (now : latestClock t ≡ 1) where
   first-is : placeAt placeCount t 0 ≡ firstKey
   first-is = f .first (omega arith)
 
@@ -88,6 +91,7 @@ module _ (t : List ℕ) (f : Filled 64 t) where
       planned 0 0 t destroyAsked (Destroy (Serial 1)) destroy-command
       ∙ ap (λ (found : Found). decided t (onFound (own 0) 0 t (destroyPlan (own 0) 0 t) found)) first-found
       ∙ ap (λ (r : Record). decided t (destroyPlan (own 0) 0 t 0 r)) first-is
+      ∙ ap (λ (clock : ℕ). record { outcome = Done 1; table = withPlace placeCount t 0 (movedTo destroy 0 clock 5 firstKey); holder = 0 }) now
 
   first-stands : serialAt t 0 ≡ 0 → ⊥
   first-stands z = omega (arith, f .serials 0 (lit< tt))
@@ -98,14 +102,18 @@ module _ (t : List ℕ) (f : Filled 64 t) where
 
   emptied-stored : Stored placeCount t 0 deadKey (lastSerial t) emptied
   emptied-stored =
-      subst (λ (r : Record). Stored placeCount t 0 (movedTo destroy 5 r) (lastSerial t) (withPlace placeCount t 0 (movedTo destroy 5 r))) first-is
-      (moved-leaves placeCount t (f .held) 0 (lit< tt) first-stands destroy 0 5 first-dies)
+      subst (λ (clock : ℕ). Stored placeCount t 0 (movedTo destroy 0 clock 5 firstKey) (lastSerial t) (withPlace placeCount t 0 (movedTo destroy 0 clock 5 firstKey))) now
+      (subst (λ (r : Record). Stored placeCount t 0 (movedTo destroy 0 (latestClock t) 5 r) (lastSerial t) (withPlace placeCount t 0 (movedTo destroy 0 (latestClock t) 5 r))) first-is
+      (moved-leaves placeCount t (f .held) 0 (lit< tt) first-stands destroy 0 5 first-dies))
 
   emptied-held : Held placeCount emptied
-  emptied-held = subst (λ (r : Record). Held placeCount (withPlace placeCount t 0 (movedTo destroy 5 r))) first-is (keeps-moved placeCount t (f .held) 0 (lit< tt) first-stands destroy 0 5 first-dies)
+  emptied-held =
+      subst (λ (clock : ℕ). Held placeCount (withPlace placeCount t 0 (movedTo destroy 0 clock 5 firstKey))) now
+      (subst (λ (r : Record). Held placeCount (withPlace placeCount t 0 (movedTo destroy 0 (latestClock t) 5 r))) first-is
+      (keeps-moved placeCount t (f .held) 0 (lit< tt) first-stands destroy 0 5 first-dies refl))
 
   emptied-serials : (i : ℕ) → i < placeCount → serialAt emptied i ≡ i + 1
-  unfolding newRecord movedTo inState
+  unfolding newRecord movedTo withDates inState
   emptied-serials zero h = here-serial placeCount t 0 _ _ _ emptied-stored
   emptied-serials (suc i) h = other-serial placeCount t 0 _ _ _ emptied-stored (suc i) h (λ e. omega arith) ∙ f .serials (suc i) h
 
@@ -114,7 +122,7 @@ module _ (t : List ℕ) (f : Filled 64 t) where
 
   -- the Create takes its place
   emptied-due : newPlace placeCount emptied ≡ At 0
-  unfolding newRecord movedTo inState
+  unfolding newRecord movedTo withDates inState
   emptied-due = takes-first emptied emptied-serials (ap isDestroyed (state-is placeCount emptied 0 ∙ ap (λ (r : Record). r .state) (emptied-stored .here)))
 
   emptied-room : isFull placeCount emptied ≡ false
@@ -153,12 +161,10 @@ module _ (t : List ℕ) (f : Filled 64 t) where
   abbrev ranRightly : Ran
   ranRightly = record { answers = answerTo destroyAsked destroyed ∷ answerTo createAsked (created 1 emptied) ∷ answerTo grantAsked (failing after ObjectNotFound) ∷ []; table = after }
 
-  take-ran : ranUnder (λ option. option) takeCall (frameOf takeCall) ≡ ranRightly
-  unfolding frameOf ranUnder running isFailed
-  take-ran =
-      let option = optionOf (frameFrom takeRequest .header .option) in
-      ap (ranUnder (λ option. option) takeCall) take-read
-      ∙ batch-on option 0 0 t destroyAsked destroyed destroy-step (createAsked ∷ grantAsked ∷ []) refl
+  take-ran : (option : ℕ) → batch placeCount (countedFrom 0 512) option 0 0 t (destroyAsked ∷ createAsked ∷ grantAsked ∷ []) ≡ ranRightly
+  unfolding isFailed
+  take-ran option =
+      batch-on option 0 0 t destroyAsked destroyed destroy-step (createAsked ∷ grantAsked ∷ []) refl
       ∙ ap (firstly (answerTo destroyAsked destroyed)) (batch-on option 1 0 emptied createAsked (created 1 emptied) (create-step 1 0 emptied emptied-room) (grantAsked ∷ []) refl)
       ∙ ap (λ (r : Ran). firstly (answerTo destroyAsked destroyed) (firstly (answerTo createAsked (created 1 emptied)) r))
       (batch-last option 2 (nextSerial emptied) after grantAsked (failing after ObjectNotFound) grant-step)
@@ -221,78 +227,130 @@ dies state h = go (eqb state 5) h
 one-step : {log : List Event} {t u : List ℕ} {ev : Event} → Path log t (ev ∷ []) u → Tame ev t u
 one-step (went ev u tame after arrived) = tame
 
-module _ (log : List Event) (t : List ℕ) (run : Run Regrants log t) (f : Filled 64 t) where
-  abbrev takeLeft : Effect
-  takeLeft = responding (takeCall t f) takenAnswers (after t f)
+-- the table u that the first item meets, and the one that the batch leaves
+module _ (u : List ℕ) (f : Filled 64 u) (now : latestClock u ≡ 1) where
+  abbrev left : List ℕ
+  left = after u f now
 
-  asks-gone : asksForGone (after t f) grantAsked ≡ true
+  asks-gone : asksForGone left grantAsked ≡ true
   unfolding asksForGone namedBy sought isNothing
   asks-gone =
-      ap₂ (λ (o x : ℕ). eqb o getUsageAllocation && not (eqb x 0) && leb x (lastSerial (after t f)) && isNothing (find placeCount (after t f) x)) grant-operation (ap (namedBy 0) grant-command)
-      ∙ ap₂ (λ (last : ℕ) (found : Found). leb 1 last && isNothing found) (after-last t f) (gone t f)
+      ap₂ (λ (o x : ℕ). eqb o getUsageAllocation && not (eqb x 0) && leb x (lastSerial left) && isNothing (find placeCount left x)) grant-operation (ap (namedBy 0) grant-command)
+      ∙ ap₂ (λ (last : ℕ) (found : Found). leb 1 last && isNothing found) (after-last u f now) (gone u f now)
 
   -- Destroy and Create are answered as is due
-  destroy-answer : ifb (asksForGone (after t f) destroyAsked) (Done (namedBy 0 (command (destroyAsked .operation) (destroyAsked .payload)))) (Done 1) ≡ Done 1
-  destroy-answer = ifb-false _ _ _ (other-asks (after t f) destroyAsked (ap (λ (o : ℕ). eqb o getUsageAllocation) destroy-operation))
+  destroy-answer : ifb (asksForGone left destroyAsked) (Done (namedBy 0 (command (destroyAsked .operation) (destroyAsked .payload)))) (Done 1) ≡ Done 1
+  destroy-answer = ifb-false _ _ _ (other-asks left destroyAsked (ap (λ (o : ℕ). eqb o getUsageAllocation) destroy-operation))
 
-  create-answer : ifb (asksForGone (after t f) createAsked) (Done (namedBy 0 (command (createAsked .operation) (createAsked .payload)))) (Created (nextSerial (emptied t f))) ≡ Created 65
+  create-answer : ifb (asksForGone left createAsked) (Done (namedBy 0 (command (createAsked .operation) (createAsked .payload)))) (Created (nextSerial (emptied u f now))) ≡ Created 65
   create-answer =
-      ifb-false _ _ _ (other-asks (after t f) createAsked (ap (λ (o : ℕ). eqb o getUsageAllocation) create-operation))
-      ∙ ap (λ (last : ℕ). Created (last + 1)) (emptied-last t f)
+      ifb-false _ _ _ (other-asks left createAsked (ap (λ (o : ℕ). eqb o getUsageAllocation) create-operation))
+      ∙ ap (λ (last : ℕ). Created (last + 1)) (emptied-last u f now)
 
   -- and the units are granted
-  grant-answer : ifb (asksForGone (after t f) grantAsked) (Done (namedBy 0 (command (grantAsked .operation) (grantAsked .payload)))) (Failed ObjectNotFound) ≡ Done 1
+  grant-answer : ifb (asksForGone left grantAsked) (Done (namedBy 0 (command (grantAsked .operation) (grantAsked .payload)))) (Failed ObjectNotFound) ≡ Done 1
   unfolding namedBy sought
   grant-answer = ifb-true _ _ _ asks-gone ∙ ap (λ (c : Command). Done (namedBy 0 c)) grant-command
 
-  regranted-is : regranted (after t f) (itemsAsked (takeCall t f)) (ranRightly t f .answers) ≡ takenAnswers
-  unfolding orNoItems regranted
-  regranted-is =
-      ap (λ (items : List Asked). regranted (after t f) items (ranRightly t f .answers)) (ap orNoItems take-read)
-      ∙ answering-same destroy-answer create-answer grant-answer
+  regranted-is : regranted left (destroyAsked ∷ createAsked ∷ grantAsked ∷ []) (ranRightly u f now .answers) ≡ takenAnswers
+  unfolding regranted
+  regranted-is = answering-same destroy-answer create-answer grant-answer
 
-  take-left : Regrants (takeCall t f) takeLeft
+-- ---- the call
+
+module _ (log : List Event) (t : List ℕ) (run : Run Regrants log t) (f : Filled 64 t) where
+  abbrev takeCall : Call
+  takeCall = callingOn t takeRequest 1
+
+  -- the table that its first item should meet
+  abbrev opening : List ℕ
+  opening = begunAt t
+
+  full : Filled 64 opening
+  full = filled-begun 64 t f (omega arith)
+
+  now-one : latestClock opening ≡ 1
+  now-one = began-latest placeCount t (f .held) 1 (f .latest) (omega arith)
+
+  abbrev takeLeft : Effect
+  takeLeft = responding takeCall takenAnswers (left opening full now-one)
+
+  ran : ranUnder (λ option. option) takeCall (frameOf takeCall) ≡ ranRightly opening full now-one
+  unfolding frameOf ranUnder running
+  ran =
+      let option = optionOf (frameFrom takeRequest .header .option) in
+      ap (ranUnder (λ option. option) takeCall) take-read
+      ∙ ap (λ (clock : ℕ). batch placeCount (countedFrom 0 512) option 0 0 (began placeCount clock t) (destroyAsked ∷ createAsked ∷ grantAsked ∷ [])) (counted-one 64 t takeRequest f)
+      ∙ take-ran opening full now-one option
+
+  take-left : Regrants takeCall takeLeft
+  unfolding orNoItems
   take-left =
-      ap (λ (answers : List Answer). responding (takeCall t f) answers (after t f)) (sym regranted-is)
-      ∙ ap (regranting (takeCall t f)) (sym (take-ran t f))
-      ∙ accepted-is (takeCall t f) _ (accepted-on takeRequest t (f .held .right) take-accepted)
+      ap (λ (answers : List Answer). responding takeCall answers (left opening full now-one))
+      (sym (ap (λ (items : List Asked). regranted (left opening full now-one) items (ranRightly opening full now-one .answers)) (ap orNoItems take-read) ∙ regranted-is opening full now-one))
+      ∙ ap (regranting takeCall) (sym ran)
+      ∙ accepted-is takeCall _ (accepted-on takeRequest t (f .held .right) take-accepted)
 
   -- the log of it
-  take-events : eventsOf (takeCall t f) takeLeft ≡ (destroyEvent ∷ []) ++ (createEvent ∷ grantEvent ∷ [])
+  events-one : eventsOf takeCall (stamping 1 takeCall takenAnswers (left opening full now-one)) ≡ (destroyEvent ∷ []) ++ (createEvent ∷ grantEvent ∷ [])
   unfolding opened createItem createRequest takeRequest frameOr frameFrom itemAt createAsked destroyAsked grantAsked eventsOf paired heldAfter orNoItems orNoAnswers
-  take-events = refl
+  events-one = refl
 
-  -- wherever the Destroy may have led, the Create takes the place of the first key
-  module _ (u : List ℕ) (tame : Tame destroyEvent t u) where
-    untaken : (i : ℕ) → takes destroyEvent t i ≡ false
-    unfolding issuedBy
-    untaken i = and-no _ _ (ap (λ (c : Command). not (eqb (issuedBy c (Done 1)) 0)) destroy-command)
+  take-events : eventsOf takeCall takeLeft ≡ (destroyEvent ∷ []) ++ (createEvent ∷ grantEvent ∷ [])
+  take-events = ap (λ (clock : ℕ). eventsOf takeCall (stamping clock takeCall takenAnswers (left opening full now-one))) (counted-one 64 t takeRequest f) ∙ events-one
 
-    kept-serials : (i : ℕ) → i < placeCount → serialAt u i ≡ i + 1
-    kept-serials i l = tame .kept i l (untaken i) ∙ f .serials i l
+  -- however the call may open, the first key waits in its place
+  module _ (start : List ℕ) (due : DueOnly (counted takeCall) t start) where
+    start-serials : (i : ℕ) → i < placeCount → serialAt start i ≡ i + 1
+    start-serials i l = due-serial t start due i l ∙ f .serials i l
 
-    first-named : names destroyEvent t 0 ≡ true
-    unfolding namedBy sought isAt
-    first-named = ap (λ (c : Command). isAt 0 (find placeCount t (namedBy 0 c))) destroy-command ∙ ap (isAt 0) (first-found t f)
+    not-listed : (to : ℕ) → listedBy (counted takeCall) firstKey to ≡ false
+    unfolding listedBy newRecord
+    not-listed to = refl
 
-    first-dead : isDestroyed (stateAt u 0) ≡ true
-    unfolding isFailed movesState codeOf newRecord
-    first-dead =
-        let way = tame .obeys 0 (lit< tt) first-named refl (ap movesState destroy-command) in
-        let same = ap₂ (λ (o : ℕ) (c : Command). listed o (codeOf c) (placeAt placeCount t 0 .state) (placeAt placeCount u 0 .state)) destroy-operation destroy-command in
-        let from = ap (λ (r : Record). listed destroy 0 (r .state) (placeAt placeCount u 0 .state)) (first-is t f) in
-        or-l _ _ (ap (λ (s : ℕ). eqb s 5) (state-is placeCount u 0) ∙ dies (placeAt placeCount u 0 .state) (sym from ∙ sym same ∙ way))
+    start-state : placeAt placeCount start 0 .state ≡ 1
+    unfolding newRecord
+    start-state =
+        let was : placeAt placeCount t 0 ≡ firstKey = f .first (omega arith) in
+        elim (ℕ-discrete (placeAt placeCount start 0 .state) (placeAt placeCount t 0 .state)) [
+          | yes e ↦ e ∙ ap (λ (r : Record). r .state) was
+          | no e ↦ absurd (true≢false (sym (due .moves 0 (lit< tt) e) ∙ ap (λ (r : Record). listedBy (counted takeCall) r (placeAt placeCount start 0 .state)) was ∙ not-listed _))
+        ]
 
-    takes-from : TakesFrom 1 createEvent u
-    unfolding issuedBy isAt
-    takes-from = record {
-      place = 0;
-      stood = record { below = lit< tt; serial = kept-serials 0 (lit< tt) };
-      taken = ap₂ (λ (c : Command) (found : Found). not (eqb (issuedBy c (Created 65)) 0) && isAt 0 found) create-command (takes-first u kept-serials first-dead);
-    }
+    -- and wherever the Destroy may have led, the Create takes its place
+    module _ (u : List ℕ) (tame : Tame destroyEvent start u) where
+      untaken : (i : ℕ) → takes destroyEvent start i ≡ false
+      unfolding issuedBy
+      untaken i = and-no _ _ (ap (λ (c : Command). not (eqb (issuedBy c (Done 1)) 0)) destroy-command)
+
+      kept-serials : (i : ℕ) → i < placeCount → serialAt u i ≡ i + 1
+      kept-serials i l = tame .kept i l (untaken i) ∙ start-serials i l
+
+      start-found : find placeCount start 1 ≡ At 0
+      start-found = find-is placeCount start 1 0 (λ z. omega arith) (lit< tt) (start-serials 0 (lit< tt)) (λ j h. absurd (omega arith))
+
+      first-named : names destroyEvent start 0 ≡ true
+      unfolding namedBy sought isAt
+      first-named = ap (λ (c : Command). isAt 0 (find placeCount start (namedBy 0 c))) destroy-command ∙ ap (isAt 0) start-found
+
+      first-dead : isDestroyed (stateAt u 0) ≡ true
+      unfolding isFailed movesState codeOf
+      first-dead =
+          let way = tame .obeys 0 (lit< tt) first-named refl (ap movesState destroy-command) in
+          let same = ap₂ (λ (o : ℕ) (c : Command). listed o (codeOf c) (placeAt placeCount start 0 .state) (placeAt placeCount u 0 .state)) destroy-operation destroy-command in
+          let from = ap (λ (state : ℕ). listed destroy 0 state (placeAt placeCount u 0 .state)) start-state in
+          or-l _ _ (ap (λ (s : ℕ). eqb s 5) (state-is placeCount u 0) ∙ dies (placeAt placeCount u 0 .state) (sym from ∙ sym same ∙ way))
+
+      takes-from : TakesFrom 1 createEvent u
+      unfolding issuedBy isAt
+      takes-from = record {
+        place = 0;
+        stood = record { below = lit< tt; serial = kept-serials 0 (lit< tt) };
+        taken = ap₂ (λ (c : Command) (found : Found). not (eqb (issuedBy c (Created 65)) 0) && isAt 0 found) create-command (takes-first u kept-serials first-dead);
+      }
 
   -- 5 units more
-  more-units : granted 1 (logged (takeCall t f) takeLeft log) ≡ granted 1 (destroyEvent ∷ log) → ⊥
+  more-units : granted 1 (logged takeCall takeLeft log) ≡ granted 1 (destroyEvent ∷ log) → ⊥
   unfolding logged onto grantBy ifb
   more-units e =
       omega (arith, e, ap (λ (events : List Event). granted 1 (onto events log)) take-events, granted-more 1 grantEvent (createEvent ∷ destroyEvent ∷ log), granted-more 1 createEvent (destroyEvent ∷ log), five)
@@ -306,10 +364,10 @@ module _ (log : List Event) (t : List ℕ) (run : Run Regrants log t) (f : Fille
     log = log;
     t = t;
     run = run;
-    c = takeCall t f;
+    c = takeCall;
     e = takeLeft;
     same = refl;
-    lent = lent-on t takeRequest 0 (f .held .bytes) take-bytes (lit< tt);
+    lent = lent-on t takeRequest 1 (f .held .bytes) take-bytes (lit< tt);
     left = take-left;
     before = destroyEvent ∷ [];
     taker = createEvent;
@@ -317,7 +375,7 @@ module _ (log : List Event) (t : List ℕ) (run : Run Regrants log t) (f : Fille
     events-are = take-events;
     x = 1;
     known = λ z. omega arith;
-    taken = λ u p. takes-from u (one-step p);
+    taken = λ start u o p. takes-from start (opens-due o refl) u (one-step p);
     more = more-units;
   }
 

@@ -139,7 +139,7 @@ destroy-not from = go (eqb from 1) (eqb from 3) (eqb from 4)
 
 -- what the box leaves of the life of a key: its last item is a Destroy that it answers with success
 abbrev life : Call
-life = calling lifeRequest 0
+life = calling lifeRequest 1
 
 alive : Effect
 alive = withTable (λ due. ifb (eqb (stateAt due 0) 5) (woken due) due) (served life)
@@ -150,7 +150,7 @@ alive-seen = refl
 
 pub leaves-alive : Demand3 LeavesAlive → ⊥
 unfolding alive seenOn
-leaves-alive d = no-waking destroy 0 destroy-not (d .path [] (blank placeCount) begins life alive refl (lent-life 0 (lit< tt)) (accepted-is life alive (life-accepted 0))) alive-seen
+leaves-alive d = no-waking destroy 0 destroy-not (d .goes [] (blank placeCount) begins life alive refl (lent-life 1 (lit< tt)) (accepted-is life alive (life-accepted 1 refl)) .path) alive-seen
 
 -- ---- the next call wakes it
 
@@ -160,14 +160,14 @@ first-left = withTable (λ due. ifb (eqb (stateAt (blank placeCount) 0) 5) (woke
 
 -- then Revoke for a compromise, which should lead from 5 to 6
 next : Call
-next = callingOn (first-left .table) compromiseRequest 0
+next = callingOn (first-left .table) compromiseRequest 1
 
 next-left : Effect
 next-left = withTable (λ due. ifb (eqb (stateAt (next .table) 0) 5) (woken due) due) (served next)
 
 lent-next : Lent next
 unfolding opened isByte next first-left withTable woken
-lent-next = lent-on (first-left .table) compromiseRequest 0 (bytes-test (first-left .table) refl) refl (lit< tt)
+lent-next = lent-on (first-left .table) compromiseRequest 1 (bytes-test (first-left .table) refl) refl (lit< tt)
 
 next-accepted : lowest 1 (refusalConditions next) ≡ 0
 unfolding opened next first-left withTable woken frameOf ofFrame refusalConditions lowest
@@ -191,5 +191,5 @@ revoke-not from = go (eqb from 1) (eqb from 2) (eqb from 3) (eqb from 5)
 pub wakes : Demand3 Wakes → ⊥
 unfolding first-left next next-left withTable seenOn
 wakes d =
-    let r = calls life first-left begins refl (lent-life 0 (lit< tt)) (accepted-is life first-left (life-accepted 0)) in
-    no-waking revoke 2 revoke-not (d .path (logged life first-left []) (first-left .table) r next next-left refl lent-next (accepted-is next next-left next-accepted)) next-seen
+    let r = calls life first-left begins refl (lent-life 1 (lit< tt)) (accepted-is life first-left (life-accepted 1 refl)) in
+    no-waking revoke 2 revoke-not (d .goes (logged life first-left []) (first-left .table) r next next-left refl lent-next (accepted-is next next-left next-accepted) .path) next-seen

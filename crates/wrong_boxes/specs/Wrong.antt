@@ -7,15 +7,16 @@ use mathlib.Core.Bool.{Bool, true, not, _&&_}
 use mathlib.Core.Option.{Option, none, some}
 use mathlib.Core.List.{List, [], _∷_, _++_, map}
 use lib.ListN.{length, take, replicate}
-use lib.Dec.{leb, eqb}
+use lib.Dec.{leb, ltb, eqb}
 use Rattle.octets.specs.If.{ifb}
 use Rattle.octets.specs.Octets.{over}
 use Rattle.table.specs.declared.Record.{Record}
-use Rattle.table.specs.Records.{stateAt, lastSerial, withPlace}
+use Rattle.table.specs.Records.{stateAt, lastSerial, withPlace, withClock}
 use Rattle.search.specs.Search.{isNothing, find}
 use Rattle.rules.specs.declared.Reason.the-variants.{InvalidField, ObjectDestroyed}
-use Rattle.rules.specs.Numbers.{active, destroyed, getUsageAllocation, reasonNumber}
+use Rattle.rules.specs.Numbers.{active, deactivated, destroyed, getUsageAllocation, reasonNumber}
 use Rattle.changes.specs.Records.{inState, withCount}
+use Rattle.changes.specs.Dates.{began}
 use Rattle.ttlv.specs.Items.{encode}
 use Rattle.batch_item.specs.Item.{Asked}
 use Rattle.frame.specs.Frame.{Frame, optionOf, continue}
@@ -31,10 +32,10 @@ use Rattle.answer.specs.Respond.{Answer, respond}
 use Rattle.engine.specs.Effects.{Effect}
 use Rattle.engine.specs.Batch.{Ran, running}
 use Rattle.engine.specs.Serving.{turnedAway, serving}
-use Rattle.demands.specs.Box.{Call, Box, Lent, placesOf, recordIn}
+use Rattle.demands.specs.Box.{Call, Box, Lent, placesOf, recordIn, counted}
 use Rattle.demands.specs.Demand2.{frameOf, refusalConditions, lowest}
 use Rattle.demands.specs.Log.{Event, itemsAsked, eventsOf, onto, logged, granted}
-use Rattle.demands.specs.Demand3.{Run, Stands, namedBy, takes, Path}
+use Rattle.demands.specs.Demand3.{Run, Stands, namedBy, takes, Path, Opens}
 
 -- ---- what they do
 
@@ -46,19 +47,27 @@ orRefused c e = ifb (eqb (lowest 1 (refusalConditions c)) 0) e (turnedAway (c .t
 abbrev pub rightly : Call → Effect
 rightly c = serving (c .request) (c .table) (c .strip) (c .clock) (c .output)
 
--- these answers, and this table
-abbrev pub responding : Call → List Answer → List ℕ → Effect
-responding c answers t = record {
+-- these answers under a Time Stamp, and this table
+abbrev pub stamping : ℕ → Call → List Answer → List ℕ → Effect
+stamping clock c answers t = record {
   number = 0;
-  length = length (encode (respond (record { clock = c .clock; answers = answers })));
+  length = length (encode (respond (record { clock = clock; answers = answers })));
   table = t;
-  output = over (encode (respond (record { clock = c .clock; answers = answers }))) (c .output);
+  output = over (encode (respond (record { clock = clock; answers = answers }))) (c .output);
 }
+
+-- under that of the clock that counts
+abbrev pub responding : Call → List Answer → List ℕ → Effect
+responding c answers t = stamping (counted c) c answers t
+
+-- the table that the first item should meet
+abbrev pub begunBy : Call → List ℕ
+begunBy c = began (placesOf (c .table)) (counted c) (c .table)
 
 -- the batch of a call, run under an option
 unfoldable pub ranUnder : (ℕ → ℕ) → Call → Option Frame → Ran
-ranUnder option c none = record { answers = []; table = c .table }
-ranUnder option c (some f) = running (placesOf (c .table)) (c .strip) (c .table) (record { option = option (optionOf (f .header .option)); items = f .items })
+ranUnder option c none = record { answers = []; table = begunBy c }
+ranUnder option c (some f) = running (placesOf (c .table)) (c .strip) (begunBy c) (record { option = option (optionOf (f .header .option)); items = f .items })
 
 -- an outcome with another table
 unfoldable pub withTable : (List ℕ → List ℕ) → Effect → Effect
@@ -93,7 +102,7 @@ allFailed (some f) = ifb (eqb (optionOf (f .header .option)) continue) (map fail
 
 -- a box that fails every item
 abbrev pub FailsAll : Box
-FailsAll c e = e ≡ orRefused c (responding c (allFailed (frameOf c)) (c .table))
+FailsAll c e = e ≡ orRefused c (responding c (allFailed (frameOf c)) (begunBy c))
 
 -- "One answer for all": the same bytes for every accepted request, whatever it does to the table
 abbrev pub SameAnswer : List ℕ → (Call → List ℕ) → Box
@@ -114,6 +123,10 @@ withMaterialOf other r = inState (r .state) (other .material) r
 -- a box that leaves the key at place 0 with the material of the key at place 1
 abbrev pub SharesMaterial : Box
 SharesMaterial = Leaves (λ c due. withPlace (placesOf due) due 0 (withMaterialOf (recordIn due 1) (recordIn due 0)))
+
+-- "A clock earlier than the latest seen counts as the latest .. in the Time Stamp": it does all as it should, and stamps the clock that it was given
+abbrev pub StampsGiven : Box
+StampsGiven c e = e ≡ orRefused c (stamping (c .clock) c (ranUnder (λ option. option) c (frameOf c) .answers) (ranUnder (λ option. option) c (frameOf c) .table))
 
 -- ---- boxes that demand 3 shuts out
 
@@ -147,7 +160,7 @@ pub record GrantsTaken (B : Box) : Type 0 where
   pub events-are : eventsOf c e ≡ before ++ (taker ∷ later)
   pub x : ℕ
   pub known : x ≡ 0 → ⊥
-  pub taken : (u : List ℕ) → Path log t before u → TakesFrom x taker u
+  pub taken : (start u : List ℕ) → Opens c (e .number) start → Path log start before u → TakesFrom x taker u
   pub more : granted x (logged c e log) ≡ granted x (onto before log) → ⊥
 
 -- whether an item asks units for an identifier that was issued and does not stand in the table t
@@ -219,3 +232,11 @@ Wakes = Leaves (λ c due. ifb (eqb (stateAt (c .table) 0) destroyed) (woken due)
 -- it answers that a key is destroyed, and leaves it Active: where place 0 should be left in state 5, it is Active
 abbrev pub LeavesAlive : Box
 LeavesAlive = Leaves (λ c due. ifb (eqb (stateAt due 0) destroyed) (woken due) due)
+
+-- a clock that turns back: it answers as it should, and stores the clock that it was given, so that what has come looks not yet come
+abbrev pub StoresGiven : Box
+StoresGiven = Leaves (λ c due. withClock due (c .clock))
+
+-- and so it does: where the key at place 0 is Deactivated, and its deactivation date lies after the clock that was given, it is Active again
+abbrev pub Revives : Box
+Revives = Leaves (λ c due. ifb (eqb (stateAt due 0) deactivated && ltb (c .clock) (recordIn due 0 .deactivation)) (woken due) due)

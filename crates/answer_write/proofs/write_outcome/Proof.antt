@@ -143,7 +143,7 @@ unfolding outcomeItems
 returns-2 c =
     let created-opened = c .before .before in
     let created-written = created-opened .before .before .before .before in
-    puts-outcome (created-arm created-written .outcome2 .given .1) (puts-succeeded 248 (created-room created-written) (created-written .write-created .ensures) (created-opened .write-success .ensures) (omega arith) (omega arith))
+    puts-outcome (created-arm created-written .outcome2 .given .1) (puts-succeeded 280 (created-room created-written) (created-written .write-created .ensures) (created-opened .write-success .ensures) (omega arith) (omega arith))
 
 same-length-3 : tie.Need-same-length-3
 same-length-3 c = search needs
@@ -153,7 +153,7 @@ unfolding outcomeItems
 returns-3 c =
     let name-opened = c .before .before in
     let name-written = name-opened .before .before .before .before in
-    puts-outcome (name-arm name-written .outcome3 .given .1) (puts-succeeded 248 (name-room name-written) (name name-written) (name-opened .write-success2 .ensures) (omega arith) (omega arith))
+    puts-outcome (name-arm name-written .outcome3 .given .1) (puts-succeeded 280 (name-room name-written) (name name-written) (name-opened .write-success2 .ensures) (omega arith) (omega arith))
 
 same-length-4 : tie.Need-same-length-4
 same-length-4 c = search needs
@@ -163,7 +163,7 @@ unfolding outcomeItems
 returns-4 c =
     let showed-opened = c .before .before in
     let showed-written = showed-opened .before .before .before .before in
-    puts-outcome (showed-arm showed-written .outcome4 .given .1) (puts-succeeded 248 (showed-room showed-written) (showed-written .write-showed .ensures) (showed-opened .write-success3 .ensures) (omega arith) (omega arith))
+    puts-outcome (showed-arm showed-written .outcome4 .given .1) (puts-succeeded 280 (showed-room showed-written) (showed-written .write-showed .ensures) (showed-opened .write-success3 .ensures) (omega arith) (omega arith))
 
 same-length-5 : tie.Need-same-length-5
 same-length-5 c = search needs
@@ -173,7 +173,7 @@ unfolding outcomeItems
 returns-5 c =
     let got-opened = c .before .before in
     let got-written = got-opened .before .before .before .before in
-    puts-outcome (got-arm got-written .outcome5 .given .1) (puts-succeeded 248 (got-room got-written) (got-written .write-got .ensures) (got-opened .write-success4 .ensures) (omega arith) (omega arith))
+    puts-outcome (got-arm got-written .outcome5 .given .1) (puts-succeeded 280 (got-room got-written) (got-written .write-got .ensures) (got-opened .write-success4 .ensures) (omega arith) (omega arith))
 
 pub write-outcome-spec : {M : Type 1} → statement M
 write-outcome-spec =

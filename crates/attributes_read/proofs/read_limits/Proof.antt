@@ -1,35 +1,49 @@
--- `attributes_read::read_limits`. Nothing, a structure and nothing behind it, or anything else.
+-- `attributes_read::read_limits`. By the tag at the front, then by the structure, then by what it holds.
 -- Assumes nothing.
 use mathlib.Core.Path.{_≡_, sym, ap, _∙_}
 use Prim.Native.Nat.{ℕ}
 use native.Mathlib.Omega.{arith}
 use mathlib.Core.Bool.{true}
 use mathlib.Core.List.{List}
+use borrow.Author.Tests.{not-true, not-false}
+use Rattle.octets.proofs.If.{ifb-true, ifb-false}
 use Rattle.ttlv.specs.Tree.{isRun}
+use Rattle.ttlv.proofs.Tree.{Rest}
+use Rattle.fields.specs.Found.{bodyAt}
+use Rattle.fields.specs.declared.BodyField.{BodyField}
 use Rattle.fields.specs.declared.BodyField.the-variants.{Body}
+use Rattle.fields.proofs.Lift.{body-rest, body-is-run}
 use Rattle.tags.specs.Tags.{usageLimits}
-use Rattle.last_field.specs.Last.{onlyBodyAt}
-use Rattle.attributes_read.specs.Readers.{limitsRead}
-use Rattle.last_field.proofs.Steps.{Whole, whole}
-use Rattle.attributes_read.proofs.Wanted.{limits-empty, limits-other, limits-is}
+use Rattle.attributes_read.specs.Readers.{limitsBody, limitsAt}
+use Rattle.attributes_read.proofs.Given.{end-limited, end-invalid}
 use borrow.Author.Needs.{needs}
 use Rattle.attributes_read.proofs.read_limits.Statement.{statement}
 use Rattle.attributes_read.proofs.read_limits.Tie as tie
 
-returns : tie.Need-returns
-unfolding limitsRead
-returns c = let at-start = c .before .before in sym (ap limitsRead (limits-empty (at-start .args .s .now) (at-start .pre) (c .if1 .taken)))
+starts-with-requires : tie.Need-starts-with-requires
+starts-with-requires c κs = search needs
 
--- ---- something is there: the items
+returns : tie.Need-returns
+unfolding limitsAt
+returns c = sym (ifb-false _ _ _ (sym (c .before .starts-with .ensures) ∙ not-true _ (c .if1 .taken)))
+
+-- ---- Usage Limits is there: the items, and what a structure gives
+
+abbrev start : tie.Else1 → tie.Start
+start c = c .before .before .before
 
 abbrev S : tie.Else1 → List ℕ
-S c = c .before .before .args .s .now
+S c = start c .args .s .now
 
 run : (c : tie.Else1) → isRun (S c) ≡ true
-run c = c .before .before .pre
+run c = start c .pre
 
-only-body-requires : tie.Need-only-body-requires
-only-body-requires c κs = search needs
+given : (c : tie.Else1) {b : BodyField} → bodyAt (S c) usageLimits ≡ b → limitsAt (S c) ≡ limitsBody (S c) b
+unfolding limitsAt
+given c e = ifb-true _ _ _ (sym (c .before .starts-with .ensures) ∙ not-false _ (c .if1 .left)) ∙ ap (limitsBody (S c)) e
+
+body-field-requires : tie.Need-body-field-requires
+body-field-requires c κs = search needs
 
 enum-known-next : tie.Need-enum-known-next
 enum-known-next c = search needs
@@ -38,46 +52,65 @@ enum-told : tie.Need-enum-told
 enum-told c = search needs
 
 returns-2 : tie.Need-returns-2
-unfolding limitsRead
-returns-2 c =
-    let at-body = c .before .before in
-    let e = at-body .before in
-    sym (ap limitsRead (limits-other (S e) (run e) (e .if1 .left) (sym (at-body .only-body .ensures) ∙ c .enum-told .given .1)))
+unfolding limitsBody
+returns-2 c = let at-body = c .before .before in sym (given (at-body .before) (sym (at-body .body-field .ensures) ∙ c .enum-told .given .1))
 
--- ---- Usage Limits is there, and nothing behind it
+-- ---- it is a structure
 
 abbrev at-else : tie.After-next → tie.Else1
 at-else c = c .before .before .before
 
-body : (c : tie.After-next) → onlyBodyAt (S (at-else c)) usageLimits ≡ Body (c .next .given .0 .0)
-body c = sym (c .before .before .only-body .ensures) ∙ c .next .given .1
+abbrev End : tie.After-next → ℕ
+End c = c .next .given .0 .0
 
-inside : (c : tie.After-next) → Whole (S (at-else c)) (run (at-else c)) usageLimits (c .next .given .0 .0)
-inside c = whole (S (at-else c)) (run (at-else c)) usageLimits (body c)
+body : (c : tie.After-next) → bodyAt (S (at-else c)) usageLimits ≡ Body (End c)
+body c = sym (c .before .before .body-field .ensures) ∙ c .next .given .1
+
+ends : (c : tie.After-next) → Rest (S (at-else c)) (End c)
+ends c = body-rest (S (at-else c)) (run (at-else c)) usageLimits (body c)
 
 sub-read-limit : tie.Need-sub-read-limit
-sub-read-limit c = inside (c .before) .past
+sub-read-limit c = ends (c .before) .past
 
 part-read-limit-start : tie.Need-part-read-limit-start
-part-read-limit-start c = omega (arith, inside (c .before))
+part-read-limit-start c = omega (arith, ends (c .before))
 
 part-read-limit-end : tie.Need-part-read-limit-end
-part-read-limit-end c = omega (arith, inside (c .before))
+part-read-limit-end c = omega (arith, ends (c .before))
 
 read-limit-requires : tie.Need-read-limit-requires
-read-limit-requires c κs = inside (c .before .before) .inner
+read-limit-requires c κs = let k = c .before .before in body-is-run (S (at-else k)) (run (at-else k)) usageLimits (body k)
+
+enum-known-unit : tie.Need-enum-known-unit
+enum-known-unit c = search needs
+
+enum-told-2 : tie.Need-enum-told-2
+enum-told-2 c = search needs
+
+-- ---- what the reader of the limit answered
+
+abbrev at-next : tie.After-read-limit → tie.After-next
+at-next c = c .before .before .before
 
 returns-3 : tie.Need-returns-3
+unfolding limitsBody
 returns-3 c =
-    let k = c .before .before .before in
-    c .read-limit .ensures ∙ sym (limits-is (S (at-else k)) (run (at-else k)) (body k))
+    let read = c .before .before in
+    sym (given (at-else (at-next read)) (body (at-next read)) ∙ end-invalid _ _ (sym (read .read-limit .ensures) ∙ c .enum-told2 .given .1))
+
+returns-4 : tie.Need-returns-4
+unfolding limitsBody
+returns-4 c =
+    let read = c .before .before .before in
+    sym (given (at-else (at-next read)) (body (at-next read)) ∙ end-limited _ _ (sym (read .read-limit .ensures) ∙ c .before .unit .given .1))
 
 pub read-limits-spec : {M : Type 1} → statement M
 read-limits-spec =
     tie.close
     (tie.spec
+    starts-with-requires
     returns
-    only-body-requires
+    body-field-requires
     enum-known-next
     enum-told
     returns-2
@@ -85,4 +118,7 @@ read-limits-spec =
     part-read-limit-start
     part-read-limit-end
     read-limit-requires
-    returns-3)
+    enum-known-unit
+    enum-told-2
+    returns-3
+    returns-4)

@@ -8,16 +8,14 @@ use mathlib.Core.List.{List}
 use lib.ListN.{length}
 use borrow.Author.Tests.{not-true, not-false}
 use Rattle.ttlv_types.specs.Types.{integer}
-use Rattle.ttlv.specs.Tree.{isRun, treeOf}
+use Rattle.ttlv.specs.Tree.{isRun}
 use Rattle.fields.specs.Found.{numberAt}
 use Rattle.fields.specs.declared.NumberField.the-variants.{Number}
-use Rattle.fields.proofs.Runs.{tail}
 use Rattle.values.specs.Values.{maskOk}
 use Rattle.tags.specs.Tags.{cryptographicUsageMask}
-use Rattle.attributes_read.specs.Attributes.{limitsIn, maskedIn}
 use Rattle.attributes_read.specs.Readers.{attributesRead}
 use Rattle.last_field.proofs.Steps.{number-within, number-behind}
-use Rattle.attributes_read.proofs.Wanted.{withLimits, masked-no-mask, masked-bad-mask, masked-limits, limits-none, limits-some, mask-most}
+use Rattle.attributes_read.proofs.Wanted.{masked-no-mask, masked-bad-mask, masked-limited, mask-most}
 use borrow.Author.Needs.{needs}
 use Rattle.attributes_read.proofs.read_masked.Statement.{statement}
 use Rattle.attributes_read.proofs.read_masked.Tie as tie
@@ -74,7 +72,7 @@ returns-2 c =
     let k = tested .before .before in
     sym (ap attributesRead (masked-bad-mask (S k) (run k) (Bits k) (masked k) (sym (tested .mask-ok .ensures) ∙ not-true _ (c .if1 .taken))))
 
--- ---- it is allowed: what is left is the limit
+-- ---- it is allowed: what is left is the limit and the dates
 
 abbrev at-mask : tie.Else1 → tie.After-mask
 at-mask c = c .before .before .before
@@ -82,52 +80,29 @@ at-mask c = c .before .before .before
 allowed : (c : tie.Else1) → maskOk (Mask (at-mask c)) ≡ true
 allowed c = sym (c .before .mask-ok .ensures) ∙ not-false _ (c .if1 .left)
 
-left : (c : tie.Else1) → maskedIn (Bits (at-mask c)) (treeOf (S (at-mask c))) ≡ withLimits (Bits (at-mask c)) (Mask (at-mask c)) (limitsIn (treeOf (tail (S (at-mask c)) (Next (at-mask c)))))
-left c = masked-limits (S (at-mask c)) (run (at-mask c)) (Bits (at-mask c)) (masked (at-mask c)) (allowed c)
+sub-read-limited : tie.Need-sub-read-limited
+sub-read-limited c = within (at-mask c)
 
-sub-read-limits : tie.Need-sub-read-limits
-sub-read-limits c = within (at-mask c)
+part-read-limited-start : tie.Need-part-read-limited-start
+part-read-limited-start c = let w = within (at-mask c) in omega arith
 
-part-read-limits-start : tie.Need-part-read-limits-start
-part-read-limits-start c = let w = within (at-mask c) in omega arith
+part-read-limited-end : tie.Need-part-read-limited-end
+part-read-limited-end c = search needs
 
-part-read-limits-end : tie.Need-part-read-limits-end
-part-read-limits-end c = search needs
-
-read-limits-requires : tie.Need-read-limits-requires
-read-limits-requires c κs =
-    let k = at-mask (c .before) in
-    number-behind (S k) (run k) cryptographicUsageMask integer refl (masked k)
-
-enum-known-unit : tie.Need-enum-known-unit
-enum-known-unit c = search needs
-
-enum-told-2 : tie.Need-enum-told-2
-enum-told-2 c = search needs
-
--- ---- what the reader of the limit answered
-
-abbrev at-else : tie.After-read-limits → tie.Else1
-at-else c = c .before .before
-
-returns-3 : tie.Need-returns-3
-unfolding attributesRead
-returns-3 c =
-    let at-limits = c .before .before in
-    sym (ap attributesRead (left (at-else at-limits) ∙ limits-none _ _ _ (sym (at-limits .read-limits .ensures) ∙ c .enum-told2 .given .1)))
-
-cast-t15 : tie.Need-cast-t15
-cast-t15 c =
-    let e = at-else (c .before .before .before) in
+cast-read-limited : tie.Need-cast-read-limited
+cast-read-limited c =
+    let e = c .before in
     let w = mask-most (Mask (at-mask e)) (allowed e) in
     omega arith
 
-returns-4 : tie.Need-returns-4
-unfolding attributesRead
-returns-4 c =
-    let limited = c .before in
-    let read = limited .before .before in
-    sym (ap attributesRead (left (at-else read) ∙ limits-some _ _ _ (sym (read .read-limits .ensures) ∙ limited .unit .given .1)))
+read-limited-requires : tie.Need-read-limited-requires
+read-limited-requires c κs = let k = at-mask (c .before) in number-behind (S k) (run k) cryptographicUsageMask integer refl (masked k)
+
+returns-3 : tie.Need-returns-3
+returns-3 c =
+    let e = c .before .before in
+    let k = at-mask e in
+    c .read-limited .ensures ∙ sym (ap attributesRead (masked-limited (S k) (run k) (Bits k) (masked k) (allowed e)))
 
 pub read-masked-spec : {M : Type 1} → statement M
 read-masked-spec =
@@ -139,12 +114,9 @@ read-masked-spec =
     returns
     mask-ok-requires
     returns-2
-    sub-read-limits
-    part-read-limits-start
-    part-read-limits-end
-    read-limits-requires
-    enum-known-unit
-    enum-told-2
-    returns-3
-    cast-t15
-    returns-4)
+    sub-read-limited
+    part-read-limited-start
+    part-read-limited-end
+    cast-read-limited
+    read-limited-requires
+    returns-3)

@@ -1,10 +1,10 @@
--- `attributes_write::write_attribute_items`. The numbers, then the limits, then the links.
+-- `attributes_write::write_attribute_items`. The numbers, then the dates, then the limit, then the links.
 -- Assumes nothing.
+use Rattle.ttlv.specs.Items.{nil}
 use Rattle.ttlv_put.specs.Write.{join}
 use Rattle.answer.specs.Respond.{attributeItems, linkItems, replacedObjectLink, replacementObjectLink}
-use Rattle.ttlv.specs.Items.{nil}
 use Rattle.named_write.proofs.Compose.{puts-then}
-use Rattle.attributes_write.proofs.Parts.{limit-join}
+use Rattle.attributes_write.proofs.Parts.{dated-join}
 use borrow.Author.Needs.{needs}
 use Rattle.attributes_write.proofs.write_attribute_items.Statement.{statement}
 use Rattle.attributes_write.proofs.write_attribute_items.Tie as tie
@@ -18,6 +18,21 @@ cast-write-always-2 c = search needs
 write-always-requires : tie.Need-write-always-requires
 write-always-requires c κs = search needs
 
+sub-write-dates : tie.Need-sub-write-dates
+sub-write-dates c = search needs
+
+part-write-dates-start : tie.Need-part-write-dates-start
+part-write-dates-start c = search needs
+
+part-write-dates-end : tie.Need-part-write-dates-end
+part-write-dates-end c = search needs
+
+write-dates-requires : tie.Need-write-dates-requires
+write-dates-requires c κs = search needs
+
+add-at : tie.Need-add-at
+add-at c = search needs
+
 sub-write-limits : tie.Need-sub-write-limits
 sub-write-limits c = search needs
 
@@ -30,8 +45,8 @@ part-write-limits-end c = search needs
 write-limits-requires : tie.Need-write-limits-requires
 write-limits-requires c κs = search needs
 
-add-at : tie.Need-add-at
-add-at c = search needs
+add-end : tie.Need-add-end
+add-end c = search needs
 
 sub-write-links : tie.Need-sub-write-links
 sub-write-links c = search needs
@@ -56,10 +71,11 @@ unfolding attributeItems join
 returns c =
     let at-links = c .before .before in
     let at-limits = at-links .before .before .before .before in
-    let at-always = at-limits .before .before .before .before in
+    let at-dates = at-limits .before .before .before .before in
+    let at-always = at-dates .before .before .before .before in
     let s = at-always .before .before .before .before .before .args .shown in
     let links = linkItems replacedObjectLink (s .replaced) (linkItems replacementObjectLink (s .replacement) nil) in
-    rw (← limit-join s links) (puts-then (puts-then (at-always .write-always .ensures) (at-limits .write-limits .ensures)) (at-links .write-links .ensures))
+    rw (← dated-join s links) (puts-then (puts-then (puts-then (at-always .write-always .ensures) (at-dates .write-dates .ensures)) (at-limits .write-limits .ensures)) (at-links .write-links .ensures))
 
 pub write-attribute-items-spec : {M : Type 1} → statement M
 write-attribute-items-spec =
@@ -68,11 +84,16 @@ write-attribute-items-spec =
     cast-write-always
     cast-write-always-2
     write-always-requires
+    sub-write-dates
+    part-write-dates-start
+    part-write-dates-end
+    write-dates-requires
+    add-at
     sub-write-limits
     part-write-limits-start
     part-write-limits-end
     write-limits-requires
-    add-at
+    add-end
     sub-write-links
     part-write-links-start
     part-write-links-end

@@ -1,14 +1,16 @@
 -- `engine::serve`. Each return is one law about the whole call.
 -- Assumes nothing.
 use Prim.Native.Nat.{ℕ}
-use mathlib.Core.Path.{sym, ap, _∙_}
+use mathlib.Core.Path.{_≡_, sym, ap, _∙_}
 use mathlib.Core.List.{List}
 use native.Mathlib.Omega.{arith}
 use mir.Syntax.{w64}
 use mir.Val.{ofZ}
 use mir.Facts.{toZ-ofZ}
+use borrow.Author.Tests.{not-true, not-false}
+use Rattle.values.specs.Values.{aboveZero}
 use Rattle.engine.proofs.Early.{Passed, passed}
-use Rattle.engine.proofs.Serves.{Asks, early-away, frame-away, frame-asks, from-within, runs-from, front-asks, served-is}
+use Rattle.engine.proofs.Serves.{Asks, early-away, frame-away, frame-asks, from-within, runs-from, clock-away, clock-taken, served-is}
 use borrow.Author.Needs.{needs}
 use Rattle.engine.proofs.serve.Statement.{statement}
 use Rattle.engine.proofs.serve.Tie as tie
@@ -62,7 +64,7 @@ came c = c .before .before
 returns-2 : tie.Need-returns-2
 returns-2 c = let at-frame = c .before in frame-away (allowed (at-frame .before)) (Clock (came at-frame)) (at-frame .read-frame .ensures) (c .if2 .taken)
 
--- ---- the frame was read: the call is answered
+-- ---- the frame was read
 
 abbrev read : tie.Else2 → tie.After-read-frame
 read c = c .before
@@ -73,64 +75,61 @@ asks c = frame-asks (allowed (read c .before)) (Clock (came (read c))) (read c .
 bits-of-requires : tie.Need-bits-of-requires
 bits-of-requires c κs = search needs
 
-sub-run-items : tie.Need-sub-run-items
-sub-run-items c = from-within (asks (c .before))
-
-part-run-items-start : tie.Need-part-run-items-start
-part-run-items-start c = omega (arith, from-within (asks (c .before)))
-
-part-run-items-end : tie.Need-part-run-items-end
-part-run-items-end c = search needs
-
--- ---- the batch is lent its items, the table, the strip and the room behind the front
-
-abbrev answers : tie.After-run-items-arg2 → tie.Else2
-answers c = c .before .before .before
-
-sub-run-items-2 : tie.Need-sub-run-items-2
-sub-run-items-2 c = omega (arith, asks (answers c) .passed .room)
-
-part-run-items-start-2 : tie.Need-part-run-items-start-2
-part-run-items-start-2 c = omega (arith, asks (answers c) .passed .room)
-
-part-run-items-end-2 : tie.Need-part-run-items-end-2
-part-run-items-end-2 c = search needs
-
-run-items-requires : tie.Need-run-items-requires
-run-items-requires c κs = runs-from (asks (answers (c .before)))
-
--- ---- the batch is run
-
-abbrev ran : tie.After-run-items → tie.Else2
-ran c = answers (c .before .before)
-
-write-front-requires : tie.Need-write-front-requires
-write-front-requires c κs =
-    let at-run = c .before .before .before .before .before in
-    let front = front-asks (asks (ran at-run)) (at-run .run-items .ensures) in
-    (omega (arith, asks (ran at-run) .passed .room), front .0, front .1)
-
--- ---- the front is written
-
-abbrev run : tie.After-write-front → tie.After-run-items
-run c = let at-lent = c .before in at-lent .before .before .before .before .before
-
-add-t16 : tie.Need-add-t16
-add-t16 c = let at-done = run (c .before .before) in omega (arith, front-asks (asks (ran at-done)) (at-done .run-items .ensures) .0)
+above-zero-requires : tie.Need-above-zero-requires
+above-zero-requires c κs = search needs
 
 same-length-3 : tie.Need-same-length-3
 same-length-3 c = search needs
 
+-- ---- the clock as its 64 bits, and whether it is from 1 up
+
+abbrev framed : tie.After-above-zero → tie.Else2
+framed c = c .before .before
+
+bits-are : (c : tie.After-above-zero) → c .before .bits-of .result ≡ Clock (came (read (framed c)))
+bits-are c = c .before .bits-of .ensures ∙ ap (ofZ w64) (toZ-ofZ (start (came (read (framed c)) .before) .fits .clock))
+
+tested : (c : tie.After-above-zero) → c .above-zero .result ≡ aboveZero (Clock (came (read (framed c))))
+tested c = c .above-zero .ensures ∙ ap aboveZero (bits-are c)
+
+returns-3 : tie.Need-returns-3
+returns-3 c = let at-clock = c .before in clock-away (asks (framed at-clock)) (sym (tested at-clock) ∙ not-true _ (c .if3 .taken))
+
+-- ---- the call is answered: it is lent its items, the table, the strip and the room
+
+abbrev clocked : tie.Else3 → tie.Else2
+clocked c = framed (c .before)
+
+sub-answer-all : tie.Need-sub-answer-all
+sub-answer-all c = from-within (asks (clocked c))
+
+part-answer-all-start : tie.Need-part-answer-all-start
+part-answer-all-start c = omega (arith, from-within (asks (clocked c)))
+
+part-answer-all-end : tie.Need-part-answer-all-end
+part-answer-all-end c = search needs
+
+abbrev answers : tie.After-answer-all-arg3 → tie.Else3
+answers c = c .before .before .before
+
+answer-all-requires : tie.Need-answer-all-requires
+answer-all-requires c κs = runs-from (asks (clocked (answers c)))
+
+abbrev answered : tie.After-answer-all → tie.Else3
+answered c = answers (c .before)
+
 same-length-4 : tie.Need-same-length-4
 same-length-4 c = search needs
 
-returns-3 : tie.Need-returns-3
-returns-3 c =
-    let at-front = c .before .before in
-    let at-answers = run at-front in
-    let at-asks = ran at-answers in
-    let bits = at-answers .before .before .before .before .bits-of .ensures in
-    served-is (asks at-asks) (at-answers .run-items .ensures) (bits ∙ ap (ofZ w64) (toZ-ofZ (start (came (read at-asks) .before) .fits .clock))) (at-front .write-front .ensures)
+same-length-5 : tie.Need-same-length-5
+same-length-5 c = search needs
+
+returns-4 : tie.Need-returns-4
+returns-4 c =
+    let at-all = c .before .before .before .before in
+    let at-clock = answered at-all .before in
+    let at-asks = asks (framed at-clock) in
+    served-is at-asks (sym (tested at-clock) ∙ not-false _ (answered at-all .if3 .left)) (clock-taken at-asks (bits-are at-clock) (at-all .answer-all .ensures))
 
 pub serve-spec : {M : Type 1} → statement M
 serve-spec =
@@ -143,15 +142,13 @@ serve-spec =
     same-length-2
     returns-2
     bits-of-requires
-    sub-run-items
-    part-run-items-start
-    part-run-items-end
-    sub-run-items-2
-    part-run-items-start-2
-    part-run-items-end-2
-    run-items-requires
-    write-front-requires
-    add-t16
+    above-zero-requires
     same-length-3
+    returns-3
+    sub-answer-all
+    part-answer-all-start
+    part-answer-all-end
+    answer-all-requires
     same-length-4
-    returns-3)
+    same-length-5
+    returns-4)

@@ -11,8 +11,9 @@ use Rattle.ttlv_types.specs.Types.{longInteger}
 use Rattle.ttlv.specs.Tree.{isRun, treeOf}
 use Rattle.fields.specs.declared.NumberField.the-variants.{Number}
 use Rattle.fields.proofs.Runs.{tail}
+use Rattle.values.specs.Values.{aboveZero}
 use Rattle.tags.specs.Tags.{usageLimitsCount}
-use Rattle.payload.specs.Payload.{amountOk, allocationIn, orInvalid}
+use Rattle.payload.specs.Payload.{allocationIn, orInvalid}
 use Rattle.last_field.specs.Last.{onlyNumberAt}
 use Rattle.target_read.specs.Readers.{targetAt}
 use Rattle.target_read.specs.declared.Target.{Target}
@@ -95,7 +96,7 @@ unfolding orInvalid
 returns-2 c =
     let at-number = c .before .before in
     let k = at-number .before .before .before in
-    sym (ap orInvalid (left k ∙ only-stops (T k) (behind k) usageLimitsCount longInteger refl amountOk (asks _) (sym (at-number .only-number .ensures) ∙ c .enum-told2 .given .1)))
+    sym (ap orInvalid (left k ∙ only-stops (T k) (behind k) usageLimitsCount longInteger refl aboveZero (asks _) (sym (at-number .only-number .ensures) ∙ c .enum-told2 .given .1)))
 
 -- ---- the amount is known, and nothing is behind it
 
@@ -105,24 +106,24 @@ at-target c = c .before .before .before .before .before
 asked : (c : tie.After-amount) → onlyNumberAt (T (at-target c)) usageLimitsCount longInteger ≡ Number (c .amount .given .0 .0) (c .amount .given .0 .1 .0)
 asked c = sym (c .before .before .only-number .ensures) ∙ c .amount .given .1
 
-abbrev at-amount : tie.After-amount-ok → tie.After-amount
+abbrev at-amount : tie.After-above-zero → tie.After-amount
 at-amount c = c .before .before
 
-amount-ok-requires : tie.Need-amount-ok-requires
-amount-ok-requires c κs = search needs
+above-zero-requires : tie.Need-above-zero-requires
+above-zero-requires c κs = search needs
 
 returns-3 : tie.Need-returns-3
 unfolding orInvalid
 returns-3 c =
     let a = at-amount (c .before) in
-    sym (ap orInvalid (left (at-target a) ∙ only-bad (T (at-target a)) (behind (at-target a)) usageLimitsCount longInteger refl amountOk (asks _) (asked a) (sym (c .before .amount-ok .ensures) ∙ not-true _ (c .if1 .taken))))
+    sym (ap orInvalid (left (at-target a) ∙ only-bad (T (at-target a)) (behind (at-target a)) usageLimitsCount longInteger refl aboveZero (asks _) (asked a) (sym (c .before .above-zero .ensures) ∙ not-true _ (c .if1 .taken))))
 
 returns-4 : tie.Need-returns-4
 unfolding orInvalid
 returns-4 c =
     let tested = c .before in
     let t = at-target (at-amount tested) in
-    sym (ap orInvalid (left t ∙ only-is (T t) (behind t) usageLimitsCount longInteger refl amountOk (asks _) (asked (at-amount tested)) (sym (tested .amount-ok .ensures) ∙ not-false _ (c .if1 .left))))
+    sym (ap orInvalid (left t ∙ only-is (T t) (behind t) usageLimitsCount longInteger refl aboveZero (asks _) (asked (at-amount tested)) (sym (tested .above-zero .ensures) ∙ not-false _ (c .if1 .left))))
 
 pub read-allocation-spec : {M : Type 1} → statement M
 read-allocation-spec =
@@ -139,6 +140,6 @@ read-allocation-spec =
     enum-known-amount
     enum-told-2
     returns-2
-    amount-ok-requires
+    above-zero-requires
     returns-3
     returns-4)

@@ -1,16 +1,38 @@
 -- `records::load`. The fields, read one by one, are the record at the place.
 -- Assumes nothing.
-use Prim.Native.Nat.{ℕ, _+_}
+use Prim.Native.Nat.{ℕ, _+_, _≤_}
+use native.Mathlib.Omega.{arith}
+use lib.ListN.{length}
+use mir.Syntax.{w64}
+use mir.Val.{Fits}
 use mathlib.Core.Path.{_≡_}
 use mathlib.Core.List.{List}
 use Rattle.octets.specs.Octets.{fromBe, part}
-use Rattle.table.specs.Layout.{lineStart, bodyStart, materialSize, serialIn, stateIn, unitIn, bitsIn, replacedIn, replacementIn, totalIn, countIn, maskIn, materialIn}
+use Rattle.table.specs.Layout.{bodySize, lineStart, bodyStart, materialSize, serialIn, stateIn, unitIn, bitsIn, replacedIn, replacementIn, totalIn, countIn, maskIn, materialIn, activationIn, deactivationIn}
 use Rattle.table.specs.Records.{placeAt}
 use Rattle.table.specs.declared.Record.{Record}
 use Rattle.table.proofs.Places.{place-fields}
 use borrow.Author.Needs.{needs}
 use Rattle.records.proofs.load.Statement.{statement}
 use Rattle.records.proofs.load.Tie as tie
+
+-- the place where the offset of the body is known, from the one where the first date has been read
+abbrev at-body : tie.After-number-at10 → tie.After-body
+at-body c =
+    let at-bits = c .before .before .before .before .before in
+    let at-serial = at-bits .before .before .before .before in
+    at-serial .before .before
+
+-- a whole body lies behind it
+inside : (c : tie.After-body) → c .body .result + bodySize ≤ length (c .before .before .before .args .t .now)
+inside c = omega arith
+
+reach : (c : tie.After-body) → Fits w64 (c .body .result + deactivationIn)
+reach c = omega arith
+
+-- so its last field does
+ends : (b l : ℕ) → b + bodySize ≤ l → b + deactivationIn + 8 ≤ l
+ends b l h = omega arith
 
 line-requires : tie.Need-line-requires
 line-requires c κs = search needs
@@ -99,8 +121,20 @@ add-material-at c = search needs
 material-at-requires : tie.Need-material-at-requires
 material-at-requires c κs = search needs
 
+add-number-at-10 : tie.Need-add-number-at-10
+add-number-at-10 c = search needs
+
+number-at-requires-10 : tie.Need-number-at-requires-10
+number-at-requires-10 c κs = search needs
+
+add-number-at-11 : tie.Need-add-number-at-11
+add-number-at-11 c = reach (at-body c)
+
+number-at-requires-11 : tie.Need-number-at-requires-11
+number-at-requires-11 c κs = (ends _ _ (inside (at-body c)), omega arith)
+
 -- the fields, each read where it stands
-fields-read : (n : ℕ) (t : List ℕ) (i : ℕ) {l b serial state unit bits replaced replacement total count mask : ℕ} {material : List ℕ} → l ≡ lineStart i → b ≡ bodyStart n i
+fields-read : (n : ℕ) (t : List ℕ) (i : ℕ) {l b serial state unit bits replaced replacement total count mask activation deactivation : ℕ} {material : List ℕ} → l ≡ lineStart i → b ≡ bodyStart n i
     → serial ≡ fromBe (part t (l + serialIn) 4)
     → state ≡ fromBe (part t (l + stateIn) 1)
     → unit ≡ fromBe (part t (l + unitIn) 1)
@@ -110,13 +144,16 @@ fields-read : (n : ℕ) (t : List ℕ) (i : ℕ) {l b serial state unit bits rep
     → total ≡ fromBe (part t (b + totalIn) 8)
     → count ≡ fromBe (part t (b + countIn) 8)
     → mask ≡ fromBe (part t (b + maskIn) 4)
+    → activation ≡ fromBe (part t (b + activationIn) 8)
+    → deactivation ≡ fromBe (part t (b + deactivationIn) 8)
     → material ≡ part t (b + materialIn) materialSize
-    → _≡_ {A = Record} (record { serial = serial; state = state; unit = unit; bits = bits; replaced = replaced; replacement = replacement; total = total; count = count; mask = mask; material = material }) (placeAt n t i)
-fields-read n t i hl hb e₁ e₂ e₃ e₄ e₅ e₆ e₇ e₈ e₉ e₁₀ = rw (e₁, e₂, e₃, e₄, e₅, e₆, e₇, e₈, e₉, e₁₀, hl, hb) (place-fields n t i)
+    → _≡_ {A = Record} (record { serial = serial; state = state; unit = unit; bits = bits; replaced = replaced; replacement = replacement; total = total; count = count; mask = mask; material = material; activation = activation; deactivation = deactivation }) (placeAt n t i)
+fields-read n t i hl hb e₁ e₂ e₃ e₄ e₅ e₆ e₇ e₈ e₉ e₁₀ e₁₁ e₁₂ = rw (e₁, e₂, e₃, e₄, e₅, e₆, e₇, e₈, e₉, e₁₀, e₁₁, e₁₂, hl, hb) (place-fields n t i)
 
 returns : tie.Need-returns
 returns c =
-    let at-mask = c .before in
+    let at-material = c .before .before in
+    let at-mask = at-material .before in
     let at-total = at-mask .before .before in
     let at-replaced = at-total .before .before in
     let at-unit = at-replaced .before .before in
@@ -134,7 +171,9 @@ returns c =
     (at-total .number-at7 .ensures .0)
     (at-mask .before .number-at8 .ensures .0)
     (at-mask .number-at9 .ensures .0)
-    (c .material-at .ensures)
+    (c .before .number-at10 .ensures .0)
+    (c .number-at11 .ensures .0)
+    (at-material .material-at .ensures)
 
 pub load-spec : {M : Type 1} → statement M
 load-spec =
@@ -169,4 +208,8 @@ load-spec =
     cast-mask
     add-material-at
     material-at-requires
+    add-number-at-10
+    number-at-requires-10
+    add-number-at-11
+    number-at-requires-11
     returns)

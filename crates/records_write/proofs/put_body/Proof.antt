@@ -1,9 +1,16 @@
--- `records_write::put_body`. The five fields, written one after another, are the body.
+-- `records_write::put_body`. The seven fields, written one after another, are the body.
 -- Assumes nothing.
+use mathlib.Core.Path.{_≡_}
+use lib.ListN.{length}
+use Rattle.table.specs.Layout.{materialSize}
 use Rattle.table.proofs.Lines.{body-chain}
 use borrow.Author.Needs.{needs}
 use Rattle.records_write.proofs.put_body.Statement.{statement}
 use Rattle.records_write.proofs.put_body.Tie as tie
+
+-- the material has as many bytes as its type says
+whole : (s : tie.Start) → length (s .args .t6) ≡ materialSize
+whole s = search needs
 
 add-put : tie.Need-add-put
 add-put c = search needs
@@ -38,23 +45,40 @@ slice-aggregate-put-all c = search needs
 put-all-requires : tie.Need-put-all-requires
 put-all-requires c κs = search needs
 
+add-put-5 : tie.Need-add-put-5
+add-put-5 c = search needs
+
+put-requires-5 : tie.Need-put-requires-5
+put-requires-5 c κs = search needs
+
+add-put-6 : tie.Need-add-put-6
+add-put-6 c = search needs
+
+put-requires-6 : tie.Need-put-requires-6
+put-requires-6 c κs = search needs
+
 same-length : tie.Need-same-length
 same-length c = search needs
 
 returns : tie.Need-returns
 returns c =
-    let at-material = c .before .before in
+    let at-deactivation = c .before .before in
+    let at-activation = at-deactivation .before .before .before .before in
+    let at-material = at-activation .before .before .before .before in
     let at-zeros = at-material .before .before .before .before .before in
     let at-mask = at-zeros .before .before .before .before in
     let at-count = at-mask .before .before .before .before in
     let at-total = at-count .before .before .before .before in
-    let a = at-total .before .before .before .args in
-    body-chain (a .t .now) (a .at) (a .total) (a .count) (a .mask) _
+    let entry = at-total .before .before .before in
+    let a = entry .args in
+    body-chain (a .t .now) (a .at) (a .total) (a .count) (a .mask) _ _ _ (whole entry)
     (at-total .put .ensures)
     (at-count .put2 .ensures)
     (at-mask .put3 .ensures)
     (at-zeros .put4 .ensures)
     (at-material .put-all .ensures)
+    (at-activation .put5 .ensures)
+    (at-deactivation .put6 .ensures)
 
 pub put-body-spec : {M : Type 1} → statement M
 put-body-spec =
@@ -71,5 +95,9 @@ put-body-spec =
     add-put-all
     slice-aggregate-put-all
     put-all-requires
+    add-put-5
+    put-requires-5
+    add-put-6
+    put-requires-6
     same-length
     returns)

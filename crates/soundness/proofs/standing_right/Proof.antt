@@ -22,20 +22,28 @@ material-right-requires c κs = search needs
 names-right-requires : tie.Need-names-right-requires
 names-right-requires c κs = search needs
 
+times-right-requires : tie.Need-times-right-requires
+times-right-requires c κs = search needs
+
+-- ---- where the rules of the record by itself are tested
+
+abbrev entry : tie.After-material-right → tie.Start
+entry c = c .before .before .before .before
+
+abbrev alone : tie.After-times-right → tie.After-material-right
+alone c = c .before .before
+
 end-right-requires : tie.Need-end-right-requires
-end-right-requires c κs = record { sized = c .before .before .before .before .before .pre .reached .place .sized; inLine = lit≤ tt }
+end-right-requires c κs = record { sized = entry (alone c) .pre .reached .place .sized; inLine = lit≤ tt }
 
 end-right-requires-2 : tie.Need-end-right-requires-2
-end-right-requires-2 c κs =
-    let at-names = c .before in
-    record { sized = at-names .before .before .before .before .before .pre .reached .place .sized; inLine = lit≤ tt }
+end-right-requires-2 c κs = record { sized = entry (alone (c .before)) .pre .reached .place .sized; inLine = lit≤ tt }
 
 own-place-requires : tie.Need-own-place-requires
 own-place-requires c κs =
-    let at-names = c .before .before in
-    let entry = at-names .before .before .before .before .before in
-    let a = entry .args in
-    let p = entry .pre in
+    let start = entry (alone (c .before .before)) in
+    let a = start .args in
+    let p = start .pre in
     record {
       place = p .reached .place;
       own = ap (λ (r : Record). r .serial) (p .held) ∙ sym (serial-is (a .n) (a .t .now) (a .i));
@@ -44,16 +52,18 @@ own-place-requires c κs =
 
 returns : tie.Need-returns
 returns c =
-    let at-names = c .before .before .before in
-    let at-zeros = at-names .before .before .before in
-    let entry = at-zeros .before .before in
-    let a = entry .args in
-    standing-parts (a .n) (a .t .now) (a .i) (a .last) (a .p)
-    (entry .pre .reached .issued)
-    (at-zeros .zeros-right .ensures)
-    (at-names .before .before .values-right .ensures)
-    (at-names .before .material-right .ensures)
-    (at-names .names-right .ensures)
+    let at-times = c .before .before .before in
+    let at-material = alone at-times in
+    let start = entry at-material in
+    let a = start .args in
+    standing-parts (a .n) (a .t .now) (a .i) (a .last) (a .latest) (a .p)
+    (start .pre .reached .issued)
+    (start .pre .reached .seen)
+    (at-material .before .before .zeros-right .ensures)
+    (at-material .before .values-right .ensures)
+    (at-material .material-right .ensures)
+    (at-times .before .names-right .ensures)
+    (at-times .times-right .ensures)
     (c .own-place .ensures)
     (c .before .before .end-right .ensures)
     (c .before .end-right2 .ensures)
@@ -66,6 +76,7 @@ standing-right-spec =
     values-right-requires
     material-right-requires
     names-right-requires
+    times-right-requires
     end-right-requires
     end-right-requires-2
     own-place-requires

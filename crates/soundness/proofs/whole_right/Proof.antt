@@ -7,7 +7,8 @@ use lib.Dec.{eqb}
 use borrow.Author.Needs.{needs}
 use borrow.Author.Tests.{eqb-true, not-true, not-false}
 use Rattle.table.specs.Layout.{Table}
-use Rattle.soundness.specs.Sound.{countRight, leadRight}
+use Rattle.values.specs.Values.{notNegative}
+use Rattle.soundness.specs.Sound.{countRight, latestRight}
 use Rattle.octets.proofs.Bools.{and-cong}
 use Rattle.soundness.proofs.Checked.{whole-sized, whole-unsized}
 use Rattle.soundness.proofs.whole_right.Statement.{statement}
@@ -21,36 +22,29 @@ returns c =
     let a = c .before .before .before .args in
     sym (whole-unsized (a .n) (a .t .now) (sym (c .before .size-right .ensures) ∙ not-true _ (c .if1 .taken)))
 
+-- the table has the size of n places from where its lead is read
+sized : (c : tie.Else1) → Table (c .before .before .before .args .n) (c .before .before .before .args .t .now)
+sized c = eqb-true _ _ (sym (c .before .size-right .ensures) ∙ not-false _ (c .if1 .left))
+
 places-said-requires : tie.Need-places-said-requires
-places-said-requires c κs =
-    let a = c .before .before .before .args in
-    let sized : Table (a .n) (a .t .now) = eqb-true _ _ (sym (c .before .size-right .ensures) ∙ not-false _ (c .if1 .left)) in
-    omega arith
+places-said-requires c κs = omega (arith, sized c)
+
+latest-clock-requires : tie.Need-latest-clock-requires
+latest-clock-requires c κs = omega (arith, sized (c .before))
 
 cast-result : tie.Need-cast-result
 cast-result c = search needs
 
-sub-all-zero : tie.Need-sub-all-zero
-sub-all-zero c = search needs
-
-part-all-zero-start : tie.Need-part-all-zero-start
-part-all-zero-start c = search needs
-
-part-all-zero-end : tie.Need-part-all-zero-end
-part-all-zero-end c =
-    let a = c .before .before .before .before .args in
-    let sized : Table (a .n) (a .t .now) = eqb-true _ _ (sym (c .before .before .size-right .ensures) ∙ not-false _ (c .before .if1 .left)) in
-    omega arith
-
-all-zero-requires : tie.Need-all-zero-requires
-all-zero-requires c κs = search needs
+not-negative-requires : tie.Need-not-negative-requires
+not-negative-requires c κs = search needs
 
 returns-2 : tie.Need-returns-2
-unfolding countRight leadRight
+unfolding countRight latestRight
 returns-2 c =
-    let a = c .before .before .before .before .before .before .args in
-    let sized : Table (a .n) (a .t .now) = eqb-true _ _ (sym (c .before .before .before .before .size-right .ensures) ∙ not-false _ (c .before .before .before .if1 .left)) in
-    and-cong (ap (λ (x : ℕ). eqb x (a .n)) (c .before .before .places-said .ensures)) (c .all-zero .ensures) ∙ sym (whole-sized (a .n) (a .t .now) sized)
+    let at-size = c .before .before .before in
+    let a = at-size .before .before .before .args in
+    and-cong (ap (λ (x : ℕ). eqb x (a .n)) (c .before .before .places-said .ensures)) (c .not-negative .ensures ∙ ap notNegative (c .before .latest-clock .ensures))
+    ∙ sym (whole-sized (a .n) (a .t .now) (sized at-size))
 
 pub whole-right-spec : {M : Type 1} → statement M
 whole-right-spec =
@@ -59,9 +53,7 @@ whole-right-spec =
     size-right-requires
     returns
     places-said-requires
+    latest-clock-requires
     cast-result
-    sub-all-zero
-    part-all-zero-start
-    part-all-zero-end
-    all-zero-requires
+    not-negative-requires
     returns-2)

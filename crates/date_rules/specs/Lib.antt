@@ -1,0 +1,3 @@
+-- What dates do to a state.
+-- Assumes nothing.
+pub mod Dates
