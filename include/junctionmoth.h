@@ -13,10 +13,10 @@
 #define JUNCTIONMOTH_PLACES 64
 
 /* Bytes of the stored table. */
-#define JUNCTIONMOTH_TABLE_SIZE 4624
+#define JUNCTIONMOTH_TABLE_SIZE 5648
 
 /* Bytes of output room that no response exceeds; a call with less is refused. */
-#define JUNCTIONMOTH_ROOM_LEAST 4824
+#define JUNCTIONMOTH_ROOM_LEAST 5336
 
 /* Bytes of the fresh strip. */
 #define JUNCTIONMOTH_STRIP_SIZE 512
@@ -35,7 +35,8 @@ enum junctionmoth_refusal {
     JUNCTIONMOTH_REFUSED_FRAME = 6,     /* message frame wrong */
     JUNCTIONMOTH_REFUSED_VERSION = 7,   /* protocol version not 2.1 */
     JUNCTIONMOTH_REFUSED_COUNT = 8,     /* Batch Count not 1 to 16, or not the number of items */
-    JUNCTIONMOTH_REFUSED_OPTION = 9     /* Batch Error Continuation Option neither 1 nor 2 */
+    JUNCTIONMOTH_REFUSED_OPTION = 9,    /* Batch Error Continuation Option neither 1 nor 2 */
+    JUNCTIONMOTH_REFUSED_CLOCK = 10     /* clock below 1 */
 };
 
 /* C99's restrict; C++ has none. */
@@ -49,7 +50,8 @@ enum junctionmoth_refusal {
 extern "C" {
 #endif
 
-/* Makes a blank table: all zero but the place count. A host does this once, when a box is set up. */
+/* Makes a blank table: all zero but the place count, so no clock has been seen. A host does this once,
+ * when a box is set up. */
 static inline void junctionmoth_blank(uint8_t table[JUNCTIONMOTH_TABLE_SIZE])
 {
     size_t i;
@@ -66,12 +68,21 @@ static inline void junctionmoth_blank(uint8_t table[JUNCTIONMOTH_TABLE_SIZE])
  * table, table_len
  *     The stored table, JUNCTIONMOTH_TABLE_SIZE bytes. The host keeps it: whoever loses it loses the
  *     keys, and whoever brings an old one back brings back what was destroyed or granted since.
- *     Nobody else may write to it.
+ *     Nobody else may write to it. A table of 4,624 bytes, without dates, is refused; the program
+ *     widen turns it into one of today's size.
  * strip, strip_len
  *     JUNCTIONMOTH_STRIP_SIZE bytes from a random source, new for every call; they become key
  *     material, so the host wipes them after the call. They are only read.
  * clock
- *     POSIX seconds. Any value is taken and written as the response's Time Stamp.
+ *     POSIX seconds. One below 1 is refused. The table keeps the latest clock that was accepted, and an
+ *     earlier one counts as that. The clock that counts is the response's Time Stamp, starts and stops
+ *     keys by their dates before the first item, is the date that Activate and a Revoke that is no
+ *     compromise set, and is stored with every accepted request, also when every item fails.
+ *     So a clock that is set back wakes no key. But one far ahead, once accepted, stays the latest for
+ *     ever: keys are started and stopped early, and no date up to it can act at its own time any more.
+ *     The engine cannot tell such a clock from a right one. So a host checks its clock against a bound
+ *     of its own before the call, and keeps the table from before the request until it has accepted
+ *     the answer: there is no way back but that table, and none once the answer has been sent.
  * out, out_len
  *     Room for the response, JUNCTIONMOTH_ROOM_LEAST bytes or more. A response to Get holds key bytes:
  *     the host sends it over a channel that keeps them, and wipes out and its own copies afterwards.
@@ -79,9 +90,10 @@ static inline void junctionmoth_blank(uint8_t table[JUNCTIONMOTH_TABLE_SIZE])
  *     Set to the length of the response, or to 0. Never NULL.
  *
  * Returns JUNCTIONMOTH_ANSWERED if the request was answered: the response is the first *response_len
- * bytes of out, the bytes past it are as they were, and the table is changed as the answers say. Store
- * the table before the response is sent. Otherwise returns a refusal: *response_len is 0, and table and
- * out are as they were, byte for byte.
+ * bytes of out, the bytes past it are as they were, and the table is changed as the answers say and by
+ * the clock: the latest clock, and the states that dates change. Store the table before the response
+ * is sent, also when every item failed. Otherwise returns a refusal: *response_len is 0, and table
+ * and out are as they were, byte for byte.
  *
  * Any lengths may be given; each has to be that of its buffer. A buffer of length 0 may be NULL: the
  * call looks at no byte of it. The buffers are lent for the time of the call and must be apart: no two

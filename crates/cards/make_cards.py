@@ -1,8 +1,8 @@
 #!/usr/bin/env python3
 """Writes the bench cards: `stdin`, the script that the program `cards` runs, and `stdout`, what has to come of it.
 
-Both are worked out from the papers alone: TTLV, tags and numbers from KMIP 2.1, rules from the plan ("01"). No engine is asked and none is
-imitated: each card is written down as what is asked together with the answer that the rules give it. Where the papers print bytes, they stand
+Both are worked out from the papers alone: TTLV, tags and numbers from KMIP 2.1, rules from the plan ("01") and from the change requests that
+have landed ("L3" and so on). No engine is asked and none is imitated: each card is written down as what is asked together with the answer that the rules give it. Where the papers print bytes, they stand
 here as printed and the builders below are checked against them.
 """
 
@@ -47,18 +47,24 @@ def date_time(tag, number):
     return ttlv(tag, 0x09, number.to_bytes(8, "big", signed=True))
 
 
+def date_time_extended(tag, number):
+    return ttlv(tag, 0x0B, number.to_bytes(8, "big", signed=True))
+
+
 def interval(tag, number):
     return ttlv(tag, 0x0A, number.to_bytes(4, "big"))
 
 
 # ---- tags (KMIP 2.1, section 11.56)
 
+ACTIVATION_DATE = 0x420001
 BATCH_COUNT = 0x42000D
 BATCH_ERROR_CONTINUATION_OPTION = 0x42000E
 BATCH_ITEM = 0x42000F
 CRYPTOGRAPHIC_ALGORITHM = 0x420028
 CRYPTOGRAPHIC_LENGTH = 0x42002A
 CRYPTOGRAPHIC_USAGE_MASK = 0x42002C
+DEACTIVATION_DATE = 0x42002F
 KEY_BLOCK = 0x420040
 KEY_FORMAT_TYPE = 0x420042
 KEY_MATERIAL = 0x420043
@@ -160,6 +166,14 @@ def limit(total, unit):
     return structure(USAGE_LIMITS, long_integer(USAGE_LIMITS_TOTAL, total), enumeration(USAGE_LIMITS_UNIT, unit))
 
 
+def starts(date):
+    return date_time(ACTIVATION_DATE, date)
+
+
+def ends(date):
+    return date_time(DEACTIVATION_DATE, date)
+
+
 def wanted(*more, algorithm=3, bits=128, mask=4):
     """The Attributes of a Create."""
     return structure(
@@ -214,7 +228,7 @@ def attributes(name=None, *more, id=None):
 # ---- responses
 
 
-def response(*answers, clock=0):
+def response(*answers, clock=1):
     version = structure(PROTOCOL_VERSION, integer(PROTOCOL_VERSION_MAJOR, 2), integer(PROTOCOL_VERSION_MINOR, 1))
     front = structure(RESPONSE_HEADER, version, date_time(TIME_STAMP, clock), integer(BATCH_COUNT, len(answers)))
     return structure(RESPONSE_MESSAGE, front, *answers)
@@ -253,14 +267,18 @@ def link(kind, name):
     return structure(LINK, enumeration(LINK_TYPE, kind), text(LINKED_OBJECT_IDENTIFIER, name))
 
 
-def shown(name, state, bits=128, mask=4, limit=None, replaced=None, replacement=None, id=None):
-    """Success of Get Attributes; limit is total, count and unit."""
+def shown(name, state, bits=128, mask=4, limit=None, replaced=None, replacement=None, activation=0, deactivation=0, id=None):
+    """Success of Get Attributes; limit is total, count and unit, and a date of 0 is not set."""
     fields = [
         enumeration(CRYPTOGRAPHIC_ALGORITHM, 3),
         integer(CRYPTOGRAPHIC_LENGTH, bits),
         integer(CRYPTOGRAPHIC_USAGE_MASK, mask),
         enumeration(STATE, state),
     ]
+    if activation != 0:
+        fields.append(starts(activation))
+    if deactivation != 0:
+        fields.append(ends(deactivation))
     if limit is not None:
         total, count, unit = limit
         amounts = [long_integer(USAGE_LIMITS_TOTAL, total), long_integer(USAGE_LIMITS_COUNT, count)]
@@ -272,10 +290,15 @@ def shown(name, state, bits=128, mask=4, limit=None, replaced=None, replacement=
     return done(GET_ATTRIBUTES, identifier(name), structure(ATTRIBUTES, *fields), id=id)
 
 
-# ---- the stored table: a lead of 16 bytes, 64 lines of 16, 64 bodies of 56
+# ---- the stored table: a lead of 16 bytes, 64 lines of 16, 64 bodies of 72
 
 PLACES = 64
-TABLE_SIZE = 4624
+TABLE_SIZE = 5648
+BODY_SIZE = 72
+MATERIAL_IN = 24
+ACTIVATION_IN = 56
+DEACTIVATION_IN = 64
+LATEST_CLOCK = 8
 
 
 def line_at(place):
@@ -283,11 +306,12 @@ def line_at(place):
 
 
 def body_at(place):
-    return 16 + 16 * PLACES + 56 * place
+    return 16 + 16 * PLACES + BODY_SIZE * place
 
 
-def lead(last):
-    return last.to_bytes(4, "big") + PLACES.to_bytes(4, "big") + bytes(8)
+def lead(last, latest=1):
+    """The latest clock is 1 after a first request that was accepted, and 0 before."""
+    return last.to_bytes(4, "big") + PLACES.to_bytes(4, "big") + latest.to_bytes(8, "big")
 
 
 def line(serial, state, unit=0, bits=128, replaced=0, replacement=0):
@@ -295,9 +319,15 @@ def line(serial, state, unit=0, bits=128, replaced=0, replacement=0):
     return b"".join(number.to_bytes(size, "big") for number, size in numbers)
 
 
-def body(total=0, count=0, mask=4, material=b""):
+def body(total=0, count=0, mask=4, material=b"", activation=0, deactivation=0):
     numbers = [(total, 8), (count, 8), (mask, 4), (0, 4)]
-    return b"".join(number.to_bytes(size, "big") for number, size in numbers) + material.ljust(32, b"\0")
+    front = b"".join(number.to_bytes(size, "big") for number, size in numbers)
+    return front + material.ljust(32, b"\0") + activation.to_bytes(8, "big") + deactivation.to_bytes(8, "big")
+
+
+def numbers(*values):
+    """Numbers of eight bytes, as bodies and the latest clock have them; those from 2^63 on are negative dates."""
+    return b"".join(value.to_bytes(8, "big") for value in values)
 
 
 def fresh(item, size):
@@ -312,10 +342,10 @@ def unhex(printed):
     return bytes.fromhex(printed)
 
 
-# 01, "Bench cards": the whole response to an Activate of "00000001"
+# 01, "Bench cards": the whole response to an Activate of "00000001"; L3 moves it to clock 1, which changes the last byte of its Time Stamp
 PRINTED_ACTIVATED = unhex(
     "42007B01 00000090 42007A01 00000048 42006901 00000020 42006A02 00000004 00000002 00000000 42006B02 00000004 00000001 00000000"
-    "42009209 00000008 00000000 00000000 42000D02 00000004 00000001 00000000 42000F01 00000038 42005C05 00000004 00000012 00000000"
+    "42009209 00000008 00000000 00000001 42000D02 00000004 00000001 00000000 42000F01 00000038 42005C05 00000004 00000012 00000000"
     "42007F05 00000004 00000000 00000000 42007C01 00000010 42009407 00000008 30303030 30303031"
 )
 # worked out beside the papers: a Create of 128 bits with mask 4, its answer on a blank table, and the two answers to a bad Create and an
@@ -328,12 +358,12 @@ PRINTED_CREATE = unhex(
 )
 PRINTED_CREATED = unhex(
     "42007B01 000000A0 42007A01 00000048 42006901 00000020 42006A02 00000004 00000002 00000000 42006B02 00000004 00000001 00000000"
-    "42009209 00000008 00000000 00000000 42000D02 00000004 00000001 00000000 42000F01 00000048 42005C05 00000004 00000001 00000000"
+    "42009209 00000008 00000000 00000001 42000D02 00000004 00000001 00000000 42000F01 00000048 42005C05 00000004 00000001 00000000"
     "42007F05 00000004 00000000 00000000 42007C01 00000020 42005705 00000004 00000002 00000000 42009407 00000008 30303030 30303031"
 )
 PRINTED_BAD_CREATE = unhex(
     "42007B01 000000C0 42007A01 00000048 42006901 00000020 42006A02 00000004 00000002 00000000 42006B02 00000004 00000001 00000000"
-    "42009209 00000008 00000000 00000000 42000D02 00000004 00000002 00000000 42000F01 00000030 42005C05 00000004 00000001 00000000"
+    "42009209 00000008 00000000 00000001 42000D02 00000004 00000002 00000000 42000F01 00000030 42005C05 00000004 00000001 00000000"
     "42007F05 00000004 00000001 00000000 42007E05 00000004 00000007 00000000 42000F01 00000030 42005C05 00000004 00000012 00000000"
     "42007F05 00000004 00000001 00000000 42007E05 00000004 00000037 00000000"
 )
@@ -357,24 +387,29 @@ def check_builders():
     # sizes of answers with an ID of 16 bytes
     id = bytes(16)
     full = shown("00000002", 1, limit=(5, 5, 1), replaced="00000001", replacement="00000003", id=id)
+    dated = shown("00000002", 1, limit=(5, 5, 1), replaced="00000001", replacement="00000003", activation=8, deactivation=9, id=id)
     assert len(failed(CREATE, INVALID_FIELD, id=id)) == 80
     assert len(named(ACTIVATE, "00000001", id=id)) == 88
     assert len(created("00000001", id=id)) == 104
-    assert len(full) == 296 and len(response(*[full] * 16)) == 4824
-    assert len(request(create(limit(1, 1), id=id))) == 72 + 168
+    assert len(full) == 296 and len(dated) == 328 and len(response(*[dated] * 16)) == 5336
+    assert len(request(create(limit(1, 1), id=id))) == 72 + 168 and len(request(create(limit(1, 1), starts(1), ends(1), id=id))) == 72 + 200
     assert handed("00000001", bytes(range(16)))[-len(PRINTED_KEY) :] == PRINTED_KEY
     assert [len(handed("00000001", bytes(size), id=id)) for size in (16, 24, 32)] == [200, 208, 216]
     assert line_at(1) - line_at(0) == 16 and body_at(0) == 1040 and body_at(PLACES) == TABLE_SIZE
-    assert len(lead(0)) == len(line(1, 1)) == 16 and len(body()) == 56
+    assert len(lead(0)) == len(line(1, 1)) == 16 and len(body()) == BODY_SIZE
 
 
 # ---- the script and what comes of it
 
 
+SCRIPT_ROOM = 262144  # a script has to stay below
+
+
 def grouped(octets):
-    """Hex in groups of eight digits."""
+    """Hex in groups of eight digits; more than 256 bytes in one piece, which saves room."""
     digits = octets.hex().upper()
-    return " ".join(digits[at : at + 8] for at in range(0, len(digits), 8))
+    group = 8 if len(octets) <= 256 else len(digits)
+    return " ".join(digits[at : at + group] for at in range(0, len(digits), group))
 
 
 class Script:
@@ -427,15 +462,15 @@ class Script:
         self.say(f"request {name}: {grouped(octets)}")
         self.expect(name, answer)
 
-    def card(self, name, *pairs, option=None, clock=0):
-        """A batch: items asked, each with its answer, or with none where nothing more is answered."""
+    def card(self, name, *pairs, option=None, clock=1):
+        """A batch: items asked, each with its answer, or with none where nothing more is answered; and the clock that counts."""
         answers = [answer for _, answer in pairs if answer is not None]
         asked = request(*[item for item, _ in pairs], option=option)
         self.answered(name, asked, response(*answers, clock=clock))
 
-    def fails(self, name, item, operation, reason):
+    def fails(self, name, item, operation, reason, clock=1):
         """A batch of one item, which fails."""
-        self.card(name, (item, failed(operation, reason)))
+        self.card(name, (item, failed(operation, reason)), clock=clock)
 
     def key(self, place, line, body):
         self.put(line_at(place), line)
@@ -481,11 +516,11 @@ def cards_of_grants(s):
     s.about("01: an Active key, total 100, is granted 60 and 40, then 1.")
     active_key_of_100(s, "01 total 100")
     s.card("01 total 100, grant 60", (allocate(ONE, 60), named(ALLOCATE, ONE)))
-    s.table("01 count after 60", body_at(0), body(100, 40, 4, fresh(0, 16)))
+    s.table("01 count after 60", body_at(0), body(100, 40, 4, fresh(0, 16), activation=1))
     s.card("01 total 100, grant 40", (allocate(ONE, 40), named(ALLOCATE, ONE)))
-    s.table("01 count after 60 and 40", body_at(0), body(100, 0, 4, fresh(0, 16)))
+    s.table("01 count after 60 and 40", body_at(0), body(100, 0, 4, fresh(0, 16), activation=1))
     s.fails("01 total 100, grant 1", allocate(ONE, 1), ALLOCATE, USAGE_LIMIT_EXCEEDED)
-    s.table("01 count after 60, 40 and 1", body_at(0), body(100, 0, 4, fresh(0, 16)))
+    s.table("01 count after 60, 40 and 1", body_at(0), body(100, 0, 4, fresh(0, 16), activation=1))
     s.about("The same in one batch.")
     s.blank()
     s.card(
@@ -499,7 +534,7 @@ def cards_of_grants(s):
     s.about("01: 101 first gives the same reason, and the count stays 100.")
     active_key_of_100(s, "01 101 first")
     s.fails("01 101 first, grant 101", allocate(ONE, 101), ALLOCATE, USAGE_LIMIT_EXCEEDED)
-    s.table("01 count after 101", body_at(0), body(100, 100, 4, fresh(0, 16)))
+    s.table("01 count after 101", body_at(0), body(100, 100, 4, fresh(0, 16), activation=1))
 
 
 def cards_of_the_end(s):
@@ -511,7 +546,7 @@ def cards_of_the_end(s):
     s.table("01 line after Revoke code 5", line_at(0), line(1, 3, 2))
     s.card("01 Destroy after Revoke", (destroy(ONE), named(DESTROY, ONE)))
     s.table("01 line after Destroy, state 5", line_at(0), line(1, 5, 2))
-    s.table("01 body after Destroy, no key byte", body_at(0), body(100, 100, 4))
+    s.table("01 body after Destroy, no key byte", body_at(0), body(100, 100, 4, activation=1, deactivation=1))
     s.card("01 Revoke code 2 after Destroy", (revoke(ONE, 2), named(REVOKE, ONE)))
     s.table("01 line after Revoke code 2, state 6", line_at(0), line(1, 6, 2))
 
@@ -536,17 +571,17 @@ def cards_of_bad_create(s):
 
 
 def cards_of_room_and_batch(s):
-    s.about("01: output 4,823 is refusal 1.")
+    s.about("01 with L3's bound: output 5,335 is refusal 1.")
     s.blank()
-    s.say("room 4823")
-    s.refused("01 output 4823", PRINTED_CREATE, 1)
-    s.table("01 lead after output 4823", 0, lead(0))
-    s.say("room 4824")
-    s.answered("01 output 4824", PRINTED_CREATE, PRINTED_CREATED)
+    s.say("room 5335")
+    s.refused("01 output 5335", PRINTED_CREATE, 1)
+    s.table("01 lead after output 5335", 0, lead(0, latest=0))
+    s.say("room 5336")
+    s.answered("01 output 5336", PRINTED_CREATE, PRINTED_CREATED)
     s.about("01: a batch of 16 runs, one of 17 is refusal 8.")
     s.blank()
     s.refused("01 batch of 17", request(*[create()] * 17), 8)
-    s.table("01 lead after a batch of 17", 0, lead(0))
+    s.table("01 lead after a batch of 17", 0, lead(0, latest=0))
     s.card("01 batch of 16", *[(create(), created(f"{serial:08X}")) for serial in range(1, 17)])
     s.table("01 lead after a batch of 16", 0, lead(16))
     s.table("01 body of place 15, from the end of the strip", body_at(15), body(0, 0, 4, fresh(15, 16)))
@@ -602,7 +637,7 @@ def cards_of_the_last_serial(s):
 
 
 def cards_of_152_bytes(s):
-    s.about('01: Activate of the Pre-Active "00000001", alone, no Unique Batch Item ID, clock 0: the whole response of 152 bytes as 01 prints it.')
+    s.about('01: Activate of the Pre-Active "00000001", alone, no Unique Batch Item ID: the whole response of 152 bytes as 01 prints it, at clock 1.')
     s.blank()
     s.put(0, lead(1)[:4])
     s.key(0, line(1, 1), body(0, 0, 4, fresh(0, 16)))
@@ -682,6 +717,12 @@ def six_states(s):
     s.put(body_at(0), b"".join(stored(state) for state in range(1, 7)))
 
 
+def six_states_again(s):
+    """The same after Revokes, which change no more of them than this."""
+    s.put(line_at(0), b"".join(line(state, state, 2) for state in range(1, 7)))
+    s.put(body_at(1) + DEACTIVATION_IN, bytes(8))
+
+
 def material(state):
     return bytes([0xA0 + state] * 16) if state < 5 else b""
 
@@ -690,13 +731,13 @@ def stored(state):
     return body(100, 50, 4, material(state))
 
 
-def on_six(s, name, operation, ask_of, results):
+def on_six(s, name, operation, ask_of, results, lay_out=six_states):
     """An operation on the six keys, one after the other, under Continue: an answer's identifier, or the reason of a failure."""
     pairs = []
     for serial, result in zip(range(1, 7), results):
         answer = named(operation, result) if isinstance(result, str) else failed(operation, result)
         pairs.append((ask_of(f"{serial:08X}"), answer))
-    six_states(s)
+    lay_out(s)
     s.card(name, *pairs, option=CONTINUE)
 
 
@@ -725,10 +766,12 @@ def cards_of_revoke(s):
     for code in range(1, 8):
         compromise = code in (2, 3)
         results = [ONE, TWO, THREE, WRONG, FIVE, WRONG] if compromise else [WRONG, TWO, WRONG, WRONG, WRONG, WRONG]
-        on_six(s, f"Revoke code {code} on states 1 to 6", REVOKE, lambda name: revoke(name, code), results)
+        lay_out = six_states if code == 1 else six_states_again
+        on_six(s, f"Revoke code {code} on states 1 to 6", REVOKE, lambda name: revoke(name, code), results, lay_out)
         after = (4, 4, 4, 4, 6, 6) if compromise else (1, 3, 3, 4, 5, 6)
         s.table(f"lines after Revoke code {code} on states 1 to 6", line_at(0), lines_of(*after))
-    s.table("bodies after Revoke, as they were", body_at(0), b"".join(stored(state) for state in range(1, 7)))
+        dated = body(100, 50, 4, material(2), deactivation=0 if compromise else 1)
+        s.table(f"bodies after Revoke code {code} on states 1 to 3", body_at(0), stored(1) + dated + stored(3))
     s.about("Revoke: Object Not Found and Invalid Field.")
     s.fails("Revoke of no key", revoke("00000007", 1), REVOKE, OBJECT_NOT_FOUND)
     s.fails("Revoke without identifier", revoke(None, 1), REVOKE, OBJECT_NOT_FOUND)
@@ -813,7 +856,7 @@ def cards_of_rekey(s):
     s.fails("Re-key of a destroyed key with a replacement", rekey(FIVE), REKEY, OBJECT_DESTROYED)
     s.fails("Re-key of a key with a replacement", rekey(ONE), REKEY, PERMISSION_DENIED)
     s.put(line_at(6), bytes(16))
-    s.put(body_at(6), bytes(56))
+    s.put(body_at(6), bytes(BODY_SIZE))
     s.fails("Re-key of a key whose replacement is gone", rekey(ONE), REKEY, PERMISSION_DENIED)
     s.fails("Re-key of no key", rekey("0000000B"), REKEY, OBJECT_NOT_FOUND)
     s.fails("Re-key without identifier", rekey(), REKEY, OBJECT_NOT_FOUND)
@@ -868,12 +911,13 @@ def cards_of_attributes(s):
     s.card("Get Attributes, limit, both links, ID of 16 bytes", (attributes(TWO, id=id), full))
     dangling = shown("00000007", 6, 128, 0, replaced=FIVE, replacement="00000008")
     s.card("Get Attributes, destroyed, both links gone", (attributes("00000007"), dangling))
-    s.about("The longest response: sixteen such items, 4,824 bytes.")
+    s.about("L3: the longest response: sixteen such items, each with both dates: 328 bytes an item, 5,336 in all.")
+    s.put(body_at(1) + ACTIVATION_IN, numbers(1, 2**63 - 1))
     ids = [bytes(range(16 * n, 16 * n + 16)) for n in range(16)]
-    pairs = [(attributes(TWO, id=id), shown(TWO, 2, 192, 12, (1000, 999, 1), ONE, FOUR, id=id)) for id in ids]
-    assert len(response(*[answer for _, answer in pairs])) == 4824
-    s.card("response of 4824 bytes", *pairs, option=STOP)
-    s.output("output past the 4824 bytes as it was", 4824, b"\xFF" * 8)
+    pairs = [(attributes(TWO, id=id), shown(TWO, 2, 192, 12, (1000, 999, 1), ONE, FOUR, 1, 2**63 - 1, id=id)) for id in ids]
+    assert len(pairs[0][1]) == 328 and len(response(*[answer for _, answer in pairs])) == 5336
+    s.card("response of 5336 bytes", *pairs, option=STOP)
+    s.output("output past the 5336 bytes as it was", 5336, b"\xFF" * 8)
 
 
 def cards_of_get(s):
@@ -1028,10 +1072,10 @@ def cards_of_the_placeholder(s):
         (create(limit(10, 1)), created(ONE)),
         (activate(), named(ACTIVATE, ONE)),
         (allocate(None, 10), named(ALLOCATE, ONE)),
-        (attributes(), shown(ONE, 2, limit=(10, 0, 1))),
+        (attributes(), shown(ONE, 2, limit=(10, 0, 1), activation=1)),
         (revoke(None, 1), named(REVOKE, ONE)),
         (destroy(), named(DESTROY, ONE)),
-        (attributes(), shown(ONE, 5, limit=(10, 0, 1))),
+        (attributes(), shown(ONE, 5, limit=(10, 0, 1), activation=1, deactivation=1)),
     )
     s.card(
         "placeholder of Re-key",
@@ -1094,20 +1138,279 @@ def cards_of_batches(s):
         "IDs that repeat, in a batch with and without",
         (activate(ONE, id=b"\0"), named(ACTIVATE, ONE, id=b"\0")),
         (activate(ONE, id=b"\0"), failed(ACTIVATE, WRONG_STATE, id=b"\0")),
-        (attributes(ONE), shown(ONE, 2)),
+        (attributes(ONE), shown(ONE, 2, activation=1)),
         (ask(0x3B, id=b"last"), failed(0x3B, NOT_SUPPORTED, id=b"last")),
         option=CONTINUE,
     )
 
 
+# ---- L3: the clock, and dates that act
+
+
 def cards_of_clocks(s):
-    s.about("Any clock is taken, and is the Time Stamp of the response.")
-    s.blank()
-    for clock in (-1, -(2**63), 2**63 - 1, 1, 1205495800):
+    s.about("L3: a clock given below 1 is refusal 10, whatever the latest seen; any other is taken, is the Time Stamp and is stored.")
+    key_to_activate(s)
+    asked = request(activate(ONE))
+    for clock in (0, -1, -(2**63)):
         s.say(f"clock {clock}")
-        s.card(f"clock {clock}", (attributes(), failed(GET_ATTRIBUTES, OBJECT_NOT_FOUND)), clock=clock)
-    stamped = response(failed(GET_ATTRIBUTES, OBJECT_NOT_FOUND), clock=-(2**63))
-    assert stamped[56:72] == unhex("42009209 00000008 80000000 00000000")
+        s.refused(f"refusal 10, clock {clock}", asked, 10)
+    s.table("lead and line after refusal 10", 0, lead(1, latest=0) + line(1, 1))
+    for clock in (1, 1205495800, 2**63 - 1):
+        s.say(f"clock {clock}")
+        s.fails(f"clock {clock}", attributes(), GET_ATTRIBUTES, OBJECT_NOT_FOUND, clock=clock)
+        s.table(f"lead after clock {clock}", 0, lead(1, latest=clock))
+    stamped = response(failed(GET_ATTRIBUTES, OBJECT_NOT_FOUND), clock=2**63 - 1)
+    assert stamped[56:72] == unhex("42009209 00000008 7FFFFFFF FFFFFFFF")
+    s.say("clock 0")
+    s.refused("refusal 10, clock 0 after clock 2^63 - 1", asked, 10)
+
+
+def dated(state, activation=0, deactivation=0):
+    """The body of a key that was in this state when it was laid out; of a total of 100 there are 50 left."""
+    return body(100, 50, 4, material(state), activation, deactivation)
+
+
+def dated_keys(s, latest, *keys):
+    """Keys with serials from 1 on, each given by its state and its dates, and the latest clock seen."""
+    s.blank()
+    s.put(0, lead(len(keys), latest))
+    s.put(line_at(0), b"".join(line(serial, key[0], 2) for serial, key in enumerate(keys, 1)))
+    s.put(body_at(0), b"".join(dated(*key) for key in keys))
+
+
+def in_states(*states):
+    """The lines of such keys in these states."""
+    return b"".join(line(serial, state, 2) for serial, state in enumerate(states, 1))
+
+
+def cards_of_a_clock_that_goes_back(s):
+    s.about("L3: a clock earlier than the latest seen counts as the latest: in the Time Stamp, in dates that are set, in what is due and what is late.")
+    keys = [(1,), (2,), (1, 70), (1, 0, 70), (2, 0, 70)]
+    dated_keys(s, 100, *keys)
+    s.say("clock 0")
+    s.refused("refusal 10, clock 0 after 100", request(attributes(), option=STOP), 10)
+    s.table("lead and lines after clock 0", 0, lead(5, latest=100) + in_states(1, 2, 1, 1, 2))
+    s.say("clock 40")
+    s.card(
+        "clock 40 after 100",
+        (activate(ONE), named(ACTIVATE, ONE)),
+        (revoke(TWO, 1), named(REVOKE, TWO)),
+        (attributes(THREE), shown(THREE, 2, limit=(100, 50, 2), activation=70)),
+        (activate(FOUR), failed(ACTIVATE, WRONG)),
+        clock=100,
+    )
+    s.table("lead and lines after clock 40", 0, lead(5, latest=100) + in_states(2, 3, 2, 1, 3))
+    s.table("bodies after clock 40", body_at(0), dated(1, 100) + dated(2, 0, 100) + b"".join(dated(*key) for key in keys[2:]))
+
+
+def cards_of_clocks_at_their_edges(s):
+    s.about("L3: clocks one before, at and one after the latest seen, which is 100; a key starts at 101.")
+    dated_keys(s, 100, (1, 101))
+    for clock, counts, state in [(99, 100, 1), (100, 100, 1), (101, 101, 2)]:
+        s.say(f"clock {clock}")
+        s.fails(f"latest 100, clock {clock}", attributes(), GET_ATTRIBUTES, OBJECT_NOT_FOUND, clock=counts)
+        s.table(f"lead and line at latest 100, clock {clock}", 0, lead(1, latest=counts) + in_states(state))
+    s.about("The first clock that is taken, on a table that has seen none; dates of 1 and 2.")
+    dated_keys(s, 0, (1, 1), (1, 2), (2, 0, 1), (1, 1, 1))
+    s.say("clock 1")
+    s.fails("dates at clock 1", attributes(), GET_ATTRIBUTES, OBJECT_NOT_FOUND)
+    s.table("lead and lines at clock 1", 0, lead(4) + in_states(2, 1, 3, 3))
+    s.about("The last one, 2^63 - 1, which stays the latest for ever; dates of 2^63 - 2 and 2^63 - 1.")
+    most = 2**63 - 1
+    dated_keys(s, 50, (1, most), (1, most - 1), (2, 50, most), (1, 0, most))
+    s.say(f"clock {most - 1}")
+    s.fails("dates at clock 2^63 - 2", attributes(), GET_ATTRIBUTES, OBJECT_NOT_FOUND, clock=most - 1)
+    s.table("lead and lines at clock 2^63 - 2", 0, lead(4, latest=most - 1) + in_states(1, 2, 2, 1))
+    s.say(f"clock {most}")
+    s.fails("Activate at clock 2^63 - 1", activate(FOUR), ACTIVATE, WRONG, clock=most)
+    s.table("lead and lines at clock 2^63 - 1", 0, lead(4, latest=most) + in_states(2, 2, 3, 1))
+    s.say("clock 1")
+    s.card("clock 1 after 2^63 - 1", (attributes(THREE), shown(THREE, 3, limit=(100, 50, 2), activation=50, deactivation=most)), clock=most)
+    s.table("lead after clock 1 after 2^63 - 1", 0, lead(4, latest=most))
+
+
+def cards_of_clocks_that_are_not_stored(s):
+    s.about("L3: a refused request stores no clock and makes no due change; an accepted one of which every item fails does both.")
+    dated_keys(s, 100, (1, 500), (2, 50, 500))
+    s.say("clock 500")
+    s.refused("refusal 9 at clock 500", request(attributes(), option=3), 9)
+    s.table("lead and lines after refusal 9 at clock 500", 0, lead(2, latest=100) + in_states(1, 2))
+    failures = [(attributes(), failed(GET_ATTRIBUTES, OBJECT_NOT_FOUND)), (create(bits=129), failed(CREATE, INVALID_FIELD))]
+    s.card("every item fails at clock 500", *failures, option=CONTINUE, clock=500)
+    s.table("lead and lines after every item failed", 0, lead(2, latest=500) + in_states(2, 3))
+
+
+def cards_of_create_with_dates(s):
+    s.about("L3: Create takes both dates as optional last attributes, from 1 up. It starts Pre-Active, also where a date has come.")
+    s.blank()
+    most = 2**63 - 1
+    s.card("Create with a limit and both dates", (create(limit(9, 1), starts(3), ends(4)), created(ONE)))
+    given = [(5, 0), (0, 5), (5, 6), (7, 7), (most, most), (1, 1)]
+    for serial, (activation, deactivation) in enumerate(given, 2):
+        more = ([starts(activation)] if activation else []) + ([ends(deactivation)] if deactivation else [])
+        s.card(f"Create with dates {activation} and {deactivation}", (create(*more), created(f"{serial:08X}")))
+    s.table("lines after Create with dates", line_at(0), line(1, 1, 1) + b"".join(line(serial, 1) for serial in range(2, 8)))
+    bodies = b"".join(body(0, 0, 4, fresh(0, 16), *dates) for dates in given)
+    s.table("bodies after Create with dates", body_at(0), body(9, 9, 4, fresh(0, 16), 3, 4) + bodies)
+
+
+def cards_of_create_with_wrong_dates(s):
+    s.about("L3: Create, Invalid Field: dates below 1, and deactivation before activation.")
+    s.blank()
+    refused = failed(CREATE, INVALID_FIELD)
+    dates = [[starts(0)], [starts(-1)], [starts(-(2**63)), ends(9)], [starts(9), ends(0)], [ends(0)], [ends(-1)], [starts(9), ends(8)]]
+    s.card("Create with dates that are not allowed", *[(create(*more), refused) for more in dates], option=CONTINUE)
+    s.about("The same for what is no Date-Time, given twice, in another order, before the limit or the mask, or followed by something.")
+    aes, bits, mask = enumeration(CRYPTOGRAPHIC_ALGORITHM, 3), integer(CRYPTOGRAPHIC_LENGTH, 128), integer(CRYPTOGRAPHIC_USAGE_MASK, 4)
+    shapes = [
+        wanted(long_integer(ACTIVATION_DATE, 9)),
+        wanted(date_time_extended(ACTIVATION_DATE, 9)),
+        wanted(interval(DEACTIVATION_DATE, 9)),
+        wanted(starts(9), starts(9)),
+        wanted(ends(9), ends(9)),
+        wanted(ends(9), starts(9)),
+        wanted(starts(9), ends(9), limit(9, 1)),
+        structure(ATTRIBUTES, aes, bits, starts(9), mask),
+        wanted(starts(9), ends(9), integer(OTHER, 1)),
+    ]
+    s.card("Create with dates of wrong shape", *[(ask(CREATE, symmetric_key(), shape), refused) for shape in shapes], option=CONTINUE)
+    s.table("lead after Creates with wrong dates", 0, lead(0))
+    full_table(s)
+    s.fails("64 live keys, Create with activation 0", create(starts(0)), CREATE, INVALID_FIELD)
+
+
+def cards_of_due_changes(s):
+    s.about(
+        "L3: before the first item every Pre-Active key whose set activation date is at or before the clock becomes Active, and then every Active key",
+        "whose set deactivation date is at or before it Deactivated; other states stay. The clock is 100, and the only item fails.",
+    )
+    keys = [(1, 99), (1, 100), (1, 101), (1,), (1, 0, 99), (1, 100, 101), (1, 100, 100), (1, 1, 2)]
+    after = [2, 2, 1, 1, 1, 2, 3, 3]
+    keys += [(2, 0, 99), (2, 50, 100), (2, 50, 101), (2, 50), (3, 50, 60), (4, 50, 60), (4, 200), (5, 50, 60), (6, 50, 60)]
+    after += [3, 3, 2, 2, 3, 4, 4, 5, 6]
+    dated_keys(s, 50, *keys)
+    s.say("clock 100")
+    s.fails("due changes at clock 100", attributes(), GET_ATTRIBUTES, OBJECT_NOT_FOUND, clock=100)
+    s.table("lead and lines after the due changes", 0, lead(17, latest=100) + in_states(*after))
+    s.table("bodies after the due changes, as they were", body_at(0), b"".join(dated(*key) for key in keys))
+
+
+def cards_of_due_changes_everywhere(s):
+    s.about("L3: due changes at the first and the last place of a full table, and what the items of the same request find.")
+    full_table(s)
+    s.put(line_at(0) + 4, b"\1")
+    s.put(body_at(0) + ACTIVATION_IN, numbers(7))
+    s.put(body_at(63) + DEACTIVATION_IN, numbers(7))
+    s.say("clock 6")
+    s.fails("clock 6, one before the dates", destroy("00000040"), DESTROY, WRONG, clock=6)
+    s.table("line of place 0 at clock 6", line_at(0), line(1, 1))
+    s.say("clock 7")
+    s.card(
+        "clock 7, the dates have come",
+        (destroy(ONE), failed(DESTROY, WRONG)),
+        (destroy("00000040"), named(DESTROY, "00000040")),
+        option=CONTINUE,
+        clock=7,
+    )
+    s.table("lines of places 0 and 1 at clock 7", line_at(0), line(1, 2) + line(2, 2))
+    s.table("lines of places 62 and 63 at clock 7", line_at(62), line(63, 2) + line(64, 5))
+
+
+def cards_of_dates_in_one_batch(s):
+    s.about("L3: a date that has come acts at the next accepted request, and not in the batch of its Create; but an Activate there is late already.")
+    s.blank()
+    s.say("clock 10")
+    s.card(
+        "Create with dates that have come, in one batch",
+        (create(limit(100, 2), starts(10)), created(ONE)),
+        (allocate(None, 1), failed(ALLOCATE, WRONG)),
+        (create(limit(100, 2), starts(9), ends(10)), created(TWO)),
+        (activate(), failed(ACTIVATE, WRONG)),
+        (create(starts(9)), created(THREE)),
+        (activate(), named(ACTIVATE, THREE)),
+        option=CONTINUE,
+        clock=10,
+    )
+    s.table("lines after that batch", line_at(0), line(1, 1, 2) + line(2, 1, 2) + line(3, 2))
+    s.table("body of the key that was activated over its date", body_at(2), body(0, 0, 4, fresh(4, 16), 10))
+    s.card(
+        "the request after that batch",
+        (allocate(ONE, 1), named(ALLOCATE, ONE)),
+        (attributes(TWO), shown(TWO, 3, limit=(100, 100, 2), activation=9, deactivation=10)),
+        (allocate(TWO, 1), failed(ALLOCATE, WRONG)),
+        clock=10,
+    )
+    s.table("lines after the request after that batch", line_at(0), line(1, 2, 2) + line(2, 3, 2) + line(3, 2))
+
+
+def cards_of_activate_with_dates(s):
+    s.about("L3: Activate sets its date to the clock, over one that was set; with a deactivation date at or before the clock it fails.")
+    dated_keys(s, 50, (1, 0, 99), (1, 0, 100), (1, 0, 101), (1, 200), (1, 200, 300), (1,))
+    s.say("clock 100")
+    for name in (ONE, TWO):
+        s.fails(f"Activate past the deactivation date, {name}", activate(name), ACTIVATE, WRONG, clock=100)
+    for name in (THREE, FOUR, FIVE, SIX):
+        s.card(f"Activate with dates, {name}", (activate(name), named(ACTIVATE, name)), clock=100)
+    s.table("lines after Activate with dates", line_at(0), in_states(1, 1, 2, 2, 2, 2))
+    bodies = dated(1, 0, 99) + dated(1, 0, 100) + dated(1, 100, 101) + dated(1, 100) + dated(1, 100, 300) + dated(1, 100)
+    s.table("bodies after Activate with dates", body_at(0), bodies)
+
+
+def cards_of_revoke_with_dates(s):
+    s.about("L3: a Revoke that is no compromise sets its date to the clock, over one to come; a key that its date has stopped is not stopped again.")
+    dated_keys(s, 50, (2, 50), (2, 50, 200), (2,), (2, 50, 60), (1, 100))
+    s.say("clock 100")
+    for name, code in [(ONE, 1), (TWO, 5), (THREE, 7), (FIVE, 5)]:
+        s.card(f"Revoke with dates, {name}", (revoke(name, code), named(REVOKE, name)), clock=100)
+    s.fails("Revoke of a key that its date has stopped", revoke(FOUR, 5), REVOKE, WRONG, clock=100)
+    s.table("lines after Revoke with dates", line_at(0), in_states(3, 3, 3, 3, 3))
+    s.table("bodies after Revoke with dates", body_at(0), dated(2, 50, 100) * 2 + dated(2, 0, 100) + dated(2, 50, 60) + dated(1, 100, 100))
+
+
+def cards_of_dates_kept(s):
+    s.about("L3: compromise, Destroy and Get Usage Allocation leave the dates.")
+    dated_keys(s, 50, (2, 50, 200), (1, 200, 300), (3, 40, 50), (4, 200, 300), (2, 50, 200))
+    s.say("clock 100")
+    s.card(
+        "dates that are kept",
+        (revoke(ONE, 2), named(REVOKE, ONE)),
+        (revoke(TWO, 3), named(REVOKE, TWO)),
+        (destroy(THREE), named(DESTROY, THREE)),
+        (destroy(FOUR), named(DESTROY, FOUR)),
+        (allocate(FIVE, 50), named(ALLOCATE, FIVE)),
+        clock=100,
+    )
+    s.table("lines after dates were kept", line_at(0), in_states(4, 4, 5, 6, 2))
+    gone = body(100, 50, 4, b"", 40, 50) + body(100, 50, 4, b"", 200, 300)
+    s.table("bodies after dates were kept", body_at(0), dated(2, 50, 200) + dated(1, 200, 300) + gone + body(100, 0, 4, material(2), 50, 200))
+
+
+def cards_of_rekey_with_dates(s):
+    s.about("L3: Re-key copies the dates; the new key starts Pre-Active, and they act at the next request. With a past deactivation date alone it never starts.")
+    keys = [(4, 200), (2, 50, 200), (3, 40, 60), (3, 0, 60)]
+    dated_keys(s, 50, *keys)
+    s.say("clock 100")
+    s.card("Re-key with a date to come", (rekey(ONE), named(REKEY, FIVE)), clock=100)
+    s.card("Re-key with dates", *[(rekey(f"{n:08X}"), named(REKEY, f"{n + 4:08X}")) for n in (2, 3, 4)], clock=100)
+    s.table("lines after Re-key with dates", line_at(4), b"".join(line(n + 4, 1, 2, replaced=n) for n in range(1, 5)))
+    copies = b"".join(body(100, 100, 4, fresh(item, 16), *key[1:]) for item, key in zip((0, 0, 1, 2), keys))
+    s.table("bodies after Re-key with dates", body_at(0), b"".join(dated(*key) for key in keys) + copies)
+    s.fails("Activate of a new key with a past deactivation date alone", activate("00000008"), ACTIVATE, WRONG, clock=100)
+    states = zip(range(1, 5), (1, 2, 3, 1))
+    s.table("lines at the request after Re-key", line_at(4), b"".join(line(n + 4, state, 2, replaced=n) for n, state in states))
+
+
+def cards_of_attributes_with_dates(s):
+    s.about("L3: Get Attributes shows the dates that are set, after State, in every state.")
+    keys = [(1,), (1, 200), (1, 0, 200), (2, 50, 200), (5, 50, 60)]
+    dated_keys(s, 50, *keys)
+    s.say("clock 100")
+    pairs = []
+    for serial, (state, *dates) in enumerate(keys, 1):
+        activation, deactivation = (dates + [0, 0])[:2]
+        name = f"{serial:08X}"
+        pairs.append((attributes(name), shown(name, state, limit=(100, 50, 2), activation=activation, deactivation=deactivation)))
+    s.card("Get Attributes with dates", *pairs, clock=100)
 
 
 # ---- refusals
@@ -1121,25 +1424,26 @@ def key_to_activate(s):
 
 
 def cards_of_refusals_1_to_4(s):
-    s.about("Refusals 1 and 2: output room below 4,824 bytes; strip not 512 bytes. The table shows that nothing was carried out.")
+    s.about("Refusals 1 and 2: output room below 5,336 bytes; strip not 512 bytes. The table shows that nothing was carried out.")
     key_to_activate(s)
     good = request(activate(ONE))
     s.say("room 0")
     s.refused("refusal 1, no room", good, 1)
-    s.say("room 4823")
-    s.refused("refusal 1, room 4823", good, 1)
+    for room in (4824, 5335):
+        s.say(f"room {room}")
+        s.refused(f"refusal 1, room {room}", good, 1)
     s.table("line after refusal 1", line_at(0), line(1, 1))
-    s.say("room 4824")
+    s.say("room 5336")
     for length in (0, 511, 513, 1024):
         s.say(f"strip {length}")
         s.refused(f"refusal 2, strip of {length}", good, 2)
     s.table("line after refusal 2", line_at(0), line(1, 1))
     s.say("strip 512")
-    s.about("Refusal 3: the table's size.")
-    for length in (0, 15, 4623):
+    s.about("Refusal 3: the table's size. That of 01, 4,624 bytes, is none any more.")
+    for length in (0, 15, 4624, 5647):
         s.say(f"size {length}")
         s.refused(f"refusal 3, table of {length} bytes", good, 3)
-    s.say("size 4624")
+    s.say("size 5648")
     s.table("line after refusal 3", line_at(0), line(1, 1))
     s.about("Refusal 4: request empty, or above 4,096 bytes; one of 4,096 is read.")
     s.refused("refusal 4, empty request", b"", 4)
@@ -1149,10 +1453,27 @@ def cards_of_refusals_1_to_4(s):
     s.refused("refusal 4, request of 4097 bytes", request(long) + b"\0", 4)
     s.table("line after refusal 4", line_at(0), line(1, 1))
     s.about("The whole table after these refusals; then the room may be larger than it must.")
-    whole = lead(1) + line(1, 1).ljust(16 * PLACES, b"\0") + body(0, 0, 4, fresh(0, 16)).ljust(56 * PLACES, b"\0")
+    whole = lead(1) + line(1, 1).ljust(16 * PLACES, b"\0") + body(0, 0, 4, fresh(0, 16)).ljust(BODY_SIZE * PLACES, b"\0")
     s.table("whole table after refusals 1 to 4", 0, whole)
     s.say("room 8192")
     s.card("room 8192", (activate(ONE), named(ACTIVATE, ONE)))
+
+
+def faults_of_dates():
+    """L3's, on the same table, of which the latest clock is 1: the key at place 1 is Pre-Active, and that at place 3 Active."""
+    return [
+        ("a free body with an activation date", (body_at(5) + ACTIVATION_IN, numbers(1))),
+        ("a free body with a deactivation date", (body_at(63) + DEACTIVATION_IN, numbers(1))),
+        ("activation date -1", (body_at(1) + ACTIVATION_IN, numbers(2**64 - 1))),
+        ("activation date -2^63 of a destroyed key", (body_at(2) + ACTIVATION_IN, numbers(2**63))),
+        ("deactivation date -1", (body_at(1) + DEACTIVATION_IN, numbers(2**64 - 1))),
+        ("deactivation date -2^63 of a destroyed key", (body_at(2) + DEACTIVATION_IN, numbers(2**63))),
+        ("latest clock -1", (LATEST_CLOCK, numbers(2**64 - 1))),
+        ("latest clock -2^63", (LATEST_CLOCK, numbers(2**63))),
+        ("deactivation date before the activation date", (body_at(1) + ACTIVATION_IN, numbers(9, 8))),
+        ("activation date of an Active key after the latest clock", (body_at(3) + ACTIVATION_IN, numbers(2))),
+        ("activation date 1 of an Active key, latest clock 0", (body_at(3) + ACTIVATION_IN, numbers(1)), (LATEST_CLOCK, numbers(0))),
+    ]
 
 
 def cards_of_unsound_tables(s):
@@ -1166,18 +1487,16 @@ def cards_of_unsound_tables(s):
         (line(3, 5), body()),
         (line(4, 2, 0, 192), body(0, 0, 4, bytes([4] * 24))),
     ]
-    sound = lead(6) + b"".join(line for line, _ in keys).ljust(16 * PLACES, b"\0") + b"".join(body for _, body in keys).ljust(56 * PLACES, b"\0")
+    sound = lead(6) + b"".join(line for line, _ in keys).ljust(16 * PLACES, b"\0") + b"".join(body for _, body in keys).ljust(BODY_SIZE * PLACES, b"\0")
     s.blank()
     s.put(0, sound[: line_at(4)])
     s.put(body_at(0), sound[body_at(0) : body_at(4)])
     asked = attributes(FOUR)
     s.card("sound table of four keys", (asked, shown(FOUR, 2, 192)))
     trillion = 1_000_000_000_000
-    numbers = lambda *values: b"".join(value.to_bytes(8, "big") for value in values)
     for name, *faults in [
         ("place count 63", (4, unhex("0000003F"))),
         ("place count 65", (4, unhex("00000041"))),
-        ("zeros of the lead", (15, b"\1")),
         ("a free line with a state", (line_at(5) + 4, b"\1")),
         ("a free line with a link", (line_at(63) + 12, unhex("00000001"))),
         ("a free body with a count", (body_at(5) + 8, numbers(1))),
@@ -1211,6 +1530,7 @@ def cards_of_unsound_tables(s):
         ("replaced serial of a key that does not name back", (line_at(3) + 8, unhex("00000003"))),
         ("old end of a link gone", (line_at(0) + 12, unhex("00000000"))),
         ("new end of a link gone", (line_at(1) + 8, unhex("00000000"))),
+        *faults_of_dates(),
     ]:
         for at, octets in faults:
             s.put(at, octets)
@@ -1223,6 +1543,12 @@ def cards_of_unsound_tables(s):
     s.put(line_at(3) + 12, unhex("00000006"))
     s.put(body_at(1) + 8, numbers(0))
     s.card("sound table with a link to a serial that is gone", (asked, shown(FOUR, 2, 192, replacement=SIX)))
+
+
+def cards_of_sound_dates(s):
+    s.about("L3, sound: dates that are the same, an Active key since the latest clock, a compromised and a destroyed key that would start later.")
+    dated_keys(s, 1, (1, 9, 9), (2, 1), (4, 2**63 - 1), (5, 9, 2**63 - 1))
+    s.card("sound table with dates at their edges", (attributes(TWO), shown(TWO, 2, limit=(100, 50, 2), activation=1)))
 
 
 def cards_of_malformed_requests(s):
@@ -1327,24 +1653,28 @@ def cards_of_the_lowest_number(s):
     s.about("The lowest number that applies is given: all faults at once, then the lowest taken away, one after the other.")
     key_to_activate(s)
     item = activate(ONE)
-    s.put(15, b"\1")
-    s.say("room 4823")
+    s.put(7, b"\x3f")
+    s.say("clock 0")
+    s.say("room 5335")
     s.say("strip 511")
-    s.refused("lowest of 1, 2, 3 and 4", b"", 1)
-    s.say("room 4824")
-    s.refused("lowest of 2, 3 and 4", b"", 2)
+    s.refused("lowest of 1, 2, 3, 4 and 10", b"", 1)
+    s.say("room 5336")
+    s.refused("lowest of 2, 3, 4 and 10", b"", 2)
     s.say("strip 512")
-    s.refused("lowest of 3 and 4", b"", 3)
-    s.put(15, b"\0")
+    s.refused("lowest of 3, 4 and 10", b"", 3)
+    s.put(7, b"\x40")
     wrong = dict(option=3, version=(2, 0), count=2)
-    s.refused("lowest of 4 and 5", bytes(4097), 4)
+    s.refused("lowest of 4, 5 and 10", bytes(4097), 4)
     no_frame = structure(BATCH_ITEM, boolean(OTHER, 2))
-    s.refused("lowest of 5, 6, 7, 8 and 9", request(no_frame, **wrong), 5)
+    s.refused("lowest of 5, 6, 7, 8, 9 and 10", request(no_frame, **wrong), 5)
     no_frame = structure(BATCH_ITEM, boolean(OTHER, 1))
-    s.refused("lowest of 6, 7, 8 and 9", request(no_frame, **wrong), 6)
-    s.refused("lowest of 7, 8 and 9", request(item, **wrong), 7)
-    s.refused("lowest of 8 and 9", request(item, option=3, count=2), 8)
-    s.refused("9 alone", request(item, option=3), 9)
+    s.refused("lowest of 6, 7, 8, 9 and 10", request(no_frame, **wrong), 6)
+    s.refused("lowest of 7, 8, 9 and 10", request(item, **wrong), 7)
+    s.refused("lowest of 8, 9 and 10", request(item, option=3, count=2), 8)
+    s.refused("lowest of 9 and 10", request(item, option=3), 9)
+    s.refused("10 alone", request(item, option=CONTINUE), 10)
+    s.table("lead and line after refusals at clock 0", 0, lead(1, latest=0) + line(1, 1))
+    s.say("clock 1")
     s.card("none", (item, named(ACTIVATE, ONE)), option=CONTINUE)
 
 
@@ -1364,8 +1694,8 @@ def cards_of_bad_lines(s):
         "put 4 0",
         "put 4 0G",
         "put 4 ff",
-        "put 4624 00",
-        "put 4623 0000",
+        "put 5648 00",
+        "put 5647 0000",
         "put 18446744073709551616 00",
         "clock",
         "clock x",
@@ -1376,7 +1706,7 @@ def cards_of_bad_lines(s):
         "clock 18446744073709551616",
         "room",
         "room -1",
-        "room 4824 ",
+        "room 5336 ",
         "strip 5x",
         "size",
         "request 42",
@@ -1386,14 +1716,14 @@ def cards_of_bad_lines(s):
         "table no numbers: ",
         "table one number: 4",
         "table three numbers: 4 4 4",
-        "table beyond: 4620 5",
+        "table beyond: 5644 5",
         "table far beyond: 18446744073709551609 18446744073709551609",
         "output beyond: 8192 1",
     ]:
         s.bad(line)
-    s.table("table after bad lines", 0, lead(0))
+    s.table("table after bad lines", 0, lead(0, latest=0))
     s.about("More lent than there is.")
-    for verb, most in [("room", 8192), ("strip", 1024), ("size", 4624)]:
+    for verb, most in [("room", 8192), ("strip", 1024), ("size", 5648)]:
         s.blank()
         s.say(f"{verb} {most + 1}")
         s.name(f"{verb} {most + 1}")
@@ -1406,12 +1736,12 @@ def all_cards():
     s.say("# The bench cards of document 01, and one success and each failure of each operation, each refusal, and what the table holds after some of them.")
     s.say("# Written by make_cards.py, together with what is expected of it. The commands, one a line; numbers are decimal, and blanks between bytes are skipped:")
     for command in [
-        "blank                       a blank table, an output full of FF, clock 0, room 4824, strip 512 (the bytes 0 to 255 twice), size 4624",
+        "blank                       a blank table, an output full of FF, clock 1, room 5336, strip 512 (the bytes 0 to 255 twice), size 5648",
         "put OFFSET HEX              lays bytes over the table",
         "clock NUMBER                the clock from here on, from -2^63 to 2^63 - 1",
         "room NUMBER                 how many bytes of output are lent from here on, at most 8192",
         "strip NUMBER                how many bytes of the strip, at most 1024",
-        "size NUMBER                 how many bytes of the table, at most 4624",
+        "size NUMBER                 how many bytes of the table, at most 5648",
         "request NAME: HEX           serves a request of at most 8192 bytes, and prints NAME and the response, or the refusal",
         "table NAME: OFFSET LENGTH   prints NAME and bytes of the table",
         "output NAME: OFFSET LENGTH  prints NAME and bytes of the output",
@@ -1441,8 +1771,22 @@ def all_cards():
         cards_of_the_placeholder,
         cards_of_batches,
         cards_of_clocks,
+        cards_of_a_clock_that_goes_back,
+        cards_of_clocks_at_their_edges,
+        cards_of_clocks_that_are_not_stored,
+        cards_of_create_with_dates,
+        cards_of_create_with_wrong_dates,
+        cards_of_due_changes,
+        cards_of_due_changes_everywhere,
+        cards_of_dates_in_one_batch,
+        cards_of_activate_with_dates,
+        cards_of_revoke_with_dates,
+        cards_of_dates_kept,
+        cards_of_rekey_with_dates,
+        cards_of_attributes_with_dates,
         cards_of_refusals_1_to_4,
         cards_of_unsound_tables,
+        cards_of_sound_dates,
         cards_of_malformed_requests,
         cards_of_wrong_frames,
         cards_of_refusals_7_to_9,
@@ -1457,7 +1801,9 @@ def main():
     check_builders()
     s = all_cards()
     here = pathlib.Path(__file__).parent
-    (here / "stdin").write_text("\n".join(s.lines) + "\n")
+    script = "\n".join(s.lines) + "\n"
+    assert len(script) < SCRIPT_ROOM
+    (here / "stdin").write_text(script)
     (here / "stdout").write_text("\n".join(s.expected) + "\n")
     requests = sum(line.startswith("request ") for line in s.lines)
     views = sum(line.startswith(("table ", "output ")) for line in s.lines)

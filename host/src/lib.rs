@@ -14,11 +14,11 @@ pub mod program;
 pub use archive::serve;
 
 /// Bytes of output room that no response exceeds; a call with less is refused.
-pub const ROOM: usize = 4824;
+pub const ROOM: usize = 5336;
 /// Bytes of the fresh strip.
 pub const STRIP: usize = 512;
 /// Bytes of the stored table.
-pub const TABLE: usize = 4624;
+pub const TABLE: usize = 5648;
 /// Bytes of the longest request that is read.
 pub const REQUEST: usize = 4096;
 
@@ -26,7 +26,7 @@ pub const REQUEST: usize = 4096;
 /// A refused call leaves table and output byte for byte.
 pub type Served = Result<usize, Refusal>;
 
-/// An engine: request, table, fresh strip, clock (seconds, as a Date-Time), output.
+/// An engine: request, table, fresh strip, clock (seconds, as a Date-Time, from 1 up), output.
 pub type Engine = fn(&[u8], &mut [u8], &[u8], i64, &mut [u8]) -> Served;
 
 /// The proved engine as it is linked: the archive on x86-64, and none on any other machine.
@@ -58,11 +58,13 @@ pub enum Refusal {
     Count = 8,
     /// Batch Error Continuation Option neither 1 nor 2.
     Continuation = 9,
+    /// Clock below 1.
+    Clock = 10,
 }
 
 impl Refusal {
     /// All of them, in the order of their numbers.
-    pub const ALL: [Refusal; 9] = [
+    pub const ALL: [Refusal; 10] = [
         Refusal::Room,
         Refusal::Strip,
         Refusal::Table,
@@ -72,9 +74,10 @@ impl Refusal {
         Refusal::Version,
         Refusal::Count,
         Refusal::Continuation,
+        Refusal::Clock,
     ];
 
-    /// The number of this refusal, 1 to 9.
+    /// The number of this refusal, 1 to 10.
     pub fn number(self) -> u32 {
         self as u32
     }
@@ -101,7 +104,7 @@ fn served(number: u32, length: u64, room: usize) -> Served {
         return Ok(length);
     }
     assert_eq!(length, 0, "a refusal has length 0");
-    Err(Refusal::from_number(number).expect("a refusal has a number from 1 to 9"))
+    Err(Refusal::from_number(number).expect("a refusal has a number from 1 to 10"))
 }
 
 /// A blank table: all zero but the place count.

@@ -62,6 +62,10 @@ pub fn byte_string(tag: u32, bytes: &[u8]) -> Node {
     Node { tag, kind: 0x08, body: Body::Bytes(bytes.to_vec()) }
 }
 
+pub fn date_time(tag: u32, seconds: i64) -> Node {
+    Node { tag, kind: 0x09, body: Body::Bytes(seconds.to_be_bytes().to_vec()) }
+}
+
 /// The numbers in a request's header.
 #[derive(Clone, Copy, Debug)]
 pub struct Header {
@@ -95,13 +99,25 @@ pub fn item(operation: u32, id: Option<&[u8]>, payload: Vec<Node>) -> Node {
     structure(0x42000F, fields)
 }
 
-/// The payload of a Create: AES of this length and mask, and a limit of (total, unit) if any.
+/// The payload of a Create: AES of this length and mask, a limit of (total, unit) if any, and no dates.
 pub fn create(length: i32, mask: i32, limit: Option<(i64, u32)>) -> Vec<Node> {
+    create_dated(length, mask, limit, (None, None))
+}
+
+/// The payload of a Create with those of its dates, activation and deactivation, that are to be set.
+pub fn create_dated(
+    length: i32,
+    mask: i32,
+    limit: Option<(i64, u32)>,
+    (activation, deactivation): (Option<i64>, Option<i64>),
+) -> Vec<Node> {
     let mut attributes = vec![enumeration(0x420028, 3), integer(0x42002A, length), integer(0x42002C, mask)];
     attributes
         .extend(limit.map(|(total, unit)| {
             structure(0x420095, vec![long_integer(0x420097, total), enumeration(0x420098, unit)])
         }));
+    attributes.extend(activation.map(|date| date_time(0x420001, date)));
+    attributes.extend(deactivation.map(|date| date_time(0x42002F, date)));
     vec![enumeration(0x420057, 2), structure(0x420125, attributes)]
 }
 

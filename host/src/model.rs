@@ -3,6 +3,7 @@
 
 use crate::{Refusal, Served};
 
+pub mod dates;
 pub mod frame;
 pub mod operations;
 pub mod payload;
@@ -14,21 +15,25 @@ pub mod ttlv;
 
 use frame::Request;
 use operations::{Answer, KeyBox};
+use table::Table;
 
 /// Serves one request, as the engine does.
 pub fn serve(request: &[u8], table: &mut [u8], fresh: &[u8], clock: i64, out: &mut [u8]) -> Served {
-    let accepted = accept(request, table, fresh, out.len())?;
-    let mut keys = KeyBox::open(table::Table::decode(table), fresh);
+    let accepted = accept(request, table, fresh, clock, out.len())?;
+    let mut records = Table::decode(table);
+    records.latest = dates::clock_that_counts(clock, records.latest);
+    dates::make_due_changes(&mut records);
+    let mut keys = KeyBox::open(records, fresh);
     let answers = carry_out(&accepted, &mut keys);
-    let bytes = ttlv::write(&response::message(clock, &answers));
+    let bytes = ttlv::write(&response::message(keys.table.latest, &answers));
     out[..bytes.len()].copy_from_slice(&bytes);
     table.copy_from_slice(&keys.table.encode());
     Ok(bytes.len())
 }
 
 /// The request as it is read, or the lowest refusal that applies.
-fn accept(request: &[u8], table: &[u8], fresh: &[u8], room: usize) -> Result<Request, Refusal> {
-    refuse_if(room < 4824, Refusal::Room)?;
+fn accept(request: &[u8], table: &[u8], fresh: &[u8], clock: i64, room: usize) -> Result<Request, Refusal> {
+    refuse_if(room < 5336, Refusal::Room)?;
     refuse_if(fresh.len() != 512, Refusal::Strip)?;
     refuse_if(!soundness::broken(table).is_empty(), Refusal::Table)?;
     refuse_if(request.is_empty() || request.len() > 4096, Refusal::Size)?;
@@ -38,6 +43,7 @@ fn accept(request: &[u8], table: &[u8], fresh: &[u8], room: usize) -> Result<Req
     refuse_if(!(1..=16).contains(&request.count), Refusal::Count)?;
     refuse_if(request.count as usize != request.items.len(), Refusal::Count)?;
     refuse_if(!matches!(request.option, None | Some(1 | 2)), Refusal::Continuation)?;
+    refuse_if(clock < 1, Refusal::Clock)?;
     Ok(request)
 }
 

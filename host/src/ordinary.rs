@@ -24,13 +24,17 @@ pub fn serve(request: &[u8], table: &mut [u8], fresh: &[u8], clock: i64, out: &m
     if !sound(table) {
         return Err(Refusal::Table);
     }
-    let table = Table::new(table).ok_or(Refusal::Table)?;
+    let mut table = Table::new(table).ok_or(Refusal::Table)?;
     let frame = accept(request)?;
-    let mut session = Session::new(table, fresh.as_chunks::<32>().0);
-    Ok(answer(&frame, &mut session, clock, Writer::new(out)))
+    if clock < 1 {
+        return Err(Refusal::Clock);
+    }
+    let now = table.advance(clock as u64);
+    let mut session = Session::new(table, fresh.as_chunks::<32>().0, now);
+    Ok(answer(&frame, &mut session, now, Writer::new(out)))
 }
 
-/// The frame of the request, or the lowest refusal from 4 on.
+/// The frame of the request, or the lowest refusal from 4 to 9.
 fn accept(request: &[u8]) -> Result<Frame<'_>, Refusal> {
     if request.is_empty() || request.len() > crate::REQUEST {
         return Err(Refusal::Size);
@@ -52,10 +56,10 @@ fn accept(request: &[u8]) -> Result<Frame<'_>, Refusal> {
 }
 
 /// Carries the items out and writes their answers; gives the length of the response.
-fn answer(frame: &Frame, session: &mut Session, clock: i64, mut writer: Writer) -> usize {
+fn answer(frame: &Frame, session: &mut Session, now: u64, mut writer: Writer) -> usize {
     let stops = frame.option != Some(1);
     let message = writer.open(0x42007B01);
-    let count = writer.response_header(clock);
+    let count = writer.response_header(now);
     let mut answered = 0;
     for (index, item) in frame.items().enumerate() {
         let outcome = session.carry_out(index, &item);

@@ -221,7 +221,7 @@ fn a_bad_create_stops_the_batch_or_empties_the_placeholder() {
     let effect = call(batch(Some(1), items()), &blank_table());
     assert_eq!(reasons(&effect), [INVALID_FIELD, OBJECT_NOT_FOUND]);
     let printed = "42007B01 000000C0 42007A01 00000048 42006901 00000020 42006A02 00000004 00000002 00000000 42006B02 \
-        00000004 00000001 00000000 42009209 00000008 00000000 00000000 42000D02 00000004 00000002 00000000 42000F01 \
+        00000004 00000001 00000000 42009209 00000008 00000000 00000001 42000D02 00000004 00000002 00000000 42000F01 \
         00000030 42005C05 00000004 00000001 00000000 42007F05 00000004 00000001 00000000 42007E05 00000004 00000007 \
         00000000 42000F01 00000030 42005C05 00000004 00000012 00000000 42007F05 00000004 00000001 00000000 42007E05 \
         00000004 00000037 00000000";
@@ -229,11 +229,11 @@ fn a_bad_create_stops_the_batch_or_empties_the_placeholder() {
 }
 
 #[test]
-fn output_of_4823_is_too_small() {
+fn output_of_5335_is_too_small() {
     let mut case = Case::new(batch(None, vec![new_key(None)]), blank_table().to_vec());
-    case.room = 4823;
+    case.room = 5335;
     assert_eq!(case.run_all(&engines(), "card").served, Err(Refusal::Room));
-    case.room = 4824;
+    case.room = 5336;
     assert_eq!(case.run_all(&engines(), "card").served, Ok(168));
 }
 
@@ -295,7 +295,7 @@ fn activate_is_answered_with_the_printed_152_bytes() {
     let table = call(batch(None, vec![new_key(None)]), &blank_table()).table;
     let effect = call(batch(None, vec![on(ACTIVATE, Some("00000001"))]), &table);
     let printed = "42007B01 00000090 42007A01 00000048 42006901 00000020 42006A02 00000004 00000002 00000000 42006B02 \
-        00000004 00000001 00000000 42009209 00000008 00000000 00000000 42000D02 00000004 00000001 00000000 42000F01 \
+        00000004 00000001 00000000 42009209 00000008 00000000 00000001 42000D02 00000004 00000001 00000000 42000F01 \
         00000038 42005C05 00000004 00000012 00000000 42007F05 00000004 00000000 00000000 42007C01 00000010 42009407 \
         00000008 30303030 30303031";
     assert_eq!(response(&effect), unhex(printed));
@@ -309,7 +309,7 @@ fn create_is_written_and_answered_with_the_printed_bytes() {
         00000000 42002A02 00000004 00000080 00000000 42002C02 00000004 00000004 00000000";
     let answered =
         "42007B01 000000A0 42007A01 00000048 42006901 00000020 42006A02 00000004 00000002 00000000 42006B02 \
-        00000004 00000001 00000000 42009209 00000008 00000000 00000000 42000D02 00000004 00000001 00000000 42000F01 \
+        00000004 00000001 00000000 42009209 00000008 00000000 00000001 42000D02 00000004 00000001 00000000 42000F01 \
         00000048 42005C05 00000004 00000001 00000000 42007F05 00000004 00000000 00000000 42007C01 00000020 42005705 \
         00000004 00000002 00000000 42009407 00000008 30303030 30303031";
     assert_eq!(batch(None, vec![new_key(None)]), unhex(asked));
@@ -320,18 +320,19 @@ fn create_is_written_and_answered_with_the_printed_bytes() {
     assert_eq!((key.state, key.length, key.mask, key.material[16..].to_vec()), (1, 128, 4, vec![0; 16]));
 }
 
-/// Sizes of answers: Get Attributes at its fullest sixteen times makes 4,824 bytes.
+/// Sizes of answers: Get Attributes at its fullest, with both dates, sixteen times makes 5,336 bytes.
 #[test]
-fn the_longest_response_has_4824_bytes() {
-    let setup = vec![new_key(Some((5, 1))), on(REKEY, None), on(REKEY, None)];
+fn the_longest_response_has_5336_bytes() {
+    let first = item(CREATE, None, create_dated(128, 4, Some((5, 1)), (Some(8), Some(9))));
+    let setup = vec![first, on(REKEY, None), on(REKEY, None)];
     let table = call(batch(None, setup), &blank_table()).table;
     let items = (0..16).map(|_| item(ATTRIBUTES, Some(&[7; 16]), target(Some("00000002")))).collect();
-    assert_eq!(call(batch(Some(2), items), &table).served, Ok(4824));
+    assert_eq!(call(batch(Some(2), items), &table).served, Ok(5336));
 }
 
 #[test]
 fn the_model_loses_no_byte_of_a_table() {
     let mut rng = support::rng::Rng::new(1);
-    let bytes = rng.bytes(4624);
+    let bytes = rng.bytes(5648);
     assert_eq!(Table::decode(&bytes).encode(), bytes);
 }

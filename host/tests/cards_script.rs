@@ -36,7 +36,7 @@ struct Bench {
 }
 
 fn usual() -> Setting {
-    Setting { clock: 0, room: ROOM, strip: STRIP, size: TABLE }
+    Setting { clock: 1, room: ROOM, strip: STRIP, size: TABLE }
 }
 
 impl Bench {

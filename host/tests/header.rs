@@ -1,6 +1,8 @@
-//! include/junctionmoth.h for C and C++: it compiles without a warning, and on x86-64 a C program over it is linked with
-//! the archive and run. Needs the C compiler that cargo links with; C++ is tried where there is a compiler for it.
+//! include/junctionmoth.h for C and C++: it compiles without a warning, its numbers are those of this package, and on
+//! x86-64 a C program over it is linked with the archive and run. Needs the C compiler that cargo links with; C++ is
+//! tried where there is a compiler for it.
 
+use junctionmoth::{Refusal, REQUEST, ROOM, STRIP, TABLE};
 use std::path::{Path, PathBuf};
 use std::process::{Command, Output};
 
@@ -34,6 +36,41 @@ fn it_compiles_as_cpp() {
         Ok(output) => expect_success(&output, "C++"),
         Err(error) => println!("no C++ compiler here ({error}): not tried"),
     }
+}
+
+/// What the header calls a refusal.
+fn name(refusal: Refusal) -> &'static str {
+    match refusal {
+        Refusal::Room => "JUNCTIONMOTH_REFUSED_ROOM",
+        Refusal::Strip => "JUNCTIONMOTH_REFUSED_STRIP",
+        Refusal::Table => "JUNCTIONMOTH_REFUSED_TABLE",
+        Refusal::Size => "JUNCTIONMOTH_REFUSED_SIZE",
+        Refusal::Malformed => "JUNCTIONMOTH_REFUSED_MALFORMED",
+        Refusal::Frame => "JUNCTIONMOTH_REFUSED_FRAME",
+        Refusal::Version => "JUNCTIONMOTH_REFUSED_VERSION",
+        Refusal::Count => "JUNCTIONMOTH_REFUSED_COUNT",
+        Refusal::Continuation => "JUNCTIONMOTH_REFUSED_OPTION",
+        Refusal::Clock => "JUNCTIONMOTH_REFUSED_CLOCK",
+    }
+}
+
+/// Each number is the size of an array in C, so that the compiler tells one that differs.
+#[test]
+fn its_numbers_are_those_of_this_package() {
+    let mut numbers = vec![
+        ("JUNCTIONMOTH_PLACES", 64),
+        ("JUNCTIONMOTH_TABLE_SIZE", TABLE),
+        ("JUNCTIONMOTH_ROOM_LEAST", ROOM),
+        ("JUNCTIONMOTH_STRIP_SIZE", STRIP),
+        ("JUNCTIONMOTH_REQUEST_MOST", REQUEST),
+        ("JUNCTIONMOTH_ANSWERED", 0),
+    ];
+    numbers.extend(Refusal::ALL.map(|refusal| (name(refusal), refusal.number() as usize)));
+    let checks = numbers.iter().map(|(name, number)| format!("extern char is_{name}[{name} == {number} ? 1 : -1];\n"));
+    let source = Path::new(env!("CARGO_TARGET_TMPDIR")).join("numbers.c");
+    std::fs::write(&source, format!("#include \"junctionmoth.h\"\n{}", checks.collect::<String>())).expect("writable");
+    let output = compiler("cc").args(["-std=c99", "-fsyntax-only"]).arg(&source).output();
+    expect_success(&output.expect("cargo links with cc, so it is there"), "the numbers");
 }
 
 #[cfg(all(feature = "archive", target_arch = "x86_64"))]

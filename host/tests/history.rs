@@ -1,4 +1,4 @@
-//! Runs of requests on one table from blank on: the third demand, kept by a ledger beside the box.
+//! Runs of requests on one table from blank on: the third demand, and the clock, kept by a ledger beside the box.
 //! The ledger reads requests and responses only; the table is looked at to compare.
 
 mod support;
@@ -13,10 +13,13 @@ use std::collections::{BTreeMap, BTreeSet};
 use support::rng::Rng;
 use support::{engines, requests, Case, Effect};
 
-/// What the ledger knows of an identifier.
+/// What the ledger knows of an identifier; a date of 0 is not set.
+#[derive(Clone, Copy)]
 struct Issued {
     total: u64,
     granted: u64,
+    activation: i64,
+    deactivation: i64,
 }
 
 /// Everything issued so far, by serial.
@@ -24,15 +27,22 @@ struct Issued {
 struct Ledger {
     issued: BTreeMap<u32, Issued>,
     destroyed: BTreeSet<u32>,
+    /// Those that have been seen Deactivated.
+    stopped: BTreeSet<u32>,
+    /// The largest clock of an answered request.
+    largest_clock: i64,
     grants: u64,
     handed_out: u64,
+    /// Answered requests with a clock earlier than the latest.
+    went_back: u64,
     /// Items that asked for the key of a destroyed identifier; each failed.
     asked_dead: u64,
 }
 
 impl Ledger {
-    /// Enters the successful items of an answered request.
-    fn enter(&mut self, request: &[u8], response: &[u8]) {
+    /// Enters the clock and the successful items of an answered request.
+    fn enter(&mut self, clock: i64, request: &[u8], response: &[u8]) {
+        self.largest_clock = self.largest_clock.max(clock);
         let asked = frame::read(&ttlv::read(request).expect("read")).expect("framed");
         let message = ttlv::read(response).expect("one well-formed item");
         let answers = &message.structure(RESPONSE_MESSAGE).expect("a Response Message")[1..];
@@ -63,22 +73,33 @@ impl Ledger {
         let (target, action) = match order {
             Order::Create(wanted) => {
                 *placeholder = Some(answered);
-                return self.issue(answered, wanted.limit.as_ref().map_or(0, |limit| limit.total));
+                let total = wanted.limit.as_ref().map_or(0, |limit| limit.total);
+                let (activation, deactivation) = (wanted.activation.unwrap_or(0), wanted.deactivation.unwrap_or(0));
+                return self.issue(answered, Issued { total, granted: 0, activation, deactivation });
             }
             Order::Target(Target::Placeholder, action) => (placeholder.expect("the placeholder is set"), action),
             Order::Target(Target::Identifier(text), action) => (serial(text), action),
         };
+        if let Action::Rekey = action {
+            *placeholder = Some(answered);
+            return self.issue(answered, Issued { granted: 0, ..self.issued[&target] });
+        }
+        self.enter_action(action, target);
+        assert_eq!(answered, target);
+    }
+
+    fn enter_action(&mut self, action: &Action, target: u32) {
+        let now = self.largest_clock;
         let known = self.issued.get_mut(&target).expect("only issued identifiers are known");
         match action {
-            Action::Rekey => {
-                let total = known.total;
-                *placeholder = Some(answered);
-                return self.issue(answered, total);
-            }
             Action::GetUsageAllocation(amount) => {
+                let ended = known.deactivation != 0 && known.deactivation <= now;
+                assert!(!ended, "units were granted past the deactivation date");
                 known.granted += amount;
                 self.grants += 1;
             }
+            Action::Activate => known.activation = now,
+            Action::Revoke(1 | 4..=7) => known.deactivation = now,
             Action::Destroy => {
                 self.destroyed.insert(target);
             }
@@ -88,19 +109,26 @@ impl Ledger {
             }
             _ => {}
         }
-        assert_eq!(answered, target);
     }
 
-    fn issue(&mut self, serial: u32, total: u64) {
-        assert!(self.issued.insert(serial, Issued { total, granted: 0 }).is_none(), "issued twice");
+    fn issue(&mut self, serial: u32, new: Issued) {
+        assert!(self.issued.insert(serial, new).is_none(), "issued twice");
     }
 
-    /// Granted and left make the total, for every record that stands.
-    fn compare(&self, table: &Table) {
+    /// For every record that stands, granted and left make the total, and the dates are those that were set; one that
+    /// was Deactivated is neither Pre-Active nor Active again. The stored clock is the largest that was accepted.
+    fn compare(&mut self, table: &Table) {
+        assert_eq!(table.latest, self.largest_clock);
         for record in table.standing() {
             let issued = self.issued.get(&record.serial).expect("every record was issued");
             assert_eq!(issued.granted + record.count, issued.total, "serial {}", record.serial);
             assert_eq!(record.total, issued.total);
+            assert_eq!((record.activation, record.deactivation), (issued.activation, issued.deactivation));
+            if record.state == 3 {
+                self.stopped.insert(record.serial);
+            }
+            let back = record.state < 3 && self.stopped.contains(&record.serial);
+            assert!(!back, "serial {} was Deactivated, and is in state {} again", record.serial, record.state);
         }
     }
 }
@@ -140,7 +168,7 @@ fn next_request(rng: &mut Rng, table: &Table) -> Vec<u8> {
     let mut bytes = match rng.below(10) {
         0 => requests::edited(rng, table).encode(),
         1 => requests::wrong_numbers(rng, table).encode(),
-        2 => requests::creations(rng).encode(),
+        2 => requests::creations(rng, table).encode(),
         _ => requests::accepted(rng, table).encode(),
     };
     if rng.one_in(20) {
@@ -149,15 +177,28 @@ fn next_request(rng: &mut Rng, table: &Table) -> Vec<u8> {
     bytes
 }
 
+/// A clock that mostly goes on a little, and goes back or is refused now and then.
+fn next_clock(rng: &mut Rng, latest: i64) -> i64 {
+    let step = rng.below(8) as i64;
+    match rng.below(16) {
+        0 => rng.pick(&[0, -1, -step, i64::MIN]),
+        1..=4 => (latest - step).max(1),
+        _ => (latest + step).max(1),
+    }
+}
+
 fn step(rng: &mut Rng, table: &Table, ledger: &mut Ledger) -> Effect {
     let mut case = Case::new(next_request(rng, table), table.encode());
     case.fresh = rng.bytes(512);
+    case.clock = next_clock(rng, table.latest);
     let effect = case.run_all(&engines(), "history");
     let after = Table::decode(&effect.table);
     if let Ok(length) = effect.served {
-        ledger.enter(&case.request, &effect.out[..length]);
+        ledger.went_back += u64::from(case.clock < table.latest);
+        ledger.enter(case.clock, &case.request, &effect.out[..length]);
     }
     assert!(soundness::broken(&effect.table).is_empty());
+    assert!(after.latest >= table.latest, "the stored clock fell");
     ledger.compare(&after);
     compare_states(table, &after);
     effect
@@ -167,6 +208,7 @@ fn step(rng: &mut Rng, table: &Table, ledger: &mut Ledger) -> Effect {
 fn grants_are_counted_and_destroyed_keys_stay_so() {
     let (mut grants, mut full, mut taken_over) = (0, 0, 0);
     let (mut handed_out, mut asked_dead) = (0, 0);
+    let (mut went_back, mut stopped) = (0, 0);
     for seed in 0..200 {
         let mut rng = Rng::new(seed);
         let mut table = Table::blank();
@@ -178,11 +220,15 @@ fn grants_are_counted_and_destroyed_keys_stay_so() {
         grants += ledger.grants;
         handed_out += ledger.handed_out;
         asked_dead += ledger.asked_dead;
+        went_back += ledger.went_back;
+        stopped += ledger.stopped.len();
         full += u32::from(table.standing().count() == 64);
         taken_over += u32::from(ledger.issued.len() > 64);
     }
     println!("{grants} grants; {full} of 200 runs ended with a full table, {taken_over} took over destroyed places");
     println!("{handed_out} keys handed out, and {asked_dead} that were asked for after their Destroy were not");
     assert!(grants > 100 && full > 10 && taken_over > 10);
+    println!("{went_back} requests answered with a clock that went back, {stopped} keys seen Deactivated");
     assert!(handed_out > 100 && asked_dead > 100);
+    assert!(went_back > 100 && stopped > 100);
 }

@@ -1,4 +1,4 @@
-//! Every combination of the nine faults: the lowest number is given, and nothing is touched.
+//! Every combination of the ten faults: the lowest number is given, and nothing is touched.
 //! A fault is put in so that the others stand beside it.
 
 mod support;
@@ -44,9 +44,10 @@ impl Faults {
             request.resize(if empty { 0 } else { 4097 }, 0);
         }
         let mut case = Case::new(request, blank_table().to_vec());
-        case.table[15] = u8::from(self.has(Refusal::Table));
+        case.table[7] = if self.has(Refusal::Table) { 63 } else { 64 };
         case.fresh.truncate(if self.has(Refusal::Strip) { 511 } else { 512 });
-        case.room = if self.has(Refusal::Room) { 4823 } else { 4824 };
+        case.room = if self.has(Refusal::Room) { 5335 } else { 5336 };
+        case.clock = if self.has(Refusal::Clock) { 0 } else { 1 };
         case
     }
 }
@@ -54,11 +55,11 @@ impl Faults {
 #[test]
 fn the_lowest_refusal_is_given() {
     let engines = engines();
-    for bits in 0..512 {
+    for bits in 0..1024 {
         for empty in [false, true] {
             let faults = Faults(bits);
             let effect = faults.case(empty).run_all(&engines, "refusals");
-            assert_eq!(effect.served.err(), faults.lowest(), "faults {bits:09b}");
+            assert_eq!(effect.served.err(), faults.lowest(), "faults {bits:010b}");
         }
     }
 }

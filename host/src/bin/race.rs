@@ -11,11 +11,12 @@ use std::time::Instant;
 const ROUNDS: usize = 301;
 const CALLS: u32 = 50;
 
-/// A call to be timed: a request on a table.
+/// A call to be timed: a request on a table at a clock.
 struct Scene {
     name: String,
     request: Vec<u8>,
     table: Vec<u8>,
+    clock: i64,
 }
 
 /// The buffers of a call.
@@ -26,13 +27,17 @@ struct Buffers {
 }
 
 const METHOD: &str = "\
-Before each call the table is restored by copying its 4,624 bytes from a kept one; the time of that copy, measured in
+Before each call the table is restored by copying its 5,648 bytes from a kept one; the time of that copy, measured in
 rounds of its own, is taken off. The output is not restored: no engine reads it, and a call writes its response whole.
 ";
 
 const SOUNDNESS: &str = "\
 Soundness check: an empty request is refused with 4 once the check has passed and before anything else is looked at, so
 the time of that refusal is the time of the check. Of the ordinary engine the check is also called by itself.";
+
+const DATES: &str = "\
+Dates: 64 Pre-Active keys, each with an activation date that is ahead (nothing is due) or has come (64 become Active
+before the first item). The difference is what making the changes costs; looking for them is in both.";
 
 const IDENTIFIER: &str = "\
 Identifier text: nanoseconds for turning one text into a serial, read off whole calls. A call is 16 Activate items under
@@ -60,6 +65,7 @@ fn main() {
     for scene in scenes() {
         run(proved, &scene, restore);
     }
+    dates(proved, restore);
     soundness(proved, restore);
     identifiers(proved);
     control(restore);
@@ -78,7 +84,7 @@ fn scenes() -> Vec<Scene> {
             for (operation, items) in operations(size) {
                 let name = format!("{operation} x {size}, {fill} table");
                 let request = request(Some(1), items).encode();
-                scenes.push(Scene { name, request, table: table.clone() });
+                scenes.push(Scene { name, request, table: table.clone(), clock: 1 });
             }
         }
     }
@@ -157,6 +163,29 @@ fn race(first: Engine, second: Engine, scene: &Scene) -> (f64, f64) {
     (fastest(first), fastest(second))
 }
 
+/// The changes that are due before the first item: none, and one at each place.
+fn dates(proved: Engine, restore: f64) {
+    println!("\n{DATES}");
+    let request = request(Some(1), vec![item(0x0B, Some(b"A1"), target(Some(&identifier(64))))]).encode();
+    for (name, clock) in [("64 keys, nothing due", START - 1), ("64 keys, 64 due", START)] {
+        let name = format!("Get Attributes x 1, {name}");
+        run(proved, &Scene { name, request: request.clone(), table: waiting(), clock }, restore);
+    }
+}
+
+/// The activation date of the keys that wait for one.
+const START: i64 = 1_000_000;
+
+/// A table of 64 Pre-Active keys with both dates set.
+fn waiting() -> Vec<u8> {
+    let mut table = Table::blank();
+    table.last = 64;
+    for (serial, record) in (1..).zip(&mut table.places) {
+        *record = Record { state: 1, activation: START, deactivation: 2 * START, ..live_record(serial) };
+    }
+    table.encode()
+}
+
 /// The soundness check, seen through refusal 4, and that of the ordinary engine by itself.
 fn soundness(proved: Engine, restore: f64) {
     println!("\n{SOUNDNESS}");
@@ -165,7 +194,7 @@ fn soundness(proved: Engine, restore: f64) {
     for (fill, table) in tables {
         let name = format!("refusal 4, {fill} table");
         let alone = fastest((0..ROUNDS).map(|_| checking(&table)).collect());
-        run(proved, &Scene { name, request: Vec::new(), table }, restore);
+        run(proved, &Scene { name, request: Vec::new(), table, clock: 1 }, restore);
         println!("{:44} {:>9} {alone:>9.0}", "  the check by itself", "");
     }
 }
@@ -221,7 +250,8 @@ fn identifiers(proved: Engine) {
             let requests: Vec<Vec<u8>> = (0..REQUESTS).map(|_| activations(texts, &mut seed)).collect();
             if round == 0 {
                 let (name, request) = (texts.name.to_string(), requests[0].clone());
-                assert_eq!(compare(proved, &Scene { name, request, table: Table::blank().encode() }), "0 of 16");
+                let scene = Scene { name, request, table: Table::blank().encode(), clock: 1 };
+                assert_eq!(compare(proved, &scene), "0 of 16");
             }
             for (engine, time) in engines.into_iter().zip(times) {
                 *time = time.min(answering(engine, &requests));
@@ -254,12 +284,12 @@ fn random(seed: &mut u64) -> u32 {
     (*seed >> 32) as u32
 }
 
-/// Nanoseconds a call of these requests, each served once on the blank table, which they leave as it is.
+/// Nanoseconds a call of these requests, each served once on the blank table, of which they change the clock alone.
 fn answering(engine: Engine, requests: &[Vec<u8>]) -> f64 {
     let mut lent = buffers(&Table::blank().encode());
     let start = Instant::now();
     for request in requests {
-        let _ = black_box(engine(black_box(request), &mut lent.table, &lent.fresh, black_box(0), &mut lent.out));
+        let _ = black_box(engine(black_box(request), &mut lent.table, &lent.fresh, black_box(1), &mut lent.out));
         black_box(&mut lent.out);
     }
     start.elapsed().as_nanos() as f64 / requests.len() as f64
@@ -285,8 +315,8 @@ fn buffers(table: &[u8]) -> Buffers {
 /// Both engines must do the same. Says how many items succeed, or which refusal is given.
 fn compare(proved: Engine, scene: &Scene) -> String {
     let (mut one, mut two) = (buffers(&scene.table), buffers(&scene.table));
-    let first = proved(&scene.request, &mut one.table, &one.fresh, 0, &mut one.out);
-    let second = ordinary::serve(&scene.request, &mut two.table, &two.fresh, 0, &mut two.out);
+    let first = proved(&scene.request, &mut one.table, &one.fresh, scene.clock, &mut one.out);
+    let second = ordinary::serve(&scene.request, &mut two.table, &two.fresh, scene.clock, &mut two.out);
     assert!(first == second && one.table == two.table && one.out == two.out, "{}: the engines differ", scene.name);
     match first {
         Ok(length) => {
@@ -306,7 +336,8 @@ fn round(engine: Engine, scene: &Scene) -> f64 {
     let start = Instant::now();
     for _ in 0..CALLS {
         lent.table.copy_from_slice(black_box(&scene.table));
-        let served = engine(black_box(&scene.request), &mut lent.table, &lent.fresh, black_box(0), &mut lent.out);
+        let clock = black_box(scene.clock);
+        let served = engine(black_box(&scene.request), &mut lent.table, &lent.fresh, clock, &mut lent.out);
         let _ = black_box(served);
         black_box(&mut lent.table);
         black_box(&mut lent.out);

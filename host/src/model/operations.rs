@@ -1,6 +1,7 @@
 //! The eight operations on records.
-//! Starts from a sound table; a failed item leaves it as it was.
+//! Starts from a sound table, whose latest clock is the one that counts; a failed item leaves it as it was.
 
+use super::dates::has_come;
 use super::frame::BatchItem;
 use super::payload::{self, Action, Order, Target, Wanted};
 use super::table::{Record, Table};
@@ -86,6 +87,7 @@ impl<'a> KeyBox<'a> {
     }
 
     fn act(&mut self, serial: u32, action: Action, fresh: &[u8]) -> Result<Success, Reason> {
+        let clock = self.table.latest;
         let record = self.record(serial);
         match action {
             Action::Rekey => return self.rekey(serial, fresh),
@@ -93,8 +95,8 @@ impl<'a> KeyBox<'a> {
             Action::Get => return Ok(Success::Key(record.clone())),
             Action::GetAttributes => return Ok(Success::Attributes(record.clone())),
             Action::GetUsageAllocation(amount) => allocate(record, amount)?,
-            Action::Activate => record.state = activated(record.state)?,
-            Action::Revoke(code) => record.state = revoked(record.state, code)?,
+            Action::Activate => activate(record, clock)?,
+            Action::Revoke(code) => revoke(record, code, clock)?,
             Action::Destroy => {
                 record.state = destroyed(record.state)?;
                 record.material = [0; 32];
@@ -105,7 +107,9 @@ impl<'a> KeyBox<'a> {
 
     fn create(&mut self, wanted: Wanted, fresh: &[u8]) -> Result<Success, Reason> {
         let (total, unit) = wanted.limit.map_or((0, 0), |limit| (limit.total, limit.unit));
-        let key = Record { length: wanted.length, mask: wanted.mask, total, unit, ..Record::default() };
+        let (activation, deactivation) = (wanted.activation.unwrap_or(0), wanted.deactivation.unwrap_or(0));
+        let Wanted { length, mask, .. } = wanted;
+        let key = Record { length, mask, total, unit, activation, deactivation, ..Record::default() };
         self.issue(key, fresh).map(Success::Created)
     }
 
@@ -122,7 +126,7 @@ impl<'a> KeyBox<'a> {
         Ok(Success::Rekeyed(new))
     }
 
-    /// Puts a new key with these attributes and links into its place, and gives its serial.
+    /// Puts a new key with these attributes, dates and links into its place, and gives its serial.
     fn issue(&mut self, key: Record, fresh: &[u8]) -> Result<u32, Reason> {
         let place = self.place_for_new().ok_or(Reason::ServerLimitExceeded)?;
         let serial = self.table.last.checked_add(1).ok_or(Reason::ServerLimitExceeded)?;
@@ -166,16 +170,31 @@ fn allocate(record: &mut Record, amount: u64) -> Result<(), Reason> {
     Ok(())
 }
 
-fn activated(state: u8) -> Result<u8, Reason> {
-    match state {
-        1 => Ok(2),
-        _ => Err(Reason::WrongKeyLifecycleState),
+/// Pre-Active to Active, from now on; not a key whose deactivation date has come.
+fn activate(record: &mut Record, clock: i64) -> Result<(), Reason> {
+    if record.state != 1 || has_come(record.deactivation, clock) {
+        return Err(Reason::WrongKeyLifecycleState);
     }
+    record.state = 2;
+    record.activation = clock;
+    Ok(())
+}
+
+/// Only a Revoke that is no compromise sets the deactivation date.
+fn revoke(record: &mut Record, code: u32, clock: i64) -> Result<(), Reason> {
+    record.state = revoked(record.state, code)?;
+    if !is_compromise(code) {
+        record.deactivation = clock;
+    }
+    Ok(())
+}
+
+fn is_compromise(code: u32) -> bool {
+    [2, 3].contains(&code)
 }
 
 fn revoked(state: u8, code: u32) -> Result<u8, Reason> {
-    let compromise = [2, 3].contains(&code);
-    match (compromise, state) {
+    match (is_compromise(code), state) {
         (true, 1..=3) => Ok(4),
         (true, 5) => Ok(6),
         (false, 2) => Ok(3),

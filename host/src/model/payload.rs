@@ -19,6 +19,8 @@ pub struct Wanted {
     pub length: u16,
     pub mask: u32,
     pub limit: Option<Limit>,
+    pub activation: Option<i64>,
+    pub deactivation: Option<i64>,
 }
 
 /// A usage limit.
@@ -101,20 +103,42 @@ fn read_create(payload: &[Item]) -> Option<Wanted> {
     if object_type.enumeration(OBJECT_TYPE)? != 2 {
         return None;
     }
-    match attributes.structure(ATTRIBUTES)? {
-        [algorithm, length, mask] => read_wanted([algorithm, length, mask], None),
-        [algorithm, length, mask, limits] => read_wanted([algorithm, length, mask], Some(read_limits(limits)?)),
-        _ => None,
-    }
+    read_wanted(attributes.structure(ATTRIBUTES)?)
 }
 
-/// Cryptographic Algorithm = 3, Cryptographic Length, Cryptographic Usage Mask
-fn read_wanted([algorithm, length, mask]: [&Item; 3], limit: Option<Limit>) -> Option<Wanted> {
+/// Cryptographic Algorithm = 3, Cryptographic Length, Cryptographic Usage Mask, [Usage Limits], [Activation Date],
+/// [Deactivation Date]; deactivation is not before activation
+fn read_wanted(attributes: &[Item]) -> Option<Wanted> {
+    let [algorithm, length, mask, rest @ ..] = attributes else {
+        return None;
+    };
     let algorithm = algorithm.enumeration(CRYPTOGRAPHIC_ALGORITHM)?;
     let length = length.integer(CRYPTOGRAPHIC_LENGTH)?;
     let mask = mask.integer(CRYPTOGRAPHIC_USAGE_MASK)?;
     let allowed = algorithm == 3 && [128, 192, 256].contains(&length) && (0..=0x00FF_FFFF).contains(&mask);
-    allowed.then_some(Wanted { length: length as u16, mask: mask as u32, limit })
+    let (limit, rest) = read_optional(USAGE_LIMITS, rest, read_limits)?;
+    let (activation, rest) = read_optional(ACTIVATION_DATE, rest, |date| read_date(date, ACTIVATION_DATE))?;
+    let (deactivation, rest) = read_optional(DEACTIVATION_DATE, rest, |date| read_date(date, DEACTIVATION_DATE))?;
+    let in_order = match (activation, deactivation) {
+        (Some(activation), Some(deactivation)) => activation <= deactivation,
+        _ => true,
+    };
+    let wanted = Wanted { length: length as u16, mask: mask as u32, limit, activation, deactivation };
+    (allowed && in_order && rest.is_empty()).then_some(wanted)
+}
+
+/// What an item that may be missing holds, and what follows it; nothing if it is there and holds something else.
+fn read_optional<T>(tag: u32, items: &[Item], read: impl Fn(&Item) -> Option<T>) -> Option<(Option<T>, &[Item])> {
+    match items {
+        [first, rest @ ..] if first.tag == tag => Some((Some(read(first)?), rest)),
+        _ => Some((None, items)),
+    }
+}
+
+/// A date to be set: from 1 up
+fn read_date(date: &Item, tag: u32) -> Option<i64> {
+    let date = date.date_time(tag)?;
+    (date >= 1).then_some(date)
 }
 
 /// Usage Limits { Total, Unit }

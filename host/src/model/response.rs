@@ -61,7 +61,7 @@ fn payload(success: &Success) -> Vec<Item> {
     }
 }
 
-/// Algorithm, length, mask, State, Usage Limits if any, Links: replaced, then replacement
+/// Algorithm, length, mask, State, the dates that are set, Usage Limits if any, Links: replaced, then replacement
 fn attributes(record: &Record) -> Vec<Item> {
     let mut fields = vec![
         enumeration(CRYPTOGRAPHIC_ALGORITHM, 3),
@@ -69,6 +69,11 @@ fn attributes(record: &Record) -> Vec<Item> {
         integer(CRYPTOGRAPHIC_USAGE_MASK, record.mask as i32),
         enumeration(STATE, u32::from(record.state)),
     ];
+    for (tag, date) in [(ACTIVATION_DATE, record.activation), (DEACTIVATION_DATE, record.deactivation)] {
+        if date != 0 {
+            fields.push(Item { tag, value: Value::DateTime(date) });
+        }
+    }
     if record.unit != 0 {
         let limits = vec![
             long_integer(USAGE_LIMITS_TOTAL, record.total as i64),

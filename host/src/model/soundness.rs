@@ -16,9 +16,8 @@ pub struct Rule {
 pub const SIZE_RULE: &str = "size";
 
 /// All other rules.
-pub const RULES: [Rule; 20] = [
+pub const RULES: [Rule; 23] = [
     Rule { name: "place count", kept: |table| table.place_count == 64 },
-    Rule { name: "lead zeros", kept: |table| table.lead_zeros == 0 },
     Rule { name: "free line", kept: |table| table.places.iter().all(|record| !record.is_free() || line_zero(record)) },
     Rule { name: "free body", kept: |table| table.places.iter().all(|record| !record.is_free() || body_zero(record)) },
     Rule { name: "body zeros", kept: |table| table.standing().all(|record| record.zeros == 0) },
@@ -37,6 +36,13 @@ pub const RULES: [Rule; 20] = [
     Rule { name: "replacement", kept: |table| table.standing().all(|record| replacement_is_above(record, table.last)) },
     Rule { name: "replaced names back", kept: replaced_names_back },
     Rule { name: "replacement names back", kept: replacement_names_back },
+    Rule { name: "dates not negative", kept: |table| table.standing().all(dates_not_negative) },
+    Rule { name: "latest clock not negative", kept: |table| table.latest >= 0 },
+    Rule { name: "dates in order", kept: |table| table.standing().all(dates_in_order) },
+    Rule {
+        name: "Active has begun",
+        kept: |table| table.standing().all(|record| active_has_begun(record, table.latest)),
+    },
 ];
 
 /// The names of all rules, in the order in which they are looked at.
@@ -59,7 +65,8 @@ fn line_zero(record: &Record) -> bool {
 }
 
 fn body_zero(record: &Record) -> bool {
-    record.total == 0 && record.count == 0 && record.mask == 0 && record.zeros == 0 && record.material == [0; 32]
+    let numbers = [record.total, record.count, u64::from(record.mask), u64::from(record.zeros)];
+    numbers == [0; 4] && record.material == [0; 32] && record.activation == 0 && record.deactivation == 0
 }
 
 fn serials_distinct(table: &Table) -> bool {
@@ -108,4 +115,18 @@ fn replacement_names_back(table: &Table) -> bool {
         let named = table.standing().filter(|other| other.serial == record.replacement);
         named.into_iter().all(|other| other.replaced == record.serial)
     })
+}
+
+fn dates_not_negative(record: &Record) -> bool {
+    record.activation >= 0 && record.deactivation >= 0
+}
+
+/// Deactivation is not before activation where both are set.
+fn dates_in_order(record: &Record) -> bool {
+    record.activation == 0 || record.deactivation == 0 || record.deactivation >= record.activation
+}
+
+/// A set activation date of an Active key is at most the latest clock.
+fn active_has_begun(record: &Record, latest: i64) -> bool {
+    record.state != 2 || record.activation == 0 || record.activation <= latest
 }

@@ -3,19 +3,21 @@
 
 /// Places in a table.
 pub const PLACES: usize = 64;
+/// Bytes of a body.
+const BODY: usize = 72;
 /// Bytes of a table.
-pub const SIZE: usize = 16 + PLACES * 16 + PLACES * 56;
+pub const SIZE: usize = 16 + PLACES * 16 + PLACES * BODY;
 
-/// Lead, and the record of each place.
+/// Lead with the latest clock seen, and the record of each place.
 #[derive(Clone, Debug, PartialEq)]
 pub struct Table {
     pub last: u32,
     pub place_count: u32,
-    pub lead_zeros: u64,
+    pub latest: i64,
     pub places: Vec<Record>,
 }
 
-/// Line and body of one place; serial 0 means free.
+/// Line and body of one place; serial 0 means free, and a date of 0 is not set.
 #[derive(Clone, Debug, Default, PartialEq)]
 pub struct Record {
     pub serial: u32,
@@ -29,6 +31,8 @@ pub struct Record {
     pub mask: u32,
     pub zeros: u32,
     pub material: [u8; 32],
+    pub activation: i64,
+    pub deactivation: i64,
 }
 
 impl Record {
@@ -38,9 +42,9 @@ impl Record {
 }
 
 impl Table {
-    /// A table with nothing issued.
+    /// A table with nothing issued and no clock seen.
     pub fn blank() -> Table {
-        Table { last: 0, place_count: 64, lead_zeros: 0, places: vec![Record::default(); PLACES] }
+        Table { last: 0, place_count: 64, latest: 0, places: vec![Record::default(); PLACES] }
     }
 
     /// The records that stand: those of the places that are not free.
@@ -61,8 +65,8 @@ impl Table {
         Table {
             last: number(lead, 0, 4) as u32,
             place_count: number(lead, 4, 4) as u32,
-            lead_zeros: number(lead, 8, 8),
-            places: lines.chunks(16).zip(bodies.chunks(56)).map(|(line, body)| decode_record(line, body)).collect(),
+            latest: number(lead, 8, 8) as i64,
+            places: lines.chunks(16).zip(bodies.chunks(BODY)).map(|(line, body)| decode_record(line, body)).collect(),
         }
     }
 
@@ -71,7 +75,7 @@ impl Table {
         let mut bytes = Vec::new();
         bytes.extend(self.last.to_be_bytes());
         bytes.extend(self.place_count.to_be_bytes());
-        bytes.extend(self.lead_zeros.to_be_bytes());
+        bytes.extend(self.latest.to_be_bytes());
         self.places.iter().for_each(|record| encode_line(record, &mut bytes));
         self.places.iter().for_each(|record| encode_body(record, &mut bytes));
         bytes
@@ -95,7 +99,9 @@ fn decode_record(line: &[u8], body: &[u8]) -> Record {
         count: number(body, 8, 8),
         mask: number(body, 16, 4) as u32,
         zeros: number(body, 20, 4) as u32,
-        material: body[24..56].try_into().expect("a body has 56 bytes"),
+        material: body[24..56].try_into().expect("a body has 72 bytes"),
+        activation: number(body, 56, 8) as i64,
+        deactivation: number(body, 64, 8) as i64,
     }
 }
 
@@ -114,4 +120,6 @@ fn encode_body(record: &Record, bytes: &mut Vec<u8>) {
     bytes.extend(record.mask.to_be_bytes());
     bytes.extend(record.zeros.to_be_bytes());
     bytes.extend(record.material);
+    bytes.extend(record.activation.to_be_bytes());
+    bytes.extend(record.deactivation.to_be_bytes());
 }

@@ -1,12 +1,14 @@
 //! The tags and operation codes of KMIP 2.1 that the box knows.
 //! Assumes nothing.
 
+pub const ACTIVATION_DATE: u32 = 0x420001;
 pub const BATCH_COUNT: u32 = 0x42000D;
 pub const BATCH_ERROR_CONTINUATION_OPTION: u32 = 0x42000E;
 pub const BATCH_ITEM: u32 = 0x42000F;
 pub const CRYPTOGRAPHIC_ALGORITHM: u32 = 0x420028;
 pub const CRYPTOGRAPHIC_LENGTH: u32 = 0x42002A;
 pub const CRYPTOGRAPHIC_USAGE_MASK: u32 = 0x42002C;
+pub const DEACTIVATION_DATE: u32 = 0x42002F;
 pub const KEY_BLOCK: u32 = 0x420040;
 pub const KEY_FORMAT_TYPE: u32 = 0x420042;
 pub const KEY_MATERIAL: u32 = 0x420043;

@@ -141,6 +141,13 @@ impl Item {
         }
     }
 
+    pub fn date_time(&self, tag: u32) -> Option<i64> {
+        match self.value {
+            Value::DateTime(number) if self.tag == tag => Some(number),
+            _ => None,
+        }
+    }
+
     pub fn bytes(&self, tag: u32) -> Option<&[u8]> {
         match &self.value {
             Value::Bytes(bytes) if self.tag == tag => Some(bytes),

@@ -2,7 +2,7 @@
 //! Starts from a sound table and writes only when an item succeeds.
 
 use super::request::{BatchItem, Order, Target, Unusable, Wanted};
-use super::stored::{Line, Table, Usage};
+use super::stored::{Dates, Line, Table, Usage};
 
 /// Why an item failed, with the number of the Result Reason.
 #[derive(Clone, Copy)]
@@ -21,34 +21,32 @@ pub enum Reason {
 pub enum Outcome {
     Created(u32),
     Named(u32),
-    Described(Line, Usage),
+    Described(Line, Usage, Dates),
     HandedOut(Line, [u8; 32]),
     Failed(Reason),
 }
 
-/// What an operation makes of states 1 to 6, in this order.
+/// What an operation that sets no date makes of states 1 to 6, in this order.
 type Moves = [Result<u8, Reason>; 6];
 
 const STUCK: Result<u8, Reason> = Err(Reason::WrongKeyLifecycleState);
 const GONE: Result<u8, Reason> = Err(Reason::ObjectDestroyed);
 
-const ACTIVATE: Moves = [Ok(2), STUCK, STUCK, STUCK, STUCK, STUCK];
 /// Revoke with codes 2 and 3.
 const COMPROMISE: Moves = [Ok(4), Ok(4), Ok(4), STUCK, Ok(6), STUCK];
-/// Revoke with the other codes.
-const REVOKE: Moves = [STUCK, Ok(3), STUCK, STUCK, STUCK, STUCK];
 const DESTROY: Moves = [Ok(5), STUCK, Ok(5), Ok(6), GONE, GONE];
 
-/// One request at work: the table, the fresh strip in parts, and the placeholder (0 if empty).
+/// One request at work: the table, the fresh strip in parts, the clock, and the placeholder (0 if empty).
 pub struct Session<'a> {
     table: Table<'a>,
     fresh: &'a [[u8; 32]],
+    now: u64,
     placeholder: u32,
 }
 
 impl<'a> Session<'a> {
-    pub fn new(table: Table<'a>, fresh: &'a [[u8; 32]]) -> Self {
-        Session { table, fresh, placeholder: 0 }
+    pub fn new(table: Table<'a>, fresh: &'a [[u8; 32]], now: u64) -> Self {
+        Session { table, fresh, now, placeholder: 0 }
     }
 
     /// Carries out the item that stands at this index of the batch.
@@ -69,9 +67,9 @@ impl<'a> Session<'a> {
             Order::Create(wanted) => self.create(wanted, fresh),
             Order::Rekey(target) => self.rekey(target, fresh),
             Order::Allocate(target, amount) => self.allocate(target, amount),
-            Order::Activate(target) => self.change_state(target, &ACTIVATE),
+            Order::Activate(target) => self.activate(target),
             Order::Revoke(target, 2 | 3) => self.change_state(target, &COMPROMISE),
-            Order::Revoke(target, _) => self.change_state(target, &REVOKE),
+            Order::Revoke(target, _) => self.deactivate(target),
             Order::Destroy(target) => self.change_state(target, &DESTROY),
             Order::Key(target) => {
                 let (place, line) = self.find(target)?;
@@ -82,7 +80,7 @@ impl<'a> Session<'a> {
             }
             Order::Attributes(target) => {
                 let (place, line) = self.find(target)?;
-                Ok(Outcome::Described(line, self.table.usage(place)))
+                Ok(Outcome::Described(line, self.table.usage(place), self.table.dates(place)))
             }
         }
     }
@@ -98,9 +96,9 @@ impl<'a> Session<'a> {
     }
 
     fn create(&mut self, wanted: Wanted, fresh: &[u8; 32]) -> Result<Outcome, Reason> {
-        let Wanted { length, mask, unit, total } = wanted;
+        let Wanted { length, mask, unit, total, dates } = wanted;
         let line = Line { serial: 0, state: 1, unit, length, replaced: 0, replacement: 0 };
-        let serial = self.issue(line, Usage { total, count: total, mask }, fresh)?;
+        let serial = self.issue(line, Usage { total, count: total, mask }, dates, fresh)?;
         Ok(Outcome::Created(serial))
     }
 
@@ -112,18 +110,18 @@ impl<'a> Session<'a> {
         if line.replacement != 0 {
             return Err(Reason::PermissionDenied);
         }
-        let usage = self.table.usage(place);
+        let (usage, dates) = (self.table.usage(place), self.table.dates(place));
         let new = Line { state: 1, replaced: line.serial, ..line };
-        let serial = self.issue(new, Usage { count: usage.total, ..usage }, fresh)?;
+        let serial = self.issue(new, Usage { count: usage.total, ..usage }, dates, fresh)?;
         self.table.set_line(place, Line { replacement: serial, ..line });
         Ok(Outcome::Named(serial))
     }
 
     /// Gives the new record the next serial and the place due to it, and sets the placeholder.
-    fn issue(&mut self, line: Line, usage: Usage, fresh: &[u8; 32]) -> Result<u32, Reason> {
+    fn issue(&mut self, line: Line, usage: Usage, dates: Dates, fresh: &[u8; 32]) -> Result<u32, Reason> {
         let serial = self.table.last().checked_add(1).ok_or(Reason::ServerLimitExceeded)?;
         let place = self.table.place_for_new().ok_or(Reason::ServerLimitExceeded)?;
-        self.table.put(place, Line { serial, ..line }, usage, fresh);
+        self.table.put(place, Line { serial, ..line }, usage, dates, fresh);
         self.placeholder = serial;
         Ok(serial)
     }
@@ -138,6 +136,30 @@ impl<'a> Session<'a> {
         }
         let count = self.table.usage(place).count.checked_sub(amount).ok_or(Reason::UsageLimitExceeded)?;
         self.table.set_count(place, count);
+        Ok(Outcome::Named(line.serial))
+    }
+
+    /// Pre-Active to Active, as of now, unless the deactivation date has been reached.
+    fn activate(&mut self, target: Target) -> Result<Outcome, Reason> {
+        let (place, line) = self.find(target)?;
+        let dates = self.table.dates(place);
+        if line.state != 1 || dates.ended_by(self.now) {
+            return Err(Reason::WrongKeyLifecycleState);
+        }
+        self.table.set_line(place, Line { state: 2, ..line });
+        self.table.set_dates(place, Dates { activation: self.now, ..dates });
+        Ok(Outcome::Named(line.serial))
+    }
+
+    /// Active to Deactivated, as of now: Revoke with codes other than 2 and 3.
+    fn deactivate(&mut self, target: Target) -> Result<Outcome, Reason> {
+        let (place, line) = self.find(target)?;
+        if line.state != 2 {
+            return Err(Reason::WrongKeyLifecycleState);
+        }
+        let dates = self.table.dates(place);
+        self.table.set_line(place, Line { state: 3, ..line });
+        self.table.set_dates(place, Dates { deactivation: self.now, ..dates });
         Ok(Outcome::Named(line.serial))
     }
 

@@ -2,6 +2,7 @@
 //! Starts from well-formed TTLV.
 
 use super::items::Fields;
+use super::stored::Dates;
 
 /// A request whose frame is right.
 pub struct Frame<'a> {
@@ -40,6 +41,7 @@ pub struct Wanted {
     pub mask: u32,
     pub unit: u8,
     pub total: u64,
+    pub dates: Dates,
 }
 
 /// Why an item's payload does not give an order.
@@ -148,13 +150,14 @@ impl Wanted {
         let algorithm = attributes.word(0x42002805)?;
         let length = attributes.word(0x42002A02)?;
         let mask = attributes.word(0x42002C02)?;
-        let (total, unit) = if attributes.is_empty() { (0, 0) } else { read_limits(&mut attributes)? };
+        let (total, unit) = if attributes.next_has_tag(0x420095) { read_limits(&mut attributes)? } else { (0, 0) };
+        let dates = read_dates(&mut attributes)?;
         let allowed = object_type == 2
             && algorithm == 3
             && matches!(length, 128 | 192 | 256)
             && mask <= 0x00FF_FFFF
             && attributes.is_empty();
-        allowed.then_some(Wanted { length: length as u16, mask, unit, total })
+        allowed.then_some(Wanted { length: length as u16, mask, unit, total, dates })
     }
 }
 
@@ -164,4 +167,22 @@ fn read_limits(attributes: &mut Fields) -> Option<(u64, u8)> {
     let unit = limits.word(0x42009805)?;
     let allowed = limits.is_empty() && (1..=super::stored::GREATEST_TOTAL).contains(&total) && matches!(unit, 1 | 2);
     allowed.then_some((total, unit as u8))
+}
+
+fn read_dates(attributes: &mut Fields) -> Option<Dates> {
+    let activation = read_date(attributes, 0x42000109)?;
+    let deactivation = read_date(attributes, 0x42002F09)?;
+    let dates = Dates { activation, deactivation };
+    dates.in_order().then_some(dates)
+}
+
+/// The date of this name, or 0 if there is none; nothing if it is no Date-Time or below 1.
+fn read_date(attributes: &mut Fields, name: u32) -> Option<u64> {
+    if !attributes.next_has_tag(name >> 8) {
+        return Some(0);
+    }
+    match attributes.long(name)? {
+        date @ 1.. => Some(date as u64),
+        _ => None,
+    }
 }

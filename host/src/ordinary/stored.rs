@@ -6,7 +6,13 @@ pub const GREATEST_TOTAL: u64 = 1_000_000_000_000;
 
 const LEAD: usize = 16;
 const LINE: usize = 16;
-const BODY: usize = 56;
+const BODY: usize = 72;
+
+/// Where a body has its material, and its dates.
+const MATERIAL: std::ops::Range<usize> = 24..56;
+const DATES: std::ops::Range<usize> = 56..BODY;
+/// Where the lead has the latest clock seen.
+const LATEST: std::ops::Range<usize> = 8..LEAD;
 
 /// The parts of a table, lent for writing.
 pub struct Table<'a> {
@@ -26,12 +32,48 @@ pub struct Line {
     pub replacement: u32,
 }
 
-/// A body without its material.
+/// What a body says of the usage of its key.
 #[derive(Clone, Copy)]
 pub struct Usage {
     pub total: u64,
     pub count: u64,
     pub mask: u32,
+}
+
+/// The dates of a body; 0 is not set. In a sound table, and of a request, none has its highest bit set.
+#[derive(Clone, Copy)]
+pub struct Dates {
+    pub activation: u64,
+    pub deactivation: u64,
+}
+
+impl Dates {
+    fn read(body: &[u8; BODY]) -> Self {
+        let both = body.last_chunk().map_or(0, |dates| u128::from_be_bytes(*dates));
+        Dates { activation: (both >> 64) as u64, deactivation: both as u64 }
+    }
+
+    /// Whether deactivation is not before activation, where both are set.
+    pub fn in_order(self) -> bool {
+        self.deactivation == 0 || self.activation <= self.deactivation
+    }
+
+    fn begun_by(self, now: u64) -> bool {
+        (1..=now).contains(&self.activation)
+    }
+
+    pub fn ended_by(self, now: u64) -> bool {
+        (1..=now).contains(&self.deactivation)
+    }
+
+    /// The state that a key of this state has when the clock is `now`.
+    fn state_at(self, now: u64, state: u8) -> u8 {
+        match state {
+            1 if self.begun_by(now) => self.state_at(now, 2),
+            2 if self.ended_by(now) => 3,
+            _ => state,
+        }
+    }
 }
 
 impl Line {
@@ -57,7 +99,7 @@ impl Line {
     }
 }
 
-/// The eight-byte words of a body: total, count, mask with the zeros, and four of material.
+/// The eight-byte words of a body: total, count, mask with the zeros, four of material, and the two dates.
 fn words(body: &[u8; BODY]) -> [u64; BODY / 8] {
     let mut words = [0; BODY / 8];
     for (word, bytes) in words.iter_mut().zip(body.as_chunks::<8>().0) {
@@ -83,6 +125,21 @@ impl<'a> Table<'a> {
         (u128::from_be_bytes(*self.lead) >> 96) as u32
     }
 
+    /// Moves the stored clock on to this one, unless it is later already, and makes the changes of state that are due
+    /// by it. Gives the clock that is stored then.
+    pub fn advance(&mut self, clock: u64) -> u64 {
+        let latest = u128::from_be_bytes(*self.lead) as u64;
+        let now = clock.max(latest);
+        self.lead[LATEST].copy_from_slice(&now.to_be_bytes());
+        for (line, body) in self.lines.iter_mut().zip(self.bodies.iter()) {
+            let state = line[4];
+            if matches!(state, 1 | 2) {
+                line[4] = Dates::read(body).state_at(now, state);
+            }
+        }
+        now
+    }
+
     pub fn line(&self, place: usize) -> Line {
         Line::read(&self.lines[place % PLACES])
     }
@@ -94,8 +151,12 @@ impl<'a> Table<'a> {
 
     pub fn material(&self, place: usize) -> [u8; 32] {
         let mut material = [0; 32];
-        material.copy_from_slice(&self.bodies[place % PLACES][24..]);
+        material.copy_from_slice(&self.bodies[place % PLACES][MATERIAL]);
         material
+    }
+
+    pub fn dates(&self, place: usize) -> Dates {
+        Dates::read(&self.bodies[place % PLACES])
     }
 
     pub fn set_line(&mut self, place: usize, line: Line) {
@@ -107,19 +168,25 @@ impl<'a> Table<'a> {
     }
 
     pub fn clear_material(&mut self, place: usize) {
-        self.bodies[place % PLACES][24..].fill(0);
+        self.bodies[place % PLACES][MATERIAL].fill(0);
+    }
+
+    pub fn set_dates(&mut self, place: usize, dates: Dates) {
+        let both = u128::from(dates.activation) << 64 | u128::from(dates.deactivation);
+        self.bodies[place % PLACES][DATES].copy_from_slice(&both.to_be_bytes());
     }
 
     /// Writes a whole new record, which becomes the last issued. Of `fresh` the first `length / 8` bytes are taken.
-    pub fn put(&mut self, place: usize, line: Line, usage: Usage, fresh: &[u8; 32]) {
+    pub fn put(&mut self, place: usize, line: Line, usage: Usage, dates: Dates, fresh: &[u8; 32]) {
         self.lead[..4].copy_from_slice(&line.serial.to_be_bytes());
         self.set_line(place, line);
+        self.set_dates(place, dates);
         let body = &mut self.bodies[place % PLACES];
         body[..8].copy_from_slice(&usage.total.to_be_bytes());
         body[8..16].copy_from_slice(&usage.count.to_be_bytes());
         body[16..24].copy_from_slice(&(u64::from(usage.mask) << 32).to_be_bytes());
         let bytes = usize::from(line.length / 8);
-        for (index, (byte, fresh)) in body[24..].iter_mut().zip(fresh).enumerate() {
+        for (index, (byte, fresh)) in body[MATERIAL].iter_mut().zip(fresh).enumerate() {
             *byte = if index < bytes { *fresh } else { 0 };
         }
     }
@@ -144,8 +211,10 @@ pub fn sound(table: &[u8]) -> bool {
     };
     let lead = u128::from_be_bytes(*lead);
     let last = (lead >> 96) as u32;
-    lead << 32 == (PLACES as u128) << 96
-        && lines.iter().zip(bodies).all(|(line, body)| sound_place(line, body, last))
+    let latest = lead as u64;
+    (lead >> 64) as u32 == PLACES as u32
+        && latest >> 63 == 0
+        && lines.iter().zip(bodies).all(|(line, body)| sound_place(line, body, last, latest))
         && sound_links(lines)
 }
 
@@ -161,18 +230,20 @@ fn parts(table: &[u8]) -> Option<Parts<'_>> {
     }
 }
 
-fn sound_place(line: &[u8; LINE], body: &[u8; BODY], last: u32) -> bool {
+fn sound_place(line: &[u8; LINE], body: &[u8; BODY], last: u32, latest: u64) -> bool {
     let line_bytes = line;
     let line = Line::read(line);
-    let [total, count, mask, material @ ..] = words(body);
+    let words = words(body);
     if line.serial == 0 {
-        return u128::from_be_bytes(*line_bytes) == 0 && total | count | mask | any_bit(&material) == 0;
+        return u128::from_be_bytes(*line_bytes) == 0 && any_bit(&words) == 0;
     }
+    let [total, count, mask, material @ .., activation, deactivation] = words;
     line.serial <= last
         && matches!(line.state, 1..=6)
         && mask & 0xFF00_0000_FFFF_FFFF == 0
         && sound_limit(line.unit, total, count)
         && sound_material(line.state, line.length, &material)
+        && sound_dates(line.state, Dates { activation, deactivation }, latest)
         && line.replaced < line.serial
         && (line.replacement == 0 || (line.serial < line.replacement && line.replacement <= last))
 }
@@ -194,6 +265,10 @@ fn sound_material(state: u8, length: u16, material: &[u64; 4]) -> bool {
     };
     let kept = if state < 5 { used } else { 0 };
     any_bit(&material[kept..]) == 0
+}
+
+fn sound_dates(state: u8, dates: Dates, latest: u64) -> bool {
+    (dates.activation | dates.deactivation) >> 63 == 0 && dates.in_order() && (state != 2 || dates.activation <= latest)
 }
 
 fn any_bit(words: &[u64]) -> u64 {

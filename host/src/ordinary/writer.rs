@@ -1,9 +1,9 @@
 //! Writing the response into the output.
-//! The room of 4,824 bytes is enough for every response, so no write falls outside of it.
+//! The room of 5,336 bytes is enough for every response, so no write falls outside of it.
 
 use super::act::Outcome;
 use super::request::BatchItem;
-use super::stored::{Line, Usage};
+use super::stored::{Dates, Line, Usage};
 
 /// The output with what has been written so far.
 pub struct Writer<'a> {
@@ -71,13 +71,13 @@ impl<'a> Writer<'a> {
     }
 
     /// The response header; gives the mark for setting its count.
-    pub fn response_header(&mut self, clock: i64) -> usize {
+    pub fn response_header(&mut self, now: u64) -> usize {
         let header = self.open(0x42007A01);
         let version = self.open(0x42006901);
         self.word(0x42006A02, 2);
         self.word(0x42006B02, 1);
         self.close(version);
-        self.long(0x42009209, clock as u64);
+        self.long(0x42009209, now);
         self.word(0x42000D02, 0);
         self.close(header);
         self.at - 8
@@ -112,9 +112,9 @@ impl<'a> Writer<'a> {
                 self.serial(0x42009407, *serial);
             }
             Outcome::Named(serial) => self.serial(0x42009407, *serial),
-            Outcome::Described(line, usage) => {
+            Outcome::Described(line, usage, dates) => {
                 self.serial(0x42009407, line.serial);
-                self.attributes(line, usage);
+                self.attributes(line, usage, dates);
             }
             Outcome::HandedOut(line, material) => {
                 self.word(0x42005705, 2);
@@ -126,12 +126,14 @@ impl<'a> Writer<'a> {
         self.close(payload);
     }
 
-    fn attributes(&mut self, line: &Line, usage: &Usage) {
+    fn attributes(&mut self, line: &Line, usage: &Usage, dates: &Dates) {
         let attributes = self.open(0x42012501);
         self.word(0x42002805, 3);
         self.word(0x42002A02, u32::from(line.length));
         self.word(0x42002C02, usage.mask);
         self.word(0x42008D05, u32::from(line.state));
+        self.date(0x42000109, dates.activation);
+        self.date(0x42002F09, dates.deactivation);
         if line.unit != 0 {
             let limits = self.open(0x42009501);
             self.long(0x42009703, usage.total);
@@ -142,6 +144,13 @@ impl<'a> Writer<'a> {
         self.link(0x107, line.replaced);
         self.link(0x106, line.replacement);
         self.close(attributes);
+    }
+
+    /// A date, if it is set.
+    fn date(&mut self, name: u32, date: u64) {
+        if date != 0 {
+            self.long(name, date);
+        }
     }
 
     /// A Symmetric Key with its Key Block, in the format Raw.

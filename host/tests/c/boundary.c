@@ -140,6 +140,26 @@ static void no_buffers(void)
     expect_untouched("no request");
 }
 
+/* "One below 1 is refused"; "an earlier one counts as that" */
+static void clocks(void)
+{
+    static const int64_t below[3] = {0, -1, INT64_MIN};
+    size_t i;
+    for (i = 0; i < 3; i++) {
+        lay_out();
+        expect(junctionmoth_serve(request, sizeof sample, table, JUNCTIONMOTH_TABLE_SIZE, strip, JUNCTIONMOTH_STRIP_SIZE,
+                                  below[i], out, sizeof out, &length) == JUNCTIONMOTH_REFUSED_CLOCK, "clock below 1");
+        expect_untouched("clock below 1");
+    }
+    lay_out();
+    for (i = 5; i >= 3; i--) {
+        expect(junctionmoth_serve(request, sizeof sample, table, JUNCTIONMOTH_TABLE_SIZE, strip, JUNCTIONMOTH_STRIP_SIZE,
+                                  (int64_t)i, out, sizeof out, &length) == JUNCTIONMOTH_ANSWERED, "clocks 5, 4 and 3");
+        expect(table[15] == 5, "5 is the latest clock");
+        expect(out[71] == 5, "and the Time Stamp");
+    }
+}
+
 static void answered(void)
 {
     lay_out();
@@ -159,6 +179,7 @@ int main(void)
     frames();
     other_option();
     no_buffers();
+    clocks();
     answered();
     return failures == 0 ? 0 : 1;
 }

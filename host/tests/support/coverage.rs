@@ -1,13 +1,13 @@
-//! What occurred in a run: refusals, operation by result, rules of soundness broken alone, changes of state.
+//! What occurred in a run: refusals, operation by result, rules of soundness broken alone, changes of state, dates.
 //! Everything is read off the calls' inputs and effects, not told by an engine.
 
 use super::{Case, Effect};
 use junctionmoth::model::frame::{self, BatchItem};
 use junctionmoth::model::operations::identifier;
 use junctionmoth::model::operations::Reason::{self, *};
-use junctionmoth::model::payload::{self, Order, Target};
+use junctionmoth::model::payload::{self, Action, Order, Target};
 use junctionmoth::model::soundness;
-use junctionmoth::model::table::Table;
+use junctionmoth::model::table::{Record, Table};
 use junctionmoth::model::tags::*;
 use junctionmoth::model::ttlv::{self, Item};
 use junctionmoth::Refusal;
@@ -33,11 +33,14 @@ const REASONS: [(&str, Option<u32>, &[Reason]); 9] = [
 /// The changes of state that one item can bring about: these must occur, and no others.
 const CHANGES: [(u8, u8); 9] = [(1, 2), (1, 4), (1, 5), (2, 3), (2, 4), (3, 4), (3, 5), (4, 6), (5, 6)];
 
+/// The changes of state that dates can bring about before the first item: these must occur, and no others.
+const DUE: [(u8, u8); 3] = [(1, 2), (2, 3), (1, 3)];
+
 /// Things that must occur beside those lists.
-const EVENTS: [&str; 13] = [
+const EVENTS: [&str; 31] = [
     "answered with fewer items than asked",
     "batch of 16 answered whole",
-    "response of 4,824 bytes",
+    "response of 5,336 bytes",
     "request of 4,096 bytes answered",
     "new record in a free place",
     "new record in a destroyed place",
@@ -48,15 +51,35 @@ const EVENTS: [&str; 13] = [
     "placeholder emptied by a failure: Object Not Found",
     "identifier of a record in lower case: Object Not Found",
     "identifier of eight zeros: Object Not Found",
+    "clock of 1 answered",
+    "clock of 2^63 - 1 answered",
+    "clock earlier than the latest answered",
+    "clock equal to the latest answered",
+    "clock later than the latest answered",
+    "every item failed: clock stored",
+    "every item failed: due changes made",
+    "Create with an activation date alone",
+    "Create with a deactivation date alone",
+    "Create with both dates",
+    "Create with a date that has come: Pre-Active",
+    "Re-key of a key with dates",
+    "Activate over a date that was set",
+    "Activate past the deactivation date: Wrong Key Lifecycle State",
+    "Revoke over a deactivation date to come",
+    "Get Attributes with no date",
+    "Get Attributes with one date",
+    "Get Attributes with both dates",
 ];
 
 #[derive(Default)]
 pub struct Coverage {
     answered: u64,
     refused: BTreeMap<Refusal, u64>,
+    refused_below_1: BTreeMap<Refusal, u64>,
     results: BTreeMap<(Option<u32>, Option<u32>), u64>,
     rules: BTreeMap<&'static str, u64>,
     changes: BTreeMap<(u8, u8), u64>,
+    due: BTreeMap<(u8, u8), u64>,
     events: BTreeMap<&'static str, u64>,
     missing: Vec<String>,
 }
@@ -69,33 +92,78 @@ impl Coverage {
         }
         match effect.served {
             Ok(length) => self.count_answer(case, effect, length),
-            Err(refusal) => *self.refused.entry(refusal).or_default() += 1,
+            Err(refusal) => self.count_refusal(case.clock, refusal),
+        }
+    }
+
+    fn count_refusal(&mut self, clock: i64, refusal: Refusal) {
+        *self.refused.entry(refusal).or_default() += 1;
+        if clock < 1 {
+            *self.refused_below_1.entry(refusal).or_default() += 1;
+        } else {
+            assert_ne!(refusal, Refusal::Clock, "a clock from 1 up was refused");
         }
     }
 
     fn count_answer(&mut self, case: &Case, effect: &Effect, length: usize) {
         self.answered += 1;
         assert!(soundness::broken(&effect.table).is_empty(), "an answered call left an unsound table");
-        let results = results(&effect.out[..length]);
+        let response = &effect.out[..length];
+        let results = results(response);
         for &(operation, reason) in &results {
             let known = REASONS.iter().any(|&(_, listed, _)| listed == Some(operation));
             *self.results.entry((known.then_some(operation), reason)).or_default() += 1;
         }
         let asked = items_asked(&case.request);
-        self.count_targets(&case.table, &asked, &results);
+        let (before, after) = (Table::decode(&case.table), Table::decode(&effect.table));
+        let start = begun(&before, case.clock);
+        self.count_clock(case.clock, &before, &after, response);
+        self.count_due(&before, &start);
+        if results.iter().all(|(_, reason)| reason.is_some()) {
+            assert!(after == start, "items that failed changed something");
+            self.note_if("every item failed: clock stored", after.latest > before.latest);
+            self.note_if("every item failed: due changes made", after.places != before.places);
+        }
+        self.count_targets(&start, &asked, &results);
+        self.count_activate(&start, &asked[0], results[0]);
         let asked = asked.len();
         self.note_if("answered with fewer items than asked", results.len() < asked);
         self.note_if("batch of 16 answered whole", asked == 16 && results.len() == 16);
-        self.note_if("response of 4,824 bytes", length == 4824);
+        self.note_if("response of 5,336 bytes", length == 5336);
         self.note_if("request of 4,096 bytes answered", case.request.len() == 4096);
         if let ([result], 1) = (&results[..], asked) {
-            self.count_single(&Table::decode(&case.table), &Table::decode(&effect.table), *result);
+            self.count_single(&start, &after, *result);
         }
     }
 
-    /// Counts how the items named their records.
-    fn count_targets(&mut self, table: &[u8], asked: &[BatchItem], results: &[(u32, Option<u32>)]) {
-        let table = Table::decode(table);
+    /// Counts the clock of an answered call; the one that counts is stored, and is the Time Stamp.
+    fn count_clock(&mut self, given: i64, before: &Table, after: &Table, response: &[u8]) {
+        assert!(given >= 1, "a clock below 1 was answered");
+        let counts = given.max(before.latest);
+        assert_eq!((time_stamp(response), after.latest), (counts, counts), "another clock counted");
+        self.note_if("clock of 1 answered", given == 1);
+        self.note_if("clock of 2^63 - 1 answered", given == i64::MAX);
+        self.note_if("clock earlier than the latest answered", given < before.latest);
+        self.note_if("clock equal to the latest answered", given == before.latest);
+        self.note_if("clock later than the latest answered", given > before.latest);
+        for dates in dates_shown(response) {
+            self.note_if("Get Attributes with no date", dates == 0);
+            self.note_if("Get Attributes with one date", dates == 1);
+            self.note_if("Get Attributes with both dates", dates == 2);
+        }
+    }
+
+    /// Counts the changes of state before the first item.
+    fn count_due(&mut self, before: &Table, start: &Table) {
+        for (old, new) in before.places.iter().zip(&start.places) {
+            if old.state != new.state {
+                *self.due.entry((old.state, new.state)).or_default() += 1;
+            }
+        }
+    }
+
+    /// Counts how the items named their records. The table is the one that the first item meets.
+    fn count_targets(&mut self, table: &Table, asked: &[BatchItem], results: &[(u32, Option<u32>)]) {
         let mut issued = false;
         for (item, &(operation, reason)) in asked.iter().zip(results) {
             let not_found = reason == Some(ObjectNotFound as u32);
@@ -118,19 +186,66 @@ impl Coverage {
         }
     }
 
-    /// Counts what a request of one item did to the table.
+    /// Counts an Activate, first in its batch, of a Pre-Active key: it fails if the deactivation date has come, and
+    /// only then.
+    fn count_activate(&mut self, start: &Table, first: &BatchItem, (operation, reason): (u32, Option<u32>)) {
+        let order = payload::read(operation, &first.payload);
+        let Ok(Order::Target(Target::Identifier(text), Action::Activate)) = order else { return };
+        let named = start.standing().find(|record| identifier(record.serial) == text);
+        let Some(key) = named.filter(|record| record.state == 1) else { return };
+        let late = is_due(key.deactivation, start.latest);
+        assert_eq!(reason, late.then_some(WrongKeyLifecycleState as u32), "Activate of a Pre-Active key");
+        self.note_if("Activate past the deactivation date: Wrong Key Lifecycle State", late);
+    }
+
+    /// Counts what the one item of a request did to the table that it met.
     fn count_single(&mut self, before: &Table, after: &Table, result: (u32, Option<u32>)) {
         for (old, new) in before.places.iter().zip(&after.places) {
-            if old.serial == new.serial && old.state != new.state {
-                *self.changes.entry((old.state, new.state)).or_default() += 1;
+            if old.serial == new.serial {
+                self.count_change(old, new, after.latest);
+                continue;
             }
-            self.note_if("new record in a free place", old.is_free() && !new.is_free());
-            self.note_if("new record in a destroyed place", !old.is_free() && old.serial != new.serial);
+            self.note_if("new record in a free place", old.is_free());
+            self.note_if("new record in a destroyed place", !old.is_free());
+            match before.find(new.replaced) {
+                None => self.count_new_dates(new, after.latest),
+                Some(replaced) => {
+                    assert_eq!(dates(new), dates(replaced), "Re-key copies the dates");
+                    self.note_if("Re-key of a key with dates", dates(new) != (0, 0));
+                }
+            }
         }
         self.note_if("serial FFFFFFFF issued", before.last != u32::MAX && after.last == u32::MAX);
         let free = before.places.iter().any(|record| record.is_free());
         let limited = result.1 == Some(ServerLimitExceeded as u32);
         self.note_if("last serial FFFFFFFF with a free place: Server Limit Exceeded", limited && free);
+    }
+
+    /// Counts what an item did to a record. Activate and a Revoke that is no compromise set their date, and nothing
+    /// else does.
+    fn count_change(&mut self, old: &Record, new: &Record, clock: i64) {
+        let change = (old.state, new.state);
+        if old.state != new.state {
+            *self.changes.entry(change).or_default() += 1;
+        }
+        let expected = match change {
+            (1, 2) => (clock, old.deactivation),
+            (2, 3) => (old.activation, clock),
+            _ => dates(old),
+        };
+        assert_eq!(dates(new), expected, "the dates after a change of state {change:?}");
+        self.note_if("Activate over a date that was set", change == (1, 2) && old.activation != 0);
+        self.note_if("Revoke over a deactivation date to come", change == (2, 3) && old.deactivation > clock);
+    }
+
+    /// Counts the dates of a key that was created.
+    fn count_new_dates(&mut self, key: &Record, clock: i64) {
+        let (activation, deactivation) = dates(key);
+        self.note_if("Create with an activation date alone", activation != 0 && deactivation == 0);
+        self.note_if("Create with a deactivation date alone", activation == 0 && deactivation != 0);
+        self.note_if("Create with both dates", activation != 0 && deactivation != 0);
+        let due = is_due(activation, clock) || is_due(deactivation, clock);
+        self.note_if("Create with a date that has come: Pre-Active", due && key.state == 1);
     }
 
     pub fn note_if(&mut self, event: &'static str, occurred: bool) {
@@ -145,24 +260,37 @@ impl Coverage {
         for refusal in Refusal::ALL {
             let count = self.refused.get(&refusal).copied();
             self.line(refusal.to_string(), count);
+            let count = self.refused_below_1.get(&refusal).copied();
+            self.line(format!("{refusal}, the clock being below 1"), count);
         }
         self.report_results();
         for rule in soundness::names() {
             let count = self.rules.get(rule).copied();
             self.line(format!("unsound by this rule alone: {rule}"), count);
         }
-        for (old, new) in CHANGES {
-            let count = self.changes.remove(&(old, new));
-            self.line(format!("state {old} to {new}"), count);
-        }
-        let others: Vec<_> =
-            self.changes.keys().map(|change| format!("state change {change:?} is not listed")).collect();
-        self.missing.extend(others);
+        self.report_changes();
         for event in EVENTS {
             let count = self.events.get(event).copied();
             self.line(event.to_string(), count);
         }
         self.missing
+    }
+
+    fn report_changes(&mut self) {
+        for (old, new) in CHANGES {
+            let count = self.changes.remove(&(old, new));
+            self.line(format!("state {old} to {new}"), count);
+        }
+        for (old, new) in DUE {
+            let count = self.due.remove(&(old, new));
+            self.line(format!("state {old} to {new} by date"), count);
+        }
+        let others: Vec<_> =
+            self.changes.keys().map(|change| format!("state change {change:?} is not listed")).collect();
+        self.missing.extend(others);
+        let others: Vec<_> =
+            self.due.keys().map(|change| format!("state change {change:?} by date is not listed")).collect();
+        self.missing.extend(others);
     }
 
     fn report_results(&mut self) {
@@ -204,4 +332,48 @@ fn result(item: &Item) -> (u32, Option<u32>) {
 fn items_asked(request: &[u8]) -> Vec<BatchItem> {
     let message = ttlv::read(request).expect("an answered request is one well-formed item");
     frame::read(&message).expect("an answered request has a frame").items
+}
+
+/// Activation and deactivation date of a record.
+fn dates(record: &Record) -> (i64, i64) {
+    (record.activation, record.deactivation)
+}
+
+/// Whether a date is set, and at or before a clock.
+fn is_due(date: i64, clock: i64) -> bool {
+    (1..=clock).contains(&date)
+}
+
+/// The table that the first item meets: the clock that counts is stored, and what is due by it is done.
+fn begun(table: &Table, given: i64) -> Table {
+    let mut start = table.clone();
+    start.latest = given.max(table.latest);
+    for record in &mut start.places {
+        let begins = is_due(record.activation, start.latest);
+        let ends = is_due(record.deactivation, start.latest);
+        record.state = match (record.state, begins, ends) {
+            (1, true, true) | (2, _, true) => 3,
+            (1, true, false) => 2,
+            (state, _, _) => state,
+        };
+    }
+    start
+}
+
+/// The Time Stamp of a response.
+fn time_stamp(response: &[u8]) -> i64 {
+    let message = ttlv::read(response).expect("a response is one well-formed item");
+    let header = &message.structure(RESPONSE_MESSAGE).expect("a Response Message")[0];
+    let fields = header.structure(RESPONSE_HEADER).expect("a Response Header");
+    fields.iter().find_map(|field| field.date_time(TIME_STAMP)).expect("a Time Stamp")
+}
+
+/// How many dates each successful Get Attributes of a response shows.
+fn dates_shown(response: &[u8]) -> Vec<usize> {
+    let message = ttlv::read(response).expect("a response is one well-formed item");
+    let items = &message.structure(RESPONSE_MESSAGE).expect("a Response Message")[1..];
+    let payloads = items.iter().filter_map(|item| item.structure(BATCH_ITEM)?.last()?.structure(RESPONSE_PAYLOAD));
+    let attributes = payloads.filter_map(|payload| payload.last()?.structure(ATTRIBUTES));
+    let is_date = |field: &&Item| field.date_time(field.tag).is_some();
+    attributes.map(|fields| fields.iter().filter(is_date).count()).collect()
 }

@@ -44,9 +44,9 @@ pub struct Effect {
 }
 
 impl Case {
-    /// A call as the bench program makes it: a strip of the bytes 0 to 255 twice, clock 0, 4,824 bytes of room.
+    /// A call as the bench program makes it: a strip of the bytes 0 to 255 twice, clock 1, 5,336 bytes of room.
     pub fn new(request: Vec<u8>, table: Vec<u8>) -> Case {
-        Case { request, table, fresh: (0..STRIP).map(|at| at as u8).collect(), clock: 0, room: ROOM }
+        Case { request, table, fresh: (0..STRIP).map(|at| at as u8).collect(), clock: 1, room: ROOM }
     }
 
     /// Any case at all.
@@ -54,12 +54,12 @@ impl Case {
         let table = tables::sound(rng);
         let request = any_request(rng, &table);
         let fresh = if rng.one_in(60) { rng.pick(&[0, 1, 256, 511, 513, 1024]) } else { STRIP };
-        let any_clock = rng.next() as i64;
+        let clock = any_clock(rng, table.latest);
         Case {
             request,
             table: any_table(rng, &table),
             fresh: rng.bytes(fresh),
-            clock: rng.pick(&[0, 1, -1, i64::MIN, i64::MAX, any_clock, any_clock]),
+            clock,
             room: if rng.one_in(60) {
                 rng.pick(&[0, 1, 152, ROOM - 1])
             } else {
@@ -111,6 +111,27 @@ impl Case {
     }
 }
 
+/// A clock: around the latest seen, at the edges, or any; below 1 now and then.
+pub fn any_clock(rng: &mut Rng, latest: i64) -> i64 {
+    let any = rng.next() as i64;
+    if rng.one_in(12) {
+        return rng.pick(&[0, 0, -1, -latest, i64::MIN, any | i64::MIN]);
+    }
+    let step = rng.between(1, 30) as i64;
+    let clock = match rng.below(10) {
+        0 => 1,
+        1 => step,
+        2 => latest,
+        3 => latest - 1,
+        4 => latest - step,
+        5 => latest.saturating_add(1),
+        6 | 7 => latest.saturating_add(step),
+        8 => rng.pick(&[i64::MAX, i64::MAX - step]),
+        _ => any & i64::MAX,
+    };
+    clock.max(1)
+}
+
 fn any_request(rng: &mut Rng, table: &Table) -> Vec<u8> {
     let mut bytes = match rng.below(100) {
         0..=64 => requests::accepted(rng, table).encode(),
@@ -151,7 +172,7 @@ fn any_table(rng: &mut Rng, table: &Table) -> Vec<u8> {
             let at = rng.index(bytes.len());
             bytes[at] ^= 1 << rng.below(8);
         }
-        98 => bytes.resize(rng.pick(&[0, 1, 15, 16, 1040, 4623, 4625, 4680, 5648, 8192]), 0),
+        98 => bytes.resize(rng.pick(&[0, 1, 15, 16, 1040, 4624, 5647, 5649, 5656, 8192]), 0),
         _ => {
             let any = rng.bytes(bytes.len());
             bytes = rng.pick(&[any, vec![0; bytes.len()], vec![0xFF; bytes.len()]]);

@@ -48,7 +48,7 @@ fn payload(rng: &mut Rng, table: &Table, operation: u32) -> Vec<Node> {
     };
     let name = name.as_deref();
     match operation {
-        0x01 => creation(rng),
+        0x01 => creation(rng, table),
         0x11 => allocation(name, amount(rng, table, name)),
         0x13 => {
             let code = rng.between(1, 7) as u32;
@@ -73,7 +73,7 @@ fn fitting(rng: &mut Rng, table: &Table, operation: u32) -> Option<u32> {
     (!serials.is_empty()).then(|| rng.pick(&serials))
 }
 
-fn creation(rng: &mut Rng) -> Vec<Node> {
+fn creation(rng: &mut Rng, table: &Table) -> Vec<Node> {
     let any = rng.next() as i32;
     let length = rng.pick(&[128, 192, 256]);
     let mask = rng.pick(&[0, 4, 0x00FF_FFFF, any & 0x00FF_FFFF]);
@@ -85,8 +85,46 @@ fn creation(rng: &mut Rng) -> Vec<Node> {
         1 => create(length, rng.pick(&[0x0100_0000, -1, i32::MIN, i32::MAX]), limit),
         2 => create(length, mask, Some((rng.pick(&[0, -1, 1_000_000_000_001, i64::MIN, i64::MAX]), 1))),
         3 => create(length, mask, Some((total, rng.pick(&[0, 3, 257, u32::MAX])))),
-        _ => create(length, mask, limit),
+        4 => create_dated(length, mask, limit, wrong_dates(rng, table.latest)),
+        5..=14 => create(length, mask, limit),
+        _ => create_dated(length, mask, limit, right_dates(rng, table.latest)),
     }
+}
+
+/// A date around a clock, or at the edges.
+pub fn date_around(rng: &mut Rng, clock: i64) -> i64 {
+    let step = rng.between(1, 30) as i64;
+    let any = rng.next() as i64 & i64::MAX;
+    let near = [clock, clock - 1, clock - step, clock.saturating_add(1), clock.saturating_add(step)];
+    let near = rng.pick(&near);
+    rng.pick(&[near, near, near, near, step, 1, i64::MAX, any]).max(1)
+}
+
+/// Dates that a Create may have: one or both, in order, the same now and then.
+fn right_dates(rng: &mut Rng, clock: i64) -> (Option<i64>, Option<i64>) {
+    let (one, two) = (date_around(rng, clock), date_around(rng, clock));
+    let (first, last) = (one.min(two), one.max(two));
+    rng.pick(&[
+        (Some(first), None),
+        (None, Some(last)),
+        (Some(first), Some(last)),
+        (Some(first), Some(last)),
+        (Some(last), Some(last)),
+    ])
+}
+
+/// Dates that it may not have: below 1, or deactivation before activation.
+fn wrong_dates(rng: &mut Rng, clock: i64) -> (Option<i64>, Option<i64>) {
+    let date = date_around(rng, clock);
+    let low = rng.pick(&[0, -1, -date, i64::MIN]);
+    rng.pick(&[
+        (Some(low), None),
+        (None, Some(low)),
+        (Some(low), Some(date)),
+        (Some(date), Some(low)),
+        (Some(date), Some(date - 1)),
+        (Some(i64::MAX), Some(date.min(i64::MAX - 1))),
+    ])
 }
 
 fn amount(rng: &mut Rng, table: &Table, name: Option<&str>) -> i64 {
@@ -130,15 +168,19 @@ fn wrong_text(rng: &mut Rng, table: &Table, serial: u32) -> String {
 }
 
 /// A batch of Creates.
-pub fn creations(rng: &mut Rng) -> Node {
+pub fn creations(rng: &mut Rng, table: &Table) -> Node {
     let number = rng.between(1, 16);
-    request(Some(1), (0..number).map(|_| item(0x01, None, creation(rng))).collect())
+    request(Some(1), (0..number).map(|_| item(0x01, None, creation(rng, table))).collect())
 }
 
 /// The request with the longest answer that the table allows: sixteen times all attributes, with IDs of 16 bytes.
 pub fn widest(rng: &mut Rng, table: &Table) -> Node {
-    let width = |record: &Record| [record.unit, (record.replaced > 0).into(), (record.replacement > 0).into()];
-    let widest = table.standing().max_by_key(|record| width(record).map(|part| part.min(1)).iter().sum::<u8>());
+    let width = |record: &&Record| {
+        let links = [record.replaced, record.replacement].into_iter().filter(|&link| link > 0).count();
+        let dates = [record.activation, record.deactivation].into_iter().filter(|&date| date > 0).count();
+        56 * usize::from(record.unit > 0) + 40 * links + 16 * dates
+    };
+    let widest = table.standing().max_by_key(width);
     let name = identifier(widest.map_or(1, |record| record.serial));
     let items = (0..16).map(|_| item(0x0B, Some(&rng.bytes(16)), target(Some(&name)))).collect();
     request(Some(rng.pick(&[1, 2])), items)
@@ -260,7 +302,7 @@ fn edit_fields(rng: &mut Rng, nodes: &mut Vec<Node>) {
     let at = rng.index(nodes.len() + 1);
     let extra_tag = rng.pick(&[
         0x420092, 0x420050, 0x420154, 0x420051, 0x420010, 0x42000E, 0x420093, 0x420094, 0x420096, 0x420080, 0x420095,
-        0x42002C, 0x42000F, 0x42000D, 0x42FFFF,
+        0x42002C, 0x42000F, 0x42000D, 0x42FFFF, 0x420001, 0x42002F,
     ]);
     match rng.below(5) {
         0 => nodes.insert(at, well_formed(rng, extra_tag)),
@@ -353,9 +395,12 @@ fn flip_bits(rng: &mut Rng, bytes: &mut [u8]) {
     }
 }
 
-/// Alters a length field: one that stands behind a tag.
+/// Alters a length field: one that stands behind a tag, if there is any.
 fn alter_length(rng: &mut Rng, bytes: &mut [u8]) {
     let headers: Vec<usize> = (0..bytes.len() - 7).step_by(8).filter(|&at| bytes[at] == 0x42).collect();
+    if headers.is_empty() {
+        return;
+    }
     let at = rng.pick(&headers) + 4;
     let length = u32::from_be_bytes([bytes[at], bytes[at + 1], bytes[at + 2], bytes[at + 3]]);
     let any = rng.next() as u32;

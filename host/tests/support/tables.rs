@@ -1,5 +1,6 @@
 //! Tables: sound ones of many kinds, and such that break one rule of soundness.
 
+use super::requests::date_around;
 use super::rng::Rng;
 use junctionmoth::model::soundness::{self, GREATEST_TOTAL};
 use junctionmoth::model::table::{Record, Table, PLACES};
@@ -18,10 +19,12 @@ enum Mix {
 pub fn sound(rng: &mut Rng) -> Table {
     let mut table = Table::blank();
     table.last = last_serial(rng);
+    table.latest = latest_clock(rng);
     let mix = rng.pick(&[Mix::Any, Mix::Any, Mix::Live, Mix::Live, Mix::PreActive, Mix::Active, Mix::Destroyed]);
     for (place, serial) in placed_serials(rng, table.last) {
         table.places[place] = record(rng, serial, mix);
     }
+    set_dates(rng, &mut table);
     if rng.one_in(3) {
         destroy_one(rng, &mut table);
     }
@@ -37,6 +40,30 @@ fn last_serial(rng: &mut Rng) -> u32 {
     let edges = [0, 1, 2, 40, 64, 65, 100, 0xFFFF, 0x7FFF_FFFF, 0x8000_0000, u32::MAX - 1, u32::MAX];
     let edge = rng.pick(&edges);
     rng.pick(&[near_the_end, any, small, edge, edge])
+}
+
+fn latest_clock(rng: &mut Rng) -> i64 {
+    let small = rng.below(100) as i64;
+    let today = 1_700_000_000 + rng.below(100_000_000) as i64;
+    let any = rng.next() as i64 & i64::MAX;
+    rng.pick(&[0, 0, 1, small, small, today, today, any, i64::MAX - small, i64::MAX])
+}
+
+/// Dates for some records, for none or for all: around the latest clock, as a sound table allows.
+fn set_dates(rng: &mut Rng, table: &mut Table) {
+    let latest = table.latest;
+    let share = rng.pick(&[0, 1, 2, 2, 4, 4]);
+    for record in table.places.iter_mut().filter(|record| !record.is_free()) {
+        if rng.below(4) < share {
+            let (one, two) = (date_around(rng, latest), date_around(rng, latest));
+            let (first, last) = (one.min(two), one.max(two));
+            (record.activation, record.deactivation) =
+                rng.pick(&[(first, 0), (0, last), (first, last), (first, last), (last, last)]);
+        }
+        if record.state == 2 {
+            record.activation = record.activation.min(latest);
+        }
+    }
 }
 
 /// Places and the serials to stand there: distinct, issued, with or without gaps, in order or not.
@@ -147,9 +174,8 @@ fn link_dangling(rng: &mut Rng, table: &mut Table) {
 type Break = fn(&mut Rng, &mut Table) -> Option<()>;
 
 /// For each rule a way to break it.
-const BREAKS: [(&str, Break); 20] = [
+const BREAKS: [(&str, Break); 23] = [
     ("place count", break_place_count),
-    ("lead zeros", break_lead_zeros),
     ("free line", break_free_line),
     ("free body", break_free_body),
     ("body zeros", break_body_zeros),
@@ -168,6 +194,10 @@ const BREAKS: [(&str, Break); 20] = [
     ("replacement", break_replacement),
     ("replaced names back", break_replaced_names_back),
     ("replacement names back", break_replacement_names_back),
+    ("dates not negative", break_dates_not_negative),
+    ("latest clock not negative", break_latest_not_negative),
+    ("dates in order", break_dates_in_order),
+    ("Active has begun", break_active_has_begun),
 ];
 
 /// A table that breaks one rule and no other, where a few tries find one; it breaks at least one in any case.
@@ -202,11 +232,6 @@ fn break_place_count(rng: &mut Rng, table: &mut Table) -> Option<()> {
     Some(())
 }
 
-fn break_lead_zeros(rng: &mut Rng, table: &mut Table) -> Option<()> {
-    table.lead_zeros = 1 << rng.below(64);
-    Some(())
-}
-
 fn break_free_line(rng: &mut Rng, table: &mut Table) -> Option<()> {
     let place = choose(rng, table, Record::is_free)?;
     let record = &mut table.places[place];
@@ -223,11 +248,13 @@ fn break_free_line(rng: &mut Rng, table: &mut Table) -> Option<()> {
 fn break_free_body(rng: &mut Rng, table: &mut Table) -> Option<()> {
     let place = choose(rng, table, Record::is_free)?;
     let record = &mut table.places[place];
-    match rng.below(5) {
+    match rng.below(7) {
         0 => record.total = 1 << rng.below(64),
         1 => record.count = 1 << rng.below(64),
         2 => record.mask = 1 << rng.below(32),
         3 => record.zeros = 1 << rng.below(32),
+        4 => record.activation = 1 << rng.below(64),
+        5 => record.deactivation = 1 << rng.below(64),
         _ => record.material[rng.index(32)] = 1 << rng.below(8),
     }
     Some(())
@@ -349,5 +376,44 @@ fn break_replaced_names_back(rng: &mut Rng, table: &mut Table) -> Option<()> {
 fn break_replacement_names_back(rng: &mut Rng, table: &mut Table) -> Option<()> {
     let (one, two) = (standing(rng, table)?, standing(rng, table)?);
     table.places[one].replacement = table.places[two].serial;
+    Some(())
+}
+
+fn break_dates_not_negative(rng: &mut Rng, table: &mut Table) -> Option<()> {
+    let place = standing(rng, table)?;
+    let record = &mut table.places[place];
+    let any = rng.next() as i64 | i64::MIN;
+    let negative = rng.pick(&[-1, i64::MIN, -record.activation - 1, any]);
+    if rng.one_in(2) {
+        record.activation = negative;
+    } else {
+        (record.activation, record.deactivation) = (0, negative);
+    }
+    Some(())
+}
+
+fn break_latest_not_negative(rng: &mut Rng, table: &mut Table) -> Option<()> {
+    let any = rng.next() as i64 | i64::MIN;
+    table.latest = rng.pick(&[-1, i64::MIN, -table.latest - 1, any]);
+    for record in table.places.iter_mut().filter(|record| record.state == 2) {
+        record.activation = 0;
+    }
+    Some(())
+}
+
+fn break_dates_in_order(rng: &mut Rng, table: &mut Table) -> Option<()> {
+    let place = choose(rng, table, |record| record.activation > 1)?;
+    let record = &mut table.places[place];
+    let any = rng.between(1, record.activation as u64 - 1) as i64;
+    record.deactivation = rng.pick(&[1, record.activation - 1, any]);
+    Some(())
+}
+
+fn break_active_has_begun(rng: &mut Rng, table: &mut Table) -> Option<()> {
+    let place = choose(rng, table, |record| record.state == 2)?;
+    let after = table.latest.checked_add(1)?;
+    let record = &mut table.places[place];
+    record.activation = rng.pick(&[after, after, i64::MAX]);
+    record.deactivation = rng.pick(&[0, record.activation, i64::MAX]);
     Some(())
 }
