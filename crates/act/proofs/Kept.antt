@@ -17,10 +17,11 @@ use Rattle.table.proofs.Lines.{bytes-part}
 use Rattle.table.proofs.Places.{length-with, bytes-with}
 use Rattle.table.proofs.Lead.{length-last, bytes-last}
 use Rattle.rules.specs.declared.Reason.{Reason}
+use Rattle.rules.specs.declared.Offset.{Offset}
 use Rattle.rules.specs.Numbers.{activate, revoke, destroy}
 use Rattle.rules.specs.Tests.{due}
 use Rattle.rules.specs.States.{movedState}
-use Rattle.changes.specs.Records.{newRecord, heirOf, linkedTo, inState, withDates, movedTo, withCount}
+use Rattle.changes.specs.Records.{newRecord, heirDated, heirOf, linkedTo, inState, withDates, movedTo, withCount}
 use Rattle.changes.specs.Changes.{nextSerial, bornAt, withBorn, withHeir}
 use Rattle.changes.proofs.Material.{bytes-material}
 use Rattle.octets.proofs.Zeros.{bytes-zeros}
@@ -69,9 +70,9 @@ module _ (env : Env) (holder : ℕ) (t : List ℕ) (h : Bytes t) (g : Bytes (env
       → Kept t (withPlace (env .places) t i (movedTo operation code (latestClock t) (movedState operation code (placeAt (env .places) t i .state)) (placeAt (env .places) t i)))
   kept-moved operation code i = kept-with (env .places) t h i _ (bytes-moved (env .places) t h operation code _ _ i)
 
-  kept-heir : (i : ℕ) → Kept t (withHeir (env .places) t i (heirOf (nextSerial t) (placeAt (env .places) t i) (env .fresh)))
-  unfolding withHeir heirOf linkedTo
-  kept-heir i =
+  kept-heir : (offset : Offset) (i : ℕ) → Kept t (withHeir (env .places) t i (heirOf (nextSerial t) (latestClock t) offset (placeAt (env .places) t i) (env .fresh)))
+  unfolding withHeir heirOf heirDated linkedTo
+  kept-heir offset i =
       let linked = kept-with (env .places) t h i _ (bytes-place (env .places) t h i) in
       kept-then linked (kept-born (env .places) _ (linked .bytes) _ (bytes-material (placeAt (env .places) t i .bits) (env .fresh) g) (newPlace (env .places) t))
 
@@ -86,7 +87,7 @@ module _ (env : Env) (holder : ℕ) (t : List ℕ) (h : Bytes t) (g : Bytes (env
   plan-kept Unsupported = kept-same t h
   plan-kept Invalid = kept-same t h
   plan-kept (Create wanted) = kept-born (env .places) t h _ (bytes-material (wanted .bits) (env .fresh) g) (newPlace (env .places) t)
-  plan-kept (Rekey target) = kept-found (rekeyPlan env holder t) kept-heir (find (env .places) t (sought holder target))
+  plan-kept (Rekey target offset) = kept-found (rekeyPlan env holder t offset) (kept-heir offset) (find (env .places) t (sought holder target))
   plan-kept (GetUsageAllocation target amount) =
       kept-found (allocationPlan env holder t amount) (λ i. kept-with (env .places) t h i _ (bytes-place (env .places) t h i)) (find (env .places) t (sought holder target))
   plan-kept (Activate target) = kept-found (activatePlan env holder t) (λ i. kept-moved activate 0 i) (find (env .places) t (sought holder target))

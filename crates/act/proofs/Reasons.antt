@@ -17,7 +17,7 @@ unfolding plan reasonOf
 plan-reason env holder t Unsupported h = ap (refusal t) (some-is h)
 plan-reason env holder t Invalid h = ap (refusal t) (some-is h)
 plan-reason env holder t (Create wanted) h = absurd (not-some h)
-plan-reason env holder t (Rekey target) h = absurd (not-some h)
+plan-reason env holder t (Rekey target offset) h = absurd (not-some h)
 plan-reason env holder t (GetUsageAllocation target amount) h = absurd (not-some h)
 plan-reason env holder t (Activate target) h = absurd (not-some h)
 plan-reason env holder t (Revoke target code) h = absurd (not-some h)

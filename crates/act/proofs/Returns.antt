@@ -13,6 +13,7 @@ use Rattle.search.specs.Search.{find}
 use Rattle.search.proofs.Finds.{find-below}
 use Rattle.rules.specs.declared.Reason.the-variants.{OperationNotSupported, InvalidField, ObjectNotFound}
 use Rattle.rules.specs.declared.Attributes.{Attributes}
+use Rattle.rules.specs.declared.Offset.{Offset}
 use Rattle.rules.specs.Numbers.{activate, revoke, destroy}
 use Rattle.rules.specs.States.{moveTests}
 use Rattle.target_read.specs.declared.Target.{Target}
@@ -81,9 +82,9 @@ module _ (n : ℕ) (fresh : List ℕ) (holder : ℕ) (t : List ℕ) (command : C
     performs-create wanted c e = e ∙ sym (ap performed c)
 
     module _ (target : Target) where
-      pub performs-rekey : command ≡ Rekey target → done ≡ meets Replace target → done ≡ performed command
+      pub performs-rekey : (offset : Offset) → command ≡ Rekey target offset → done ≡ meets (Replace offset) target → done ≡ performed command
       unfolding performing plan deedPlan
-      performs-rekey c e = e ∙ sym (ap performed c)
+      performs-rekey offset c e = e ∙ sym (ap performed c)
 
       pub performs-allocation : (amount : ℕ) → command ≡ GetUsageAllocation target amount → done ≡ meets (Allocate amount) target → done ≡ performed command
       unfolding performing plan deedPlan

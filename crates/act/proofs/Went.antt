@@ -16,13 +16,14 @@ use Rattle.search.specs.Search.{find, isDestroyed}
 use Rattle.rules.specs.declared.Reason.{Reason}
 use Rattle.rules.specs.declared.Reason.the-variants.{OperationNotSupported, InvalidField, ObjectNotFound, ObjectDestroyed, PermissionDenied, ServerLimitExceeded, WrongKeyLifecycleState}
 use Rattle.rules.specs.declared.Attributes.{Attributes}
+use Rattle.rules.specs.declared.Offset.{Offset}
 use Rattle.rules.specs.declared.Next.the-variants.{To}
 use Rattle.rules.specs.declared.Granted.the-variants.{Left}
 use Rattle.rules.specs.Numbers.{activate, revoke, destroy}
 use Rattle.rules.specs.Tests.{due}
 use Rattle.rules.specs.States.{activateTests, revokeTests, destroyTests, moveTests, movedState, nextUnless, nextState, grantTests, leftUnless, granting}
 use Rattle.date_rules.specs.Dates.{isLate}
-use Rattle.changes.specs.Records.{movedTo, withCount}
+use Rattle.changes.specs.Records.{offsetWrong, movedTo, withCount}
 use Rattle.changes.specs.Changes.{isFull}
 use Rattle.batch_item.specs.Item.{Asked}
 use Rattle.target_read.specs.declared.Target.{Target}
@@ -47,8 +48,9 @@ module _ (env : Env) (holder : ℕ) (t : List ℕ) where
   pub data Kind : Command → Did → Type 0 where
     fails : {c : Command} (reason : Reason) → Kind c (failing t reason)
     creates : (wanted : Attributes) → isFull (env .places) t ≡ false → Kind (Create wanted) (createPlan env holder t wanted .did)
-    rekeys : (target : Target) (i : ℕ) → find (env .places) t (sought holder target) ≡ At i → isDestroyed (placeAt (env .places) t i .state) ≡ false
-        → placeAt (env .places) t i .replacement ≡ 0 → isFull (env .places) t ≡ false → Kind (Rekey target) (rekeyPlan env holder t i (placeAt (env .places) t i) .did)
+    rekeys : (target : Target) (offset : Offset) (i : ℕ) → find (env .places) t (sought holder target) ≡ At i → isDestroyed (placeAt (env .places) t i .state) ≡ false
+        → placeAt (env .places) t i .replacement ≡ 0 → offsetWrong (latestClock t) offset (placeAt (env .places) t i) ≡ false → isFull (env .places) t ≡ false
+        → Kind (Rekey target offset) (rekeyPlan env holder t offset i (placeAt (env .places) t i) .did)
     grants : (target : Target) (amount i : ℕ) → find (env .places) t (sought holder target) ≡ At i
         → granting (placeAt (env .places) t i .state) (placeAt (env .places) t i .unit) (placeAt (env .places) t i .count) amount ≡ Left (placeAt (env .places) t i .count - amount)
         → Kind (GetUsageAllocation target amount) (changed env holder t i (withCount (placeAt (env .places) t i .count - amount) (placeAt (env .places) t i)))
@@ -68,13 +70,18 @@ module _ (env : Env) (holder : ℕ) (t : List ℕ) where
   unfolding createPlan due carried
   by-create wanted = on-if (λ (o : Option Reason). Kind (Create wanted) (carried t (createPlan env holder t wanted .did) o)) (λ e. fails ServerLimitExceeded) (λ e. creates wanted e)
 
-  by-rekey : (target : Target) (i : ℕ) → find n t (sought holder target) ≡ At i → Kind (Rekey target) (decided (rekeyPlan env holder t i (placeAt n t i)))
+  by-rekey : (target : Target) (offset : Offset) (i : ℕ) → find n t (sought holder target) ≡ At i → Kind (Rekey target offset) (decided (rekeyPlan env holder t offset i (placeAt n t i)))
   unfolding rekeyPlan due carried
-  by-rekey target i e =
-      on-if (λ (o : Option Reason). Kind (Rekey target) (carried t (rekeyPlan env holder t i (placeAt n t i) .did) o)) (λ d. fails ObjectDestroyed)
-      (λ d. on-if (λ (o : Option Reason). Kind (Rekey target) (carried t (rekeyPlan env holder t i (placeAt n t i) .did) o)) (λ p. fails PermissionDenied)
-      (λ p. on-if (λ (o : Option Reason). Kind (Rekey target) (carried t (rekeyPlan env holder t i (placeAt n t i) .did) o)) (λ f. fails ServerLimitExceeded)
-      (λ f. rekeys target i e d (eqb-true _ 0 (not-false _ p)) f)))
+  by-rekey target offset i e =
+      on-if Went (λ d. fails ObjectDestroyed)
+      (λ d. on-if Went (λ p. fails PermissionDenied)
+      (λ p. on-if Went (λ w. fails InvalidField)
+      (λ w. on-if Went (λ f. fails ServerLimitExceeded)
+      (λ f. rekeys target offset i e d (eqb-true _ 0 (not-false _ p)) w f))))
+    where
+      -- what became of it, by the reason that is due
+      Went : Option Reason → Type 0
+      Went o = Kind (Rekey target offset) (carried t (rekeyPlan env holder t offset i (placeAt n t i) .did) o)
 
   by-grant : (target : Target) (amount i : ℕ) → find n t (sought holder target) ≡ At i
       → Kind (GetUsageAllocation target amount) (decided (allocationPlan env holder t amount i (placeAt n t i)))
@@ -121,7 +128,7 @@ module _ (env : Env) (holder : ℕ) (t : List ℕ) where
   kind Unsupported = fails OperationNotSupported
   kind Invalid = fails InvalidField
   kind (Create wanted) = by-create wanted
-  kind (Rekey target) = by-found (rekeyPlan env holder t) target (by-rekey target) (find n t (sought holder target)) refl
+  kind (Rekey target offset) = by-found (rekeyPlan env holder t offset) target (by-rekey target offset) (find n t (sought holder target)) refl
   kind (GetUsageAllocation target amount) = by-found (allocationPlan env holder t amount) target (by-grant target amount) (find n t (sought holder target)) refl
   kind (Activate target) = by-found (activatePlan env holder t) target (by-activate target) (find n t (sought holder target)) refl
   kind (Revoke target code) = by-found (revokePlan env holder t code) target (λ i e. by-move revoking i e refl (due (revokeTests code (placeAt n t i .state))) refl) (find n t (sought holder target)) refl

@@ -36,7 +36,7 @@ module _ (env : Env) (holder : ℕ) (t : List ℕ) where
   plan Unsupported = refusal t OperationNotSupported
   plan Invalid = refusal t InvalidField
   plan (Create wanted) = createPlan env holder t wanted
-  plan (Rekey target) = targeted (rekeyPlan env holder t) target
+  plan (Rekey target offset) = targeted (rekeyPlan env holder t offset) target
   plan (GetUsageAllocation target amount) = targeted (allocationPlan env holder t amount) target
   plan (Activate target) = targeted (activatePlan env holder t) target
   plan (Revoke target code) = targeted (revokePlan env holder t code) target

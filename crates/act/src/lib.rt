@@ -51,7 +51,9 @@ pub fn perform(t: &mut [u8], n: usize, holder: u32, command: Command, fresh: &[u
         Command::Unsupported => plans::fail(Reason::OperationNotSupported),
         Command::Invalid => plans::fail(Reason::InvalidField),
         Command::Create { wanted } => births::create(t, n, wanted, fresh),
-        Command::Rekey { target } => act_on(t, n, holder, target, Deed::Replace, fresh),
+        Command::Rekey { target, offset } => {
+            act_on(t, n, holder, target, Deed::Replace(offset), fresh)
+        }
         Command::GetUsageAllocation { target, amount } => {
             act_on(t, n, holder, target, Deed::Allocate(amount), fresh)
         }

@@ -1,6 +1,6 @@
 -- What each return of the functions of this crate leaves, from what the functions that it called answered.
 -- Assumes nothing.
-use mathlib.Core.Path.{_≡_, refl, sym, ap, _∙_}
+use mathlib.Core.Path.{_≡_, refl, sym, ap, ap₂, _∙_}
 use Prim.Native.Nat.{ℕ, _+_, _<_}
 use mathlib.Core.Bool.{Bool, true, false, not}
 use mathlib.Core.List.{List}
@@ -8,20 +8,24 @@ use lib.Dec.{eqb}
 use borrow.Author.Tests.{eq-eqb, ne-eqb}
 use Rattle.table.specs.declared.Record.{Record}
 use Rattle.table.specs.Layout.{Table, Place}
-use Rattle.table.specs.Records.{placeAt, withPlace, lastSerial, withLast}
+use Rattle.table.specs.Records.{placeAt, withPlace, lastSerial, latestClock, withLast}
 use Rattle.search.specs.declared.Found.{Found}
 use Rattle.search.specs.declared.Found.the-variants.{At, Nothing}
 use Rattle.search.specs.Search.{isDestroyed, newPlace}
 use Rattle.search.proofs.Finds.{new-below}
-use Rattle.rules.specs.declared.Reason.the-variants.{ObjectDestroyed, PermissionDenied, ServerLimitExceeded}
+use Rattle.rules.specs.declared.Reason.the-variants.{InvalidField, ObjectDestroyed, PermissionDenied, ServerLimitExceeded}
 use Rattle.rules.specs.declared.Attributes.{Attributes}
-use Rattle.changes.specs.Records.{newRecord, heirOf, linkedTo}
+use Rattle.rules.specs.declared.Offset.{Offset}
+use Rattle.changes.specs.declared.HeirDates.{HeirDates}
+use Rattle.changes.specs.declared.HeirDates.the-variants.{Dated, OffsetWrong}
+use Rattle.changes.specs.Records.{newRecord, heirActivation, heirDeactivation, offsetWrong, heirDates, heirDated, heirOf, linkedTo}
 use Rattle.changes.specs.Changes.{serialMost, nextSerial, bornAt, withBorn, withHeir}
+use Rattle.changes.proofs.Heirs.{wrong-offset, right-offset}
 use Rattle.plans.specs.declared.Outcome.the-variants.{Created, Done}
 use Rattle.plans.specs.declared.Performed.{Performed}
 use Rattle.plans.specs.Plans.{Did, emptyHolder, carriedOut, createPlan, rekeyPlan, inPlaces, leaves, failed}
 use Rattle.births.specs.Births.{TwoPlaces, placeForNew, linkedAt, replacing}
-use Rattle.plans.proofs.Plans.{fails, fails-first, goes-on, is-done}
+use Rattle.plans.proofs.Plans.{fails, fails-first, goes-on, is-done, wrong-told}
 use Rattle.births.proofs.Places.{nowhere-issued, place-unissued, unissued, new-there, not-full, full}
 
 -- ---- the place of a new object
@@ -65,23 +69,27 @@ module _ (n : ℕ) (fresh t : List ℕ) (wanted : Attributes) (found : Found) (i
 
 -- ---- Re-key
 
-module _ (n : ℕ) (fresh t : List ℕ) (i : ℕ) (old : Record) (found : Found) (is : found ≡ placeForNew n t) where
-  pub replace-full : found ≡ Nothing → (r : Performed) → r ≡ failed ServerLimitExceeded → leaves r t ≡ replacing n fresh t i old (placeForNew n t)
-  unfolding replacing
-  replace-full nowhere r e = fails t e ∙ sym (ap (replacing n fresh t i old) (sym is ∙ nowhere))
+module _ (n : ℕ) (fresh t : List ℕ) (i : ℕ) (old : Record) (activation deactivation : ℕ) (found : Found) (is : found ≡ placeForNew n t) where
+  abbrev replaced : Found → Did
+  replaced f = replacing n fresh t i old activation deactivation f
 
-  pub replaces : (place : ℕ) → found ≡ At place → (last : ℕ) → last ≡ lastSerial t → (heir : Record) → heir ≡ heirOf (last + 1) old fresh
+  pub replace-full : found ≡ Nothing → (r : Performed) → r ≡ failed ServerLimitExceeded → leaves r t ≡ replacing n fresh t i old activation deactivation (placeForNew n t)
+  unfolding replacing
+  replace-full nowhere r e = fails t e ∙ sym (ap replaced (sym is ∙ nowhere))
+
+  pub replaces : (place : ℕ) → found ≡ At place → (last : ℕ) → last ≡ lastSerial t → (clock : ℕ) → clock ≡ latestClock t
+      → (heir : Record) → heir ≡ heirDated (last + 1) clock activation deactivation old fresh
       → (t′ : List ℕ) → t′ ≡ bornAt n (linkedAt n t i heir) heir (At place)
-      → record { outcome = Done (last + 1); table = t′; holder = last + 1 } ≡ replacing n fresh t i old (placeForNew n t)
+      → record { outcome = Done (last + 1); table = t′; holder = last + 1 } ≡ replacing n fresh t i old activation deactivation (placeForNew n t)
   unfolding replacing
-  replaces place at last l heir h t′ e =
+  replaces place at last l clock k heir h t′ e =
       ap (λ (u : List ℕ). record { outcome = Done (last + 1); table = u; holder = last + 1 }) (e ∙ ap (λ (r : Record). bornAt n (linkedAt n t i r) r (At place)) h)
-      ∙ ap (λ (k : ℕ). let r = heirOf (k + 1) old fresh in record { outcome = Done (k + 1); table = bornAt n (linkedAt n t i r) r (At place); holder = k + 1 }) l
-      ∙ sym (ap (replacing n fresh t i old) (sym is ∙ at))
+      ∙ ap₂ (λ (x y : ℕ). let r = heirDated (x + 1) y activation deactivation old fresh in record { outcome = Done (x + 1); table = bornAt n (linkedAt n t i r) r (At place); holder = x + 1 }) l k
+      ∙ sym (ap replaced (sym is ∙ at))
 
-module _ (n : ℕ) (fresh t : List ℕ) (i : ℕ) (old : Record) (loaded : old ≡ placeAt n t i) (gone : Bool) (is : gone ≡ isDestroyed (old .state)) where
+module _ (n : ℕ) (fresh t : List ℕ) (i : ℕ) (offset : Offset) (old : Record) (loaded : old ≡ placeAt n t i) (gone : Bool) (is : gone ≡ isDestroyed (old .state)) where
   abbrev rekeyed : Did
-  rekeyed = carriedOut t (rekeyPlan (inPlaces n fresh) emptyHolder t i (placeAt n t i))
+  rekeyed = carriedOut t (rekeyPlan (inPlaces n fresh) emptyHolder t offset i (placeAt n t i))
 
   state-is : {b : Bool} → gone ≡ b → isDestroyed (placeAt n t i .state) ≡ b
   state-is e = ap (λ (r : Record). isDestroyed (r .state)) (sym loaded) ∙ sym is ∙ e
@@ -97,20 +105,42 @@ module _ (n : ℕ) (fresh t : List ℕ) (i : ℕ) (old : Record) (loaded : old �
         fails t e
         ∙ sym (goes-on t _ _ _ (state-is live) ∙ fails-first t _ _ _ (ap not (ne-eqb (placeAt n t i .replacement) 0 (λ z. h (ap (λ (x : Record). x .replacement) loaded ∙ z)))))
 
-    module _ (first : old .replacement ≡ 0) where
+    module _ (first : old .replacement ≡ 0) (clock : ℕ) (now : clock ≡ latestClock t) (dates : HeirDates) (given : dates ≡ heirDates clock offset old) where
       unreplaced : not (eqb (placeAt n t i .replacement) 0) ≡ false
       unreplaced = ap not (eq-eqb (placeAt n t i .replacement) 0 (ap (λ (x : Record). x .replacement) (sym loaded) ∙ first))
 
-      rekey-by : (f : Found) → placeForNew n t ≡ f → rekeyed ≡ replacing n fresh t i (placeAt n t i) f
-      unfolding rekeyPlan replacing withHeir linkedAt heirOf
-      rekey-by (At place) at =
-          goes-on t _ _ _ (state-is live) ∙ goes-on t _ _ _ unreplaced ∙ goes-on t _ _ _ (not-full n t place at) ∙ is-done t _
-          ∙ ap (λ (f : Found). let heir = heirOf (nextSerial t) (placeAt n t i) fresh in
-          record { outcome = Done (nextSerial t); table = bornAt n (withPlace n t i (linkedTo (nextSerial t) (placeAt n t i))) heir f; holder = nextSerial t }) (new-there n t place at)
-      rekey-by Nothing nowhere = goes-on t _ _ _ (state-is live) ∙ goes-on t _ _ _ unreplaced ∙ fails-first t _ _ _ (full n t nowhere)
+      -- the dates of the replacement of the record that stands there, at the clock that counts
+      dates-are : {d : HeirDates} → dates ≡ d → heirDates (latestClock t) offset (placeAt n t i) ≡ d
+      dates-are e = ap₂ (λ (k : ℕ) (r : Record). heirDates k offset r) (sym now) (sym loaded) ∙ sym given ∙ e
 
-      pub rekeys : (left : Did) → left ≡ replacing n fresh t i old (placeForNew n t) → left ≡ rekeyed
-      rekeys left e = e ∙ ap (λ (r : Record). replacing n fresh t i r (placeForNew n t)) loaded ∙ sym (rekey-by (placeForNew n t) refl)
+      pub rekey-wrong : dates ≡ OffsetWrong → (r : Performed) → r ≡ failed InvalidField → leaves r t ≡ rekeyed
+      rekey-wrong w r e =
+          fails t e
+          ∙ sym (wrong-told (inPlaces n fresh) emptyHolder t offset i (placeAt n t i) (state-is live) unreplaced (wrong-offset (latestClock t) offset (placeAt n t i) (dates-are w)))
+
+      module _ (right : offsetWrong (latestClock t) offset (placeAt n t i) ≡ false) where
+        abbrev starts : ℕ
+        starts = heirActivation (latestClock t) offset (placeAt n t i)
+
+        abbrev ends : ℕ
+        ends = heirDeactivation (latestClock t) offset (placeAt n t i)
+
+        rekey-by : (f : Found) → placeForNew n t ≡ f → rekeyed ≡ replacing n fresh t i (placeAt n t i) starts ends f
+        unfolding rekeyPlan replacing withHeir linkedAt heirOf heirDated
+        rekey-by (At place) at =
+            goes-on t _ _ _ (state-is live) ∙ goes-on t _ _ _ unreplaced ∙ goes-on t _ _ _ right ∙ goes-on t _ _ _ (not-full n t place at) ∙ is-done t _
+            ∙ ap (λ (f : Found). let heir = heirOf (nextSerial t) (latestClock t) offset (placeAt n t i) fresh in
+            record { outcome = Done (nextSerial t); table = bornAt n (withPlace n t i (linkedTo (nextSerial t) (placeAt n t i))) heir f; holder = nextSerial t }) (new-there n t place at)
+        rekey-by Nothing nowhere = goes-on t _ _ _ (state-is live) ∙ goes-on t _ _ _ unreplaced ∙ goes-on t _ _ _ right ∙ fails-first t _ _ _ (full n t nowhere)
+
+      pub rekeys : (activation deactivation : ℕ) → dates ≡ Dated activation deactivation
+          → (left : Did) → left ≡ replacing n fresh t i old activation deactivation (placeForNew n t) → left ≡ rekeyed
+      rekeys activation deactivation d left e =
+          let o = right-offset (latestClock t) offset (placeAt n t i) (dates-are d) in
+          e
+          ∙ ap (λ (r : Record). replacing n fresh t i r activation deactivation (placeForNew n t)) loaded
+          ∙ ap₂ (λ (x y : ℕ). replacing n fresh t i (placeAt n t i) x y (placeForNew n t)) (o .starts) (o .ends)
+          ∙ sym (rekey-by (o .right) (placeForNew n t) refl)
 
 -- ---- records stored
 

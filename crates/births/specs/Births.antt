@@ -8,10 +8,10 @@ use Rattle.table.specs.declared.Record.{Record}
 use Rattle.search.specs.declared.Found.{Found}
 use Rattle.search.specs.declared.Found.the-variants.{At, Nothing}
 use Rattle.table.specs.Layout.{Place}
-use Rattle.table.specs.Records.{placeAt, withPlace, lastSerial}
+use Rattle.table.specs.Records.{placeAt, withPlace, lastSerial, latestClock}
 use Rattle.search.specs.Search.{newPlace}
 use Rattle.rules.specs.declared.Reason.the-variants.{ServerLimitExceeded}
-use Rattle.changes.specs.Records.{heirOf, linkedTo}
+use Rattle.changes.specs.Records.{heirDated, linkedTo}
 use Rattle.changes.specs.Changes.{serialMost, nextSerial, bornAt}
 use Rattle.plans.specs.declared.Outcome.the-variants.{Done}
 use Rattle.plans.specs.Plans.{Did, failing}
@@ -29,9 +29,9 @@ pub record TwoPlaces (n : ℕ) (t : List ℕ) (i place : ℕ) : Type 0 where
 unfoldable pub linkedAt : ℕ → List ℕ → ℕ → Record → List ℕ
 linkedAt n t i heir = withPlace n t i (linkedTo (heir .serial) (placeAt n t i))
 
--- Re-key of a record that may be replaced, by where the new object goes
-unfoldable pub replacing : ℕ → List ℕ → List ℕ → ℕ → Record → Found → Did
-replacing n fresh t i old (At place) =
-    let heir = heirOf (nextSerial t) old fresh in
+-- Re-key of a record that may be replaced, with the new object's dates, by where that goes
+unfoldable pub replacing : ℕ → List ℕ → List ℕ → ℕ → Record → ℕ → ℕ → Found → Did
+replacing n fresh t i old activation deactivation (At place) =
+    let heir = heirDated (nextSerial t) (latestClock t) activation deactivation old fresh in
     record { outcome = Done (nextSerial t); table = bornAt n (linkedAt n t i heir) heir (At place); holder = nextSerial t }
-replacing n fresh t i old Nothing = failing t ServerLimitExceeded
+replacing n fresh t i old activation deactivation Nothing = failing t ServerLimitExceeded

@@ -7,9 +7,11 @@ ghost use Rattle.search.specs.declared.Found.the-variants.{At};
 ghost use Rattle.changes.specs.Changes.{bornAt};
 ghost use Rattle.plans.specs.Plans.{emptyHolder, createPlan, rekeyPlan, carriedOut, inPlaces, leaves};
 ghost use Rattle.births.specs.Births.{TwoPlaces, placeForNew, linkedAt, replacing};
+use changes::HeirDates;
 use plans::Outcome;
 use plans::Performed;
 use rules::Attributes;
+use rules::Offset;
 use rules::Reason;
 use search::Found;
 use table::Record;
@@ -67,16 +69,25 @@ pub fn create(t: &mut [u8], n: usize, wanted: Attributes, fresh: &[u8]) -> Perfo
     }
 }
 
-// Re-key of the record at place i, which is neither destroyed nor replaced: whether there is a
-// place for the new object is left to see.
-fn replace_at(t: &mut [u8], n: usize, i: usize, old: Record, fresh: &[u8]) -> Performed
+// Re-key of the record at place i, which is neither destroyed nor replaced, with the new object's
+// dates: whether there is a place for it is left to see.
+fn replace_at(
+    t: &mut [u8],
+    n: usize,
+    i: usize,
+    old: Record,
+    activation: u64,
+    deactivation: u64,
+    fresh: &[u8],
+) -> Performed
     requires { ⌜ Place n (now t) i ⌝ }
-    ensures { λ r. ⌜ leaves r (now (t .exit)) ≡ replacing n (now (fresh .entry)) (now (t .entry)) i old (placeForNew n (now (t .entry))) ⌝ }
+    ensures { λ r. ⌜ leaves r (now (t .exit)) ≡ replacing n (now (fresh .entry)) (now (t .entry)) i old activation deactivation (placeForNew n (now (t .entry))) ⌝ }
 {
     match place_for_new(t, n) {
         Found::At(place) => {
             let serial = table::last_serial(t) + 1;
-            let heir = changes::heir_of(serial, old, fresh);
+            let clock = table::latest_clock(t);
+            let heir = changes::heir_of(serial, clock, activation, deactivation, old, fresh);
             put_heir(t, n, i, place, heir);
             Performed {
                 outcome: Outcome::Done { serial },
@@ -87,10 +98,10 @@ fn replace_at(t: &mut [u8], n: usize, i: usize, old: Record, fresh: &[u8]) -> Pe
     }
 }
 
-// Re-key of the record at place i.
-pub fn rekey_at(t: &mut [u8], n: usize, i: usize, fresh: &[u8]) -> Performed
+// Re-key of the record at place i, at the clock that the table keeps.
+pub fn rekey_at(t: &mut [u8], n: usize, i: usize, offset: Offset, fresh: &[u8]) -> Performed
     requires { ⌜ Place n (now t) i ⌝ }
-    ensures { λ r. ⌜ leaves r (now (t .exit)) ≡ carriedOut (now (t .entry)) (rekeyPlan (inPlaces n (now (fresh .entry))) emptyHolder (now (t .entry)) i (placeAt n (now (t .entry)) i)) ⌝ }
+    ensures { λ r. ⌜ leaves r (now (t .exit)) ≡ carriedOut (now (t .entry)) (rekeyPlan (inPlaces n (now (fresh .entry))) emptyHolder (now (t .entry)) offset i (placeAt n (now (t .entry)) i)) ⌝ }
 {
     let old = records::load(t, n, i);
     if search::is_destroyed(old.state) {
@@ -99,5 +110,11 @@ pub fn rekey_at(t: &mut [u8], n: usize, i: usize, fresh: &[u8]) -> Performed
     if old.replacement != 0 {
         return plans::fail(Reason::PermissionDenied);
     }
-    replace_at(t, n, i, old, fresh)
+    match changes::heir_dates(table::latest_clock(t), offset, old) {
+        HeirDates::Dated {
+            activation,
+            deactivation,
+        } => replace_at(t, n, i, old, activation, deactivation, fresh),
+        HeirDates::OffsetWrong => plans::fail(Reason::InvalidField),
+    }
 }

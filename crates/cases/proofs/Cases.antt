@@ -1,4 +1,4 @@
--- 01's P cases, as one claim, and those of L3, by computation.
+-- 01's P cases, as one claim, and those of L3 and L4, by computation.
 -- Assumes nothing.
 use mathlib.Core.Path.{_≡_, refl}
 use mathlib.Core.Bool.{true}
@@ -15,7 +15,7 @@ use Rattle.search.specs.Search.{firstFrom, isNothing, orElse, find, freePlace, 
 use Rattle.record_rules.specs.Rules.{stateRight, bitsRight, maskRight, limitRight, tailRight, wipedRight, replacedRight, replacementRight, datesRight, orderRight, startedRight}
 use Rattle.soundness.specs.Sound.{sizeRight, countRight, latestRight, freeRight, zerosRight, distinctRight, issuedRight, ifStands, linksRight, breaksFree, breaksStanding, orLater, faultFrom, firstFault, sound}
 use Rattle.changes.specs.Changes.{isFull, bornAt, withBorn, withHeir}
-use Rattle.changes.specs.Records.{materialFrom, newRecord, heirOf, linkedTo, inState, withDates, movedTo, withCount}
+use Rattle.changes.specs.Records.{materialFrom, newRecord, heirActivation, heirDeactivation, offsetWrong, heirDated, heirOf, linkedTo, inState, withDates, movedTo, withCount}
 use Rattle.changes.specs.Dates.{ripened, isRipe, ripeAt, ripeFrom, countedClock, began}
 use Rattle.date_rules.specs.Dates.{startedState, stoppedState, datedState}
 use Rattle.rules.specs.States.{canRevoke, canDestroy, activateTests, revokeTests, destroyTests, moveTests, revokedState, destroyedState, movedState, nextUnless, nextState, grantTests, leftUnless, granting}
@@ -23,7 +23,7 @@ use Rattle.rules.specs.Tests.{due}
 use Rattle.batch_item.specs.Item.{idOk, idBytes, itemIn, itemsIn}
 use Rattle.frame.specs.Frame.{versionIn, headerIn, frameIn, optionOf, framing, framed}
 use Rattle.attributes_read.specs.Attributes.{limitIn, limitFirst, dateFirst, orUnset, datesIn, wantedOf, limitedIn, maskedIn, attributesIn}
-use Rattle.payload.specs.Payload.{createIn, aloneIn, allocationIn, revokeIn, orInvalid, command}
+use Rattle.payload.specs.Payload.{createIn, offsetOf, rekeyIn, aloneIn, allocationIn, revokeIn, orInvalid, command}
 use Rattle.target_read.specs.Target.{targetOf, targetIn}
 use Rattle.words.specs.Words.{wordsOf, wordBytes, wordsOk, filled}
 use Rattle.act.specs.Act.{sought, onFound, plan, step}
@@ -32,11 +32,11 @@ use Rattle.answer.specs.Read.{spelled, setDate, fixed, serialIn, limitsFirst, o
 use Rattle.answer.specs.Respond.{dateItems, limitItems, linkItems, attributeItems, outcomeItems, idItems, answerItems, batchItems, versionItems, headerItems, respond, materialOf, keyItems}
 use Rattle.engine.specs.Batch.{endsBatch, batch, running}
 use Rattle.engine.specs.Serving.{answered, earlyRefusal, carryOut, serving}
-use Rattle.cases.specs.Cards.{sameItems, isRead, integerRead, integerMalformed, booleanMalformed, textOfEight, textOfNine, nested, callAt, tableFrom, answers, refuses, stateLeft, countLeft, depthEight, depthNine, depthRead, depthRefused, grantRequest, grantResponse, grantsCounted, overRequest, overResponse, grantTooLarge, lifeRequest, lifeResponse, compromiseRequest, compromiseResponse, destroyedInTurn, rekeyRequest, rekeyResponse, rekeyedTwice, stopRequest, stopResponse, stopsThere, continueRequest, continueResponse, goesOn, lastRequest, lastResponse, lastSerialIssued, pCases, datedRequest, datedResponse, showRequest, shownStarted, shownStopped, datesAct, clocksTried, datedCases, allHold}
+use Rattle.cases.specs.Cards.{sameItems, isRead, integerRead, integerMalformed, booleanMalformed, textOfEight, textOfNine, nested, callAt, tableFrom, answers, refuses, stateLeft, countLeft, depthEight, depthNine, depthRead, depthRefused, grantRequest, grantResponse, grantsCounted, overRequest, overResponse, grantTooLarge, lifeRequest, lifeResponse, compromiseRequest, compromiseResponse, destroyedInTurn, rekeyRequest, rekeyResponse, rekeyedTwice, stopRequest, stopResponse, stopsThere, continueRequest, continueResponse, goesOn, lastRequest, lastResponse, lastSerialIssued, pCases, datedRequest, datedResponse, showRequest, shownStarted, shownStopped, datesAct, clocksTried, copyRequest, copyResponse, offsetRequest, offsetResponse, farRequest, farResponse, replacementsDated, datedCases, allHold}
 
 -- the definitions that the cases compute with: who opens this opens them all
 unfoldable pub opened : Unit {0}
-unfolding wordsOf wordBytes wordsOk filled ifb _>>=_ _>>_ isSome be fromBeAfter fromBe all same startsWith ended bytesOf bodyOf numberOf optional encode itemOk wellFormed headed firstOf putValue putGroup more walk parse isOne message lengthOk text valueOk digits identifier fromDigitsAfter serialOf line body recordOf placeAt withPlace serialAt stateAt lastSerial withLast placesSaid latestClock withClock blank firstFrom isNothing orElse find freePlace destroyedPlace newPlace sizeRight countRight latestRight freeRight zerosRight distinctRight issuedRight stateRight bitsRight maskRight limitRight tailRight wipedRight replacedRight replacementRight datesRight orderRight startedRight ifStands linksRight breaksFree breaksStanding orLater faultFrom firstFault sound isFull bornAt withBorn withHeir materialFrom newRecord heirOf linkedTo inState withDates movedTo withCount ripened isRipe ripeAt ripeFrom countedClock began startedState stoppedState datedState canRevoke canDestroy activateTests revokeTests destroyTests moveTests revokedState destroyedState movedState nextUnless nextState grantTests leftUnless granting due versionIn headerIn idOk idBytes itemIn itemsIn frameIn optionOf framing framed limitIn limitFirst dateFirst orUnset datesIn wantedOf limitedIn maskedIn attributesIn createIn targetOf targetIn aloneIn allocationIn revokeIn orInvalid command sought carried shownOf createPlan rekeyPlan allocationPlan activatePlan revokePlan destroyPlan showPlan keyOf getPlan onFound plan step isFailed spelled setDate fixed serialIn limitsFirst orNoLimits linkFirst orNoLink linkIn shownIn createdIn doneIn showedIn keyRead keyBlockIn keyIn gotIn payloadIn reasonAmong failureIn successIn outcomeIn answerIn answersOf headIn shownOk keyOk outcomeOk answerOk allowed ifAllowed answersIn dateItems limitItems linkItems attributeItems materialOf keyItems outcomeItems idItems answerItems batchItems versionItems headerItems respond endsBatch batch running answered earlyRefusal carryOut serving sameItems isRead integerRead integerMalformed booleanMalformed textOfEight textOfNine nested countedFrom callAt tableFrom answers refuses stateLeft countLeft depthEight depthNine depthRead depthRefused grantRequest grantResponse grantsCounted overRequest overResponse grantTooLarge lifeRequest lifeResponse compromiseRequest compromiseResponse destroyedInTurn rekeyRequest rekeyResponse rekeyedTwice stopRequest stopResponse stopsThere continueRequest continueResponse goesOn lastRequest lastResponse lastSerialIssued pCases datedRequest datedResponse showRequest shownStarted shownStopped datesAct clocksTried datedCases allHold
+unfolding wordsOf wordBytes wordsOk filled ifb _>>=_ _>>_ isSome be fromBeAfter fromBe all same startsWith ended bytesOf bodyOf numberOf optional encode itemOk wellFormed headed firstOf putValue putGroup more walk parse isOne message lengthOk text valueOk digits identifier fromDigitsAfter serialOf line body recordOf placeAt withPlace serialAt stateAt lastSerial withLast placesSaid latestClock withClock blank firstFrom isNothing orElse find freePlace destroyedPlace newPlace sizeRight countRight latestRight freeRight zerosRight distinctRight issuedRight stateRight bitsRight maskRight limitRight tailRight wipedRight replacedRight replacementRight datesRight orderRight startedRight ifStands linksRight breaksFree breaksStanding orLater faultFrom firstFault sound isFull bornAt withBorn withHeir materialFrom newRecord heirActivation heirDeactivation offsetWrong heirDated heirOf linkedTo inState withDates movedTo withCount ripened isRipe ripeAt ripeFrom countedClock began startedState stoppedState datedState canRevoke canDestroy activateTests revokeTests destroyTests moveTests revokedState destroyedState movedState nextUnless nextState grantTests leftUnless granting due versionIn headerIn idOk idBytes itemIn itemsIn frameIn optionOf framing framed limitIn limitFirst dateFirst orUnset datesIn wantedOf limitedIn maskedIn attributesIn createIn targetOf targetIn offsetOf rekeyIn aloneIn allocationIn revokeIn orInvalid command sought carried shownOf createPlan rekeyPlan allocationPlan activatePlan revokePlan destroyPlan showPlan keyOf getPlan onFound plan step isFailed spelled setDate fixed serialIn limitsFirst orNoLimits linkFirst orNoLink linkIn shownIn createdIn doneIn showedIn keyRead keyBlockIn keyIn gotIn payloadIn reasonAmong failureIn successIn outcomeIn answerIn answersOf headIn shownOk keyOk outcomeOk answerOk allowed ifAllowed answersIn dateItems limitItems linkItems attributeItems materialOf keyItems outcomeItems idItems answerItems batchItems versionItems headerItems respond endsBatch batch running answered earlyRefusal carryOut serving sameItems isRead integerRead integerMalformed booleanMalformed textOfEight textOfNine nested countedFrom callAt tableFrom answers refuses stateLeft countLeft depthEight depthNine depthRead depthRefused grantRequest grantResponse grantsCounted overRequest overResponse grantTooLarge lifeRequest lifeResponse compromiseRequest compromiseResponse destroyedInTurn rekeyRequest rekeyResponse rekeyedTwice stopRequest stopResponse stopsThere continueRequest continueResponse goesOn lastRequest lastResponse lastSerialIssued pCases datedRequest datedResponse showRequest shownStarted shownStopped datesAct clocksTried copyRequest copyResponse offsetRequest offsetResponse farRequest farResponse replacementsDated datedCases allHold
 opened = tt
 
 -- every case of the list holds
@@ -44,7 +44,7 @@ pub p-cases : allHold pCases ≡ true
 unfolding opened
 p-cases = refl
 
--- and every case of L3
+-- and every case of L3 and L4
 pub dated-cases : allHold datedCases ≡ true
 unfolding opened
 dated-cases = refl

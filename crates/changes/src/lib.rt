@@ -1,11 +1,22 @@
 // The changes of a record, by value: how it begins, is replaced, moves and is destroyed, and what a
 // grant leaves of it. They ask nothing. Whether a change is due is decided by rules; records are
 // those of the table crate.
+ghost use Prim.Native.Nat.{_-_};
 ghost use mathlib.Core.Path.{_≡_};
-ghost use Rattle.changes.specs.Records.{materialFrom, newRecord, heirOf, linkedTo, stops, movedTo, withCount};
+ghost use Rattle.changes.specs.Records.{materialFrom, newRecord, heirDated, heirDates, linkedTo, stops, movedTo, withCount};
 ghost use Rattle.octets.specs.If.{ifb};
 use rules::Attributes;
+use rules::Offset;
 use table::Record;
+
+// The largest Date-Time.
+const DATE_MOST: u64 = 9223372036854775807;
+
+// The dates of a replacement, or an Offset that gives none.
+pub enum HeirDates {
+    Dated { activation: u64, deactivation: u64 },
+    OffsetWrong,
+}
 
 // The material of a new key: the first bits/8 bytes of its part of the fresh strip, then zeros.
 fn material_from(fresh: &[u8], bits: u16) -> [u8; 32]
@@ -39,14 +50,68 @@ pub fn new_record(serial: u32, wanted: Attributes, fresh: &[u8]) -> Record
     }
 }
 
-// The record that Re-key makes of `old`, which it names.
-pub fn heir_of(serial: u32, old: Record, fresh: &[u8]) -> Record
-    ensures { λ r. ⌜ r ≡ heirOf serial old (now (fresh .entry)) ⌝ }
+// How far one date is behind another, 0 where it is not.
+fn span(from: u64, to: u64) -> u64
+    ensures { λ r. ⌜ r ≡ to - from ⌝ }
 {
+    if from < to {
+        return to - from;
+    }
+    0
+}
+
+// The dates of the record that Re-key makes of `old`: copied, or with an Offset the clock plus the
+// Offset and, as far behind it as before, the deactivation date.
+pub fn heir_dates(clock: u64, offset: Offset, old: Record) -> HeirDates
+    ensures { λ r. ⌜ r ≡ heirDates clock offset old ⌝ }
+{
+    let Offset::Seconds { seconds } = offset else {
+        return HeirDates::Dated {
+            activation: old.activation,
+            deactivation: old.deactivation,
+        };
+    };
+    if (old.activation == 0) & (old.deactivation != 0) {
+        return HeirDates::OffsetWrong;
+    }
+    let wait = seconds as u64;
+    if DATE_MOST - wait < clock {
+        return HeirDates::OffsetWrong;
+    }
+    let start = clock + wait;
+    if old.deactivation == 0 {
+        return HeirDates::Dated {
+            activation: start,
+            deactivation: 0,
+        };
+    }
+    let wide = span(old.activation, old.deactivation);
+    if DATE_MOST - start < wide {
+        return HeirDates::OffsetWrong;
+    }
+    HeirDates::Dated {
+        activation: start,
+        deactivation: start + wide,
+    }
+}
+
+// The record that Re-key makes of `old`, which it names, with these dates and in the state that
+// they make of a Pre-Active key.
+pub fn heir_of(
+    serial: u32,
+    clock: u64,
+    activation: u64,
+    deactivation: u64,
+    old: Record,
+    fresh: &[u8],
+) -> Record
+    ensures { λ r. ⌜ r ≡ heirDated serial clock activation deactivation old (now (fresh .entry)) ⌝ }
+{
+    let state = date_rules::dated_state(clock, activation, deactivation, rules::PRE_ACTIVE);
     let material = material_from(fresh, old.bits);
     Record {
         serial,
-        state: rules::PRE_ACTIVE,
+        state,
         unit: old.unit,
         bits: old.bits,
         replaced: old.serial,
@@ -55,8 +120,8 @@ pub fn heir_of(serial: u32, old: Record, fresh: &[u8]) -> Record
         count: old.total,
         mask: old.mask,
         material,
-        activation: old.activation,
-        deactivation: old.deactivation,
+        activation,
+        deactivation,
     }
 }
 

@@ -15,6 +15,7 @@ use Rattle.rules.specs.declared.Next.{Next}
 use Rattle.rules.specs.declared.Next.the-variants.{To, Fails}
 use Rattle.rules.specs.declared.Granted.{Granted}
 use Rattle.rules.specs.declared.Granted.the-variants.{Left, Denied}
+use Rattle.rules.specs.declared.Offset.{Offset}
 use Rattle.rules.specs.Tests.{due}
 use Rattle.rules.specs.States.{moveTests, movedState, nextUnless, nextState, grantTests, leftUnless, granting}
 use Rattle.date_rules.specs.Dates.{isLate}
@@ -140,9 +141,9 @@ module _ (n : ℕ) (fresh : List ℕ) (holder : ℕ) (t : List ℕ) (i : ℕ) (d
   doing d = carriedOut t (deedPlan (inPlaces n fresh) holder t d i (placeAt n t i))
 
   module _ (done : Did) where
-    pub does-replace : deed ≡ Replace → done ≡ carriedOut t (rekeyPlan (inPlaces n fresh) emptyHolder t i (placeAt n t i)) → done ≡ doing deed
+    pub does-replace : (offset : Offset) → deed ≡ Replace offset → done ≡ carriedOut t (rekeyPlan (inPlaces n fresh) emptyHolder t offset i (placeAt n t i)) → done ≡ doing deed
     unfolding deedPlan rekeyPlan
-    does-replace d e = e ∙ sym (ap doing d)
+    does-replace offset d e = e ∙ sym (ap doing d)
 
     pub does-allocate : (amount : ℕ) → deed ≡ Allocate amount → done ≡ carriedOut t (allocationPlan (inPlaces n []) holder t amount i (placeAt n t i)) → done ≡ doing deed
     unfolding deedPlan allocationPlan

@@ -42,7 +42,7 @@ movePlan n holder t operation code i r = record {
 module _ (env : Env) (holder : ℕ) (t : List ℕ) where
   -- what is asked of the record at place i
   unfoldable pub deedPlan : Deed → ℕ → Record → Plan
-  deedPlan Replace = rekeyPlan env holder t
+  deedPlan (Replace offset) = rekeyPlan env holder t offset
   deedPlan (Allocate amount) = allocationPlan env holder t amount
   deedPlan (Move operation code) = movePlan (env .places) holder t operation code
   deedPlan Show = showPlan env holder t

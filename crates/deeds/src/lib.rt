@@ -13,6 +13,7 @@ use plans::Performed;
 use plans::Shown;
 use rules::Granted;
 use rules::Next;
+use rules::Offset;
 use rules::Reason;
 use table::Record;
 
@@ -20,7 +21,8 @@ use table::Record;
 // record meets, so that a command is taken apart twice: which record it is about is seen to once,
 // between the two.
 pub enum Deed {
-    Replace,
+    // with the Offset that is asked for
+    Replace(Offset),
     // so many units
     Allocate(u64),
     // an operation that moves the state, with its revocation code
@@ -130,7 +132,7 @@ pub fn act_at(t: &mut [u8], n: usize, i: usize, holder: u32, deed: Deed, fresh: 
     ensures { λ r. ⌜ leaves r (now (t .exit)) ≡ carriedOut (now (t .entry)) (deedPlan (inPlaces n (now (fresh .entry))) holder (now (t .entry)) deed i (placeAt n (now (t .entry)) i)) ⌝ }
 {
     match deed {
-        Deed::Replace => births::rekey_at(t, n, i, fresh),
+        Deed::Replace(offset) => births::rekey_at(t, n, i, offset, fresh),
         Deed::Allocate(amount) => allocate_at(t, n, i, holder, amount),
         Deed::Move(operation, code) => move_at(t, n, i, holder, operation, code),
         Deed::Show => show_at(t, n, i, holder),

@@ -20,7 +20,7 @@ use Rattle.table.proofs.Places.{serial-is}
 use Rattle.search.proofs.Finds.{find-below, find-serial, find-nonzero}
 use Rattle.rules.specs.declared.Reason.{Reason}
 use Rattle.rules.specs.declared.Attributes.{Attributes}
-use Rattle.changes.specs.Records.{newRecord, heirOf, linkedTo, inState, withDates, movedTo, withCount}
+use Rattle.changes.specs.Records.{newRecord, offsetWrong, heirDated, heirOf, linkedTo, inState, withDates, movedTo, withCount}
 use Rattle.rules.specs.declared.Next.the-variants.{To}
 use Rattle.rules.specs.declared.Granted.the-variants.{Left}
 use Rattle.rules.specs.States.{nextState, granting}
@@ -29,6 +29,7 @@ use Rattle.rules.proofs.Grants.{grant-is}
 use Rattle.keeps.proofs.Stores.{Stored, other}
 use Rattle.keeps.proofs.Keeps.{Held, facts, found-stands}
 use Rattle.keeps.proofs.Leaves.{Born, Replaced, moved-leaves, count-leaves, born-leaves, heir-leaves}
+use Rattle.rules.specs.declared.Offset.{Offset}
 use Rattle.target_read.specs.declared.Target.{Target}
 use Rattle.payload.specs.declared.Command.{Command}
 use Rattle.payload.specs.declared.Command.the-variants.{Unsupported, Invalid, Create, Rekey, GetUsageAllocation, Activate, Revoke, Destroy, GetAttributes, Get}
@@ -48,7 +49,7 @@ unfolding issuedBy
 no-issue Unsupported reason = refl
 no-issue Invalid reason = refl
 no-issue (Create wanted) reason = refl
-no-issue (Rekey target) reason = refl
+no-issue (Rekey target offset) reason = refl
 no-issue (GetUsageAllocation target amount) reason = refl
 no-issue (Activate target) reason = refl
 no-issue (Revoke target code) reason = refl
@@ -61,7 +62,7 @@ unfolding grantBy
 no-grant x Unsupported reason = refl
 no-grant x Invalid reason = refl
 no-grant x (Create wanted) reason = refl
-no-grant x (Rekey target) reason = refl
+no-grant x (Rekey target offset) reason = refl
 no-grant x (GetUsageAllocation target amount) reason = refl
 no-grant x (Activate target) reason = refl
 no-grant x (Revoke target code) reason = refl
@@ -154,7 +155,7 @@ create-allowed (to-create o a) = a
 -- the total with which a command's new object begins: what Create asks for, or what its record has
 unfoldable pub beginsWith : ℕ → List ℕ → ℕ → Command → ℕ → ℕ
 beginsWith n t holder (Create wanted) i = wanted .total
-beginsWith n t holder (Rekey target) i = placeAt n t i .total
+beginsWith n t holder (Rekey target offset) i = placeAt n t i .total
 beginsWith n t holder Unsupported i = 0
 beginsWith n t holder Invalid i = 0
 beginsWith n t holder (GetUsageAllocation target amount) i = 0
@@ -167,17 +168,17 @@ beginsWith n t holder (Get target) i = 0
 -- what a command counts, with the place of the record that it names where a new object copies its total
 pub record Counts (n : ℕ) (t : List ℕ) (holder : ℕ) (c : Command) (did : Did) : Type 0 where
   pub place : ℕ
-  pub copies : (target : Target) → c ≡ Rekey target → issuedBy c (did .outcome) ≡ lastSerial t + 1 → find n t (sought holder target) ≡ At place
+  pub copies : (target : Target) (offset : Offset) → c ≡ Rekey target offset → issuedBy c (did .outcome) ≡ lastSerial t + 1 → find n t (sought holder target) ≡ At place
   pub counted : Counted n t (did .table) (issuedBy c (did .outcome)) (λ x. grantBy x c (did .outcome)) (beginsWith n t holder c place)
 
-not-rekey : {A : Type 0} {target : Target} {c : Command} → c ≡ Rekey target → (q : Command → ℕ) → q c ≡ 0 → q (Rekey target) ≡ 1 → A
+not-rekey : {A : Type 0} {target : Target} {offset : Offset} {c : Command} → c ≡ Rekey target offset → (q : Command → ℕ) → q c ≡ 0 → q (Rekey target offset) ≡ 1 → A
 not-rekey e q z o = absurd (let y : _≡_ {A = ℕ} 0 1 = sym z ∙ ap q e ∙ o in omega arith)
 
 module _ (env : Env) (holder : ℕ) (t : List ℕ) (held : Held (env .places) t) (fresh-bytes : Bytes (env .fresh)) where
   -- an item that issues nothing copies nothing
   silent : {c : Command} {did : Did} → issuedBy c (did .outcome) ≡ 0
       → Counted (env .places) t (did .table) (issuedBy c (did .outcome)) (λ x. grantBy x c (did .outcome)) (beginsWith (env .places) t holder c 0) → Counts (env .places) t holder c did
-  silent z q = record { place = 0; copies = λ target e i. absurd (let y : 0 ≡ lastSerial t + 1 = sym z ∙ i in omega arith); counted = q }
+  silent z q = record { place = 0; copies = λ target offset e i. absurd (let y : 0 ≡ lastSerial t + 1 = sym z ∙ i in omega arith); counted = q }
 
   -- the record that a search found
   module _ (x i : ℕ) (e : find (env .places) t x ≡ At i) where
@@ -222,7 +223,7 @@ module _ (env : Env) (holder : ℕ) (t : List ℕ) (held : Held (env .places) t)
       let b : Born (env .places) t (newRecord (nextSerial t) wanted (env .fresh)) _ = born-leaves (env .places) t held room (env .fresh) fresh-bytes wanted a in
       record {
         place = 0;
-        copies = λ target e i. not-rekey e isRekey refl refl;
+        copies = λ target offset e i. not-rekey e isRekey refl refl;
         counted = record {
           places = λ j l h. elim (ℕ-discrete j (b .place)) [
             | yes q ↦ inr (subst (λ (k : ℕ). New t (lastSerial t + 1) (wanted .total) (placeAt (env .places) (withBorn (env .places) t (newRecord (nextSerial t) wanted (env .fresh))) k)) (sym q)
@@ -238,7 +239,7 @@ module _ (env : Env) (holder : ℕ) (t : List ℕ) (held : Held (env .places) t)
       isRekey Unsupported = 0
       isRekey Invalid = 0
       isRekey (Create wanted) = 0
-      isRekey (Rekey target) = 1
+      isRekey (Rekey target offset) = 1
       isRekey (GetUsageAllocation target amount) = 0
       isRekey (Activate target) = 0
       isRekey (Revoke target code) = 0
@@ -246,23 +247,24 @@ module _ (env : Env) (holder : ℕ) (t : List ℕ) (held : Held (env .places) t)
       isRekey (GetAttributes target) = 0
       isRekey (Get target) = 0
 
-  rekey-counted : (target : Target) (i : ℕ) → find (env .places) t (sought holder target) ≡ At i → isDestroyed (placeAt (env .places) t i .state) ≡ false → (room : isFull (env .places) t ≡ false)
-      → Counts (env .places) t holder (Rekey target) (rekeyPlan env holder t i (placeAt (env .places) t i) .did)
-  unfolding rekeyPlan issuedBy grantBy heirOf linkedTo beginsWith
-  rekey-counted target i e alive room =
+  rekey-counted : (target : Target) (offset : Offset) (i : ℕ) → find (env .places) t (sought holder target) ≡ At i → isDestroyed (placeAt (env .places) t i .state) ≡ false
+      → offsetWrong (latestClock t) offset (placeAt (env .places) t i) ≡ false → (room : isFull (env .places) t ≡ false)
+      → Counts (env .places) t holder (Rekey target offset) (rekeyPlan env holder t offset i (placeAt (env .places) t i) .did)
+  unfolding rekeyPlan issuedBy grantBy heirOf heirDated linkedTo beginsWith
+  rekey-counted target offset i e alive right room =
       let x = sought holder target in
       let r = placeAt (env .places) t i in
-      let b : Replaced (env .places) t i (heirOf (nextSerial t) r (env .fresh)) _ =
-      heir-leaves (env .places) t held room (env .fresh) fresh-bytes i (find-below (env .places) t x i e) (found-stands (env .places) t x i e) alive in
+      let b : Replaced (env .places) t i (heirOf (nextSerial t) (latestClock t) offset r (env .fresh)) _ =
+      heir-leaves (env .places) t held room (env .fresh) fresh-bytes offset i (find-below (env .places) t x i e) (found-stands (env .places) t x i e) alive right in
       record {
         place = i;
-        copies = λ other-target q _. subst (λ (y : Target). find (env .places) t (sought holder y) ≡ At i) (same-target q) e;
+        copies = λ other-target moved q _. subst (λ (y : Target). find (env .places) t (sought holder y) ≡ At i) (same-target q) e;
         counted = record {
           places = λ j l h. elim (ℕ-discrete j (b .place)) [
-            | yes q ↦ inr (subst (λ (k : ℕ). New t (lastSerial t + 1) (r .total) (placeAt (env .places) (withHeir (env .places) t i (heirOf (nextSerial t) r (env .fresh))) k)) (sym q)
+            | yes q ↦ inr (subst (λ (k : ℕ). New t (lastSerial t + 1) (r .total) (placeAt (env .places) (withHeir (env .places) t i (heirOf (nextSerial t) (latestClock t) offset r (env .fresh))) k)) (sym q)
                 (subst (New t (lastSerial t + 1) (r .total)) (sym (b .new)) (record { serial = refl; issued = refl; total = refl; count = refl })))
             | no q ↦ inl (elim (ℕ-discrete j i) [
-              | yes p ↦ subst (λ (k : ℕ). Old (env .places) t (λ y. 0) k (placeAt (env .places) (withHeir (env .places) t i (heirOf (nextSerial t) r (env .fresh))) k)) (sym p)
+              | yes p ↦ subst (λ (k : ℕ). Old (env .places) t (λ y. 0) k (placeAt (env .places) (withHeir (env .places) t i (heirOf (nextSerial t) (latestClock t) offset r (env .fresh))) k)) (sym p)
                   (subst (Old (env .places) t (λ y. 0) i) (sym (b .old)) (record { serial = refl; total = refl; count = omega arith }))
               | no p ↦ same-old (env .places) t _ j _ (b .others j l q p) (λ y. refl)
             ])
@@ -276,7 +278,7 @@ module _ (env : Env) (holder : ℕ) (t : List ℕ) (held : Held (env .places) t)
       targetIn Unsupported d = d
       targetIn Invalid d = d
       targetIn (Create wanted) d = d
-      targetIn (Rekey target) d = target
+      targetIn (Rekey target offset) d = target
       targetIn (GetUsageAllocation target amount) d = d
       targetIn (Activate target) d = d
       targetIn (Revoke target code) d = d
@@ -284,7 +286,7 @@ module _ (env : Env) (holder : ℕ) (t : List ℕ) (held : Held (env .places) t)
       targetIn (GetAttributes target) d = d
       targetIn (Get target) d = d
 
-      same-target : {other : Target} → Rekey target ≡ Rekey other → target ≡ other
+      same-target : {other : Target} {moved : Offset} → Rekey target offset ≡ Rekey other moved → target ≡ other
       same-target q = ap (λ (c : Command). targetIn c target) q
 
   move-counted : {c : Command} {operation code : ℕ} {target : Target} (m : Moving c operation code target) (i next : ℕ) → find (env .places) t (sought holder target) ≡ At i
@@ -306,7 +308,7 @@ module _ (env : Env) (holder : ℕ) (t : List ℕ) (held : Held (env .places) t)
   unfolding issuedBy grantBy
   kind-counts c did (fails reason) m = silent {did = failing t reason} (no-issue c reason) (counted-same (env .places) t _ _ _ (no-issue c reason) (λ x. no-grant x c reason))
   kind-counts c did (creates wanted room) m = create-counted wanted (create-allowed m) room
-  kind-counts c did (rekeys target i e alive none room) m = rekey-counted target i e alive room
+  kind-counts c did (rekeys target offset i e alive none right room) m = rekey-counted target offset i e alive right room
   kind-counts c did (grants target amount i e g) m = grant-counted target amount i e g
   kind-counts c did (moves v i next e late g) m = move-counted v i next e g
   kind-counts c did (shows target i e) m = silent {did = record { outcome = Showed (shownOf (placeAt (env .places) t i)); table = t; holder = holder }} refl (counted-same (env .places) t _ _ _ refl (λ x. refl))

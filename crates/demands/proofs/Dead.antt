@@ -125,7 +125,7 @@ unfolding issuedBy
 no-issue-got Unsupported key = refl
 no-issue-got Invalid key = refl
 no-issue-got (Create wanted) key = refl
-no-issue-got (Rekey target) key = refl
+no-issue-got (Rekey target offset) key = refl
 no-issue-got (GetUsageAllocation target amount) key = refl
 no-issue-got (Activate target) key = refl
 no-issue-got (Revoke target code) key = refl

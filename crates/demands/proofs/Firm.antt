@@ -26,8 +26,9 @@ use Rattle.rules.specs.States.{isCompromise}
 use Rattle.rules.proofs.Moves.{move}
 use Rattle.rules.proofs.Grants.{grant-is}
 use Rattle.date_rules.proofs.Dating.{Dating, still, starts, stops, passes, dating}
-use Rattle.changes.specs.Records.{newRecord, heirOf, linkedTo, inState, withDates, movedTo, withCount}
+use Rattle.changes.specs.Records.{newRecord, heirDated, heirOf, linkedTo, inState, withDates, movedTo, withCount}
 use Rattle.changes.specs.Dates.{stateBy, ripened}
+use Rattle.changes.proofs.Heirs.{first-open}
 use Rattle.keeps.proofs.Stores.{Stored, other}
 use Rattle.keeps.proofs.Keeps.{Held, found-stands}
 use Rattle.keeps.proofs.Leaves.{moved-leaves, count-leaves, born-leaves, heir-leaves}
@@ -73,17 +74,17 @@ module _ (env : Env) (holder : ℕ) (t : List ℕ) (held : Held (env .places) t)
 
   kind-open : {operation : ℕ} (c : Command) (did : Did) → Kind env holder t c did → Commanded operation c
       → ((i : ℕ) → i < n → Open (latestClock t) (placeAt n t i)) → (i : ℕ) → i < n → Open (latestClock t) (placeAt n (did .table) i)
-  unfolding createPlan rekeyPlan newRecord heirOf linkedTo withCount
+  unfolding createPlan rekeyPlan newRecord heirOf heirDated linkedTo withCount
   kind-open c did (fails reason) m before i low = before i low
   kind-open c did (shows target k e) m before i low = before i low
   kind-open c did (gets target k e live) m before i low = before i low
   kind-open c did (creates wanted room) m before i low =
       stored-open (born-leaves n t held room (env .fresh) fresh-bytes wanted (create-allowed m) .stored) (λ a. not-yet refl a) before i low
-  kind-open c did (rekeys target k e alive single room) m before i low =
+  kind-open c did (rekeys target offset k e alive single right room) m before i low =
       let x = sought holder target in
-      let b = heir-leaves n t held room (env .fresh) fresh-bytes k (find-below n t x k e) (found-stands n t x k e) alive in
+      let b = heir-leaves n t held room (env .fresh) fresh-bytes offset k (find-below n t x k e) (found-stands n t x k e) alive right in
       elim (ℕ-discrete i (b .place)) [
-        | yes q ↦ subst (Open (latestClock t)) (sym (ap (placeAt n (did .table)) q ∙ b .new)) (λ a. not-yet refl a)
+        | yes q ↦ subst (Open (latestClock t)) (sym (ap (placeAt n (did .table)) q ∙ b .new)) (first-open (latestClock t) _ _)
         | no q ↦ elim (ℕ-discrete i k) [
           | yes p ↦ subst (Open (latestClock t)) (sym (ap (placeAt n (did .table)) p ∙ b .old)) (before k (find-below n t x k e))
           | no p ↦ subst (Open (latestClock t)) (sym (b .others i low q p)) (before i low)
@@ -108,7 +109,7 @@ module _ (env : Env) (holder : ℕ) (t : List ℕ) (held : Held (env .places) t)
   unfolding createPlan rekeyPlan grantBy withCount
   kind-paid c did (fails reason) x h = absurd (h (no-grant x c reason))
   kind-paid c did (creates wanted room) x h = absurd (h refl)
-  kind-paid c did (rekeys target k e alive single room) x h = absurd (h refl)
+  kind-paid c did (rekeys target offset k e alive single right room) x h = absurd (h refl)
   kind-paid c did (grants target amount k e g) x h = record {
     place = k;
     below = find-below n t (sought holder target) k e;

@@ -21,7 +21,7 @@ use Rattle.rules.specs.Numbers.{active}
 use Rattle.rules.proofs.Moves.{move}
 use Rattle.date_rules.specs.Dates.{hasCome}
 use Rattle.date_rules.proofs.Dating.{still, starts, stops, passes, dating}
-use Rattle.changes.specs.Records.{newRecord, heirOf, linkedTo, inState, withDates, movedTo, withCount}
+use Rattle.changes.specs.Records.{newRecord, heirDated, heirOf, linkedTo, inState, withDates, movedTo, withCount}
 use Rattle.changes.specs.Dates.{ripened, began}
 use Rattle.keeps.proofs.Stores.{Stored, other}
 use Rattle.keeps.proofs.Keeps.{Held, facts, found-stands}
@@ -98,15 +98,15 @@ module _ (strip : List ℕ) (k holder : ℕ) (t : List ℕ) (asked : Asked) (hel
   ]
 
   kind-still : {operation : ℕ} (c : Command) (did : Did) → Kind env holder t c did → Commanded operation c → (i : ℕ) → i < n → Still (placeAt n (did .table) i)
-  unfolding createPlan rekeyPlan newRecord heirOf linkedTo withCount movedTo withDates inState
+  unfolding createPlan rekeyPlan newRecord heirOf heirDated linkedTo withCount movedTo withDates inState
   kind-still c did (fails reason) m i low = q .idle i low
   kind-still c did (shows target place e) m i low = q .idle i low
   kind-still c did (gets target place e live) m i low = q .idle i low
   kind-still c did (creates wanted room) m i low =
       stored-still (born-leaves n t held room (env .fresh) fresh-bytes wanted (create-allowed m) .stored) (λ z. not-new refl z) i low
-  kind-still c did (rekeys target place e alive single room) m i low =
+  kind-still c did (rekeys target offset place e alive single right room) m i low =
       let s = sought holder target in
-      let b = heir-leaves n t held room (env .fresh) fresh-bytes place (find-below n t s place e) (found-stands n t s place e) alive in
+      let b = heir-leaves n t held room (env .fresh) fresh-bytes offset place (find-below n t s place e) (found-stands n t s place e) alive right in
       elim (ℕ-discrete i (b .place)) [
         | yes new ↦ subst Still (sym (ap (placeAt n (did .table)) new ∙ b .new)) (λ z. not-new refl z)
         | no new ↦ elim (ℕ-discrete i place) [

@@ -85,7 +85,7 @@ module _ (n : ℕ) (log : List Event) (t : List ℕ) (inv : Inv n log t) (e : Ev
       by-command Unsupported d = refl
       by-command Invalid d = refl
       by-command (Create wanted) d = refl
-      by-command (Rekey target) d = copied (q .copies target d (sym (ap (issuedBy (commandOf e)) same) ∙ i))
+      by-command (Rekey target offset) d = copied (q .copies target offset d (sym (ap (issuedBy (commandOf e)) same) ∙ i))
         where
           copied : find n t (sought (e .held) target) ≡ At (q .place) → limit (sought (e .held) target) log ≡ placeAt n t (q .place) .total
           copied f =

@@ -13,6 +13,7 @@ use Rattle.octets.proofs.If.{ifb-true, ifb-false, on-if}
 use Rattle.table.specs.Layout.{placeCount, materialSize}
 use Rattle.rules.specs.Numbers.{rekey, getUsageAllocation, activate, revoke, destroy}
 use Rattle.batch_item.specs.Item.{Asked}
+use Rattle.rules.specs.declared.Offset.{Offset}
 use Rattle.target_read.specs.declared.Target.{Target}
 use Rattle.payload.specs.declared.Command.{Command}
 use Rattle.payload.specs.declared.Command.the-variants.{Rekey, GetUsageAllocation}
@@ -34,7 +35,7 @@ use Rattle.demands.proofs.Ordered.{inv-order}
 
 -- ---- the placeholder
 
-rekey-is : {operation : ℕ} {target : Target} → Commanded operation (Rekey target) → operation ≡ rekey
+rekey-is : {operation : ℕ} {target : Target} {offset : Offset} → Commanded operation (Rekey target offset) → operation ≡ rekey
 rekey-is (to-rekey o) = o
 
 allocation-not : {operation amount : ℕ} {target : Target} → Commanded operation (GetUsageAllocation target amount) → operation ≡ rekey → ⊥
@@ -50,7 +51,7 @@ kind-holder : (env : Env) (holder : ℕ) (t : List ℕ) (a : Answer) (c : Comman
 unfolding heldAfter createPlan rekeyPlan
 kind-holder env holder t a c did (fails reason) m = refl
 kind-holder env holder t a c did (creates wanted room) m = refl
-kind-holder env holder t a c did (rekeys target i e alive single room) m = ifb-true (eqb (a .operation) rekey) _ holder (eq-eqb (a .operation) rekey (rekey-is m))
+kind-holder env holder t a c did (rekeys target offset i e alive single right room) m = ifb-true (eqb (a .operation) rekey) _ holder (eq-eqb (a .operation) rekey (rekey-is m))
 kind-holder env holder t a c did (grants target amount i e g) m = ifb-false (eqb (a .operation) rekey) _ holder (ne-eqb (a .operation) rekey (allocation-not m))
 kind-holder env holder t a c did (moves v i next e late g) m = ifb-false (eqb (a .operation) rekey) _ holder (ne-eqb (a .operation) rekey (move-not v m))
 kind-holder env holder t a c did (shows target i e) m = refl

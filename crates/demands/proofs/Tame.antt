@@ -14,15 +14,14 @@ use Rattle.octets.specs.Octets.{Bytes}
 use Rattle.octets.proofs.Bools.{and-i, and-no, or-l, or-r}
 use Rattle.table.specs.declared.Record.{Record}
 use Rattle.search.specs.declared.Found.{Found}
-use Rattle.search.specs.declared.Found.the-variants.{At}
+use Rattle.search.specs.declared.Found.the-variants.{At, Nothing}
 use Rattle.table.specs.Layout.{placeCount, materialSize}
-use Rattle.table.specs.Records.{placeAt, serialAt, isFree, lastSerial}
+use Rattle.table.specs.Records.{placeAt, serialAt, isFree, lastSerial, latestClock}
 use Rattle.search.specs.Search.{find, newPlace, isDestroyed}
 use Rattle.table.proofs.Places.{serial-is, state-is}
 use Rattle.search.proofs.Finds.{find-below, new-at}
 use Rattle.soundness.specs.Checked.{isAt}
-use Rattle.rules.specs.Numbers.{preActive}
-use Rattle.changes.specs.Records.{newRecord, heirOf, linkedTo, inState, withDates, movedTo, withCount}
+use Rattle.changes.specs.Records.{newRecord, heirDated, heirOf, linkedTo, inState, withDates, movedTo, withCount}
 use Rattle.rules.proofs.States.{three}
 use Rattle.rules.proofs.Moves.{Move, activates, compromises, compromises-destroyed, deactivates, destroys, destroys-compromised, move}
 use Rattle.keeps.proofs.Stores.{other}
@@ -39,7 +38,7 @@ use Rattle.engine.specs.Batch.{answerTo}
 use Rattle.engine.proofs.Steps.{step-latest}
 use Rattle.engine.proofs.Commands.{Commanded, to-activate, to-revoke, to-destroy, commanded}
 use Rattle.demands.specs.Log.{Event, issuedBy, handedBy}
-use Rattle.demands.specs.Demand3.{namedBy, isUnderstood, movesState, asksKey, carries, codeOf, listed, Tame}
+use Rattle.demands.specs.Demand3.{namedBy, isUnderstood, movesState, asksKey, carries, codeOf, bornBy, foundIn, listed, Tame}
 use Rattle.demands.proofs.Counted.{create-allowed, no-issue, move-issues, Counts, kind-counts}
 
 -- ---- the listed transitions
@@ -88,6 +87,20 @@ not-taken n t c did i k e q = and-false (not (eqb (issuedBy c (did .outcome)) 0)
 none-taken : (n : ℕ) (t : List ℕ) (c : Command) (did : Did) (i : ℕ) → issuedBy c (did .outcome) ≡ 0 → tookAt n t c did i ≡ false
 none-taken n t c did i e = and-no (not (eqb (issuedBy c (did .outcome)) 0)) (isAt i (newPlace n t)) (ap (λ (s : ℕ). not (eqb s 0)) e)
 
+-- the record that a search in n places found
+pub foundAt : ℕ → List ℕ → Found → Record
+foundAt n t (At i) = placeAt n t i
+foundAt n t Nothing = placeAt n t 0
+
+found-same : (t : List ℕ) (f : Found) → foundAt placeCount t f ≡ foundIn t f
+unfolding foundAt foundIn
+found-same t (At i) = refl
+found-same t Nothing = refl
+
+-- the state in which what the item issues begins
+abbrev bornAs : ℕ → ℕ → List ℕ → Command → ℕ
+bornAs n holder t c = bornBy (latestClock t) c (foundAt n t (find n t (namedBy holder c)))
+
 -- and moves its state by a listed transition
 abbrev wayAt : ℕ → List ℕ → ℕ → Command → Did → ℕ → Bool
 wayAt n t operation c did i = listed operation (codeOf c) (placeAt n t i .state) (placeAt n (did .table) i .state)
@@ -100,7 +113,7 @@ pub record TameAt (n holder : ℕ) (t : List ℕ) (operation : ℕ) (c : Command
       → (isFailed (did .outcome) ≡ false) × (namedAt n holder t c i ≡ true) × (wayAt n t operation c did i ≡ true)
   pub obeys : namedAt n holder t c i ≡ true → isFailed (did .outcome) ≡ false → movesState c ≡ true → wayAt n t operation c did i ≡ true
   pub taken : tookAt n t c did i ≡ true
-      → ((isFree t i || isDestroyed (placeAt n t i .state)) ≡ true) × (placeAt n (did .table) i .serial ≡ issuedBy c (did .outcome)) × (placeAt n (did .table) i .state ≡ preActive)
+      → ((isFree t i || isDestroyed (placeAt n t i .state)) ≡ true) × (placeAt n (did .table) i .serial ≡ issuedBy c (did .outcome)) × (placeAt n (did .table) i .state ≡ bornAs n holder t c)
 
 module _ {n holder : ℕ} {t : List ℕ} {operation : ℕ} {c : Command} {did : Did} (i : ℕ) where
   -- a record that stayed the same, and was not to move
@@ -138,7 +151,7 @@ module _ {n holder : ℕ} {t : List ℕ} {operation : ℕ} {c : Command} {did : 
 
   -- an object that is new
   born : (k : ℕ) → newPlace n t ≡ At k → i ≡ k → (issuedBy c (did .outcome) ≡ 0 → ⊥) → movesState c ≡ false
-      → placeAt n (did .table) i .serial ≡ issuedBy c (did .outcome) → placeAt n (did .table) i .state ≡ preActive → TameAt n holder t operation c did i
+      → placeAt n (did .table) i .serial ≡ issuedBy c (did .outcome) → placeAt n (did .table) i .state ≡ bornAs n holder t c → TameAt n holder t operation c did i
   born k e q new still s b = record {
     others = λ a miss. absurd (true≢false (sym hit ∙ miss));
     kept = λ miss. absurd (true≢false (sym hit ∙ miss));
@@ -173,7 +186,7 @@ module _ (env : Env) (holder : ℕ) (t : List ℕ) (held : Held (env .places) t)
   here u q e = ap (placeAt n u) q ∙ e
 
   pub kind-tame : {operation : ℕ} (c : Command) (did : Did) → Kind env holder t c did → Commanded operation c → TameAt (env .places) holder t operation c did i
-  unfolding createPlan rekeyPlan newRecord heirOf linkedTo withCount movedTo withDates inState namedBy movesState isFailed issuedBy
+  unfolding createPlan rekeyPlan newRecord heirOf heirDated linkedTo withCount movedTo withDates inState namedBy movesState isFailed issuedBy bornBy foundAt
   kind-tame c did (fails reason) m = stayed i refl (none-taken n t c did i (no-issue c reason)) (λ a f z. true≢false f)
   kind-tame c did (shows target k e) m = stayed i refl refl (λ a f z. false≢true z)
   kind-tame c did (gets target k e live) m = stayed i refl refl (λ a f z. false≢true z)
@@ -184,12 +197,13 @@ module _ (env : Env) (holder : ℕ) (t : List ℕ) (held : Held (env .places) t)
         | yes q ↦ (let r = here (did .table) q (b .stored .here) in
             born i (b .place) (b .due) q (λ z. (let y : lastSerial t + 1 ≡ 0 = z in omega arith)) refl (ap (λ (x : Record). x .serial) r) (ap (λ (x : Record). x .state) r))
       ]
-  kind-tame c did (rekeys target k e alive single room) m =
+  kind-tame c did (rekeys target offset k e alive single right room) m =
       let x = sought holder target in
-      let b = heir-leaves n t held room (env .fresh) fresh-bytes k (find-below n t x k e) (found-stands n t x k e) alive in
+      let b = heir-leaves n t held room (env .fresh) fresh-bytes offset k (find-below n t x k e) (found-stands n t x k e) alive right in
+      let begins = ap (λ (f : Found). bornBy (latestClock t) c (foundAt n t f)) e in
       elim (ℕ-discrete i (b .place)) [
         | yes q ↦ (let r = here (did .table) q (b .new) in
-            born i (b .place) (b .due) q (λ z. (let y : lastSerial t + 1 ≡ 0 = z in omega arith)) refl (ap (λ (x : Record). x .serial) r) (ap (λ (x : Record). x .state) r))
+            born i (b .place) (b .due) q (λ z. (let y : lastSerial t + 1 ≡ 0 = z in omega arith)) refl (ap (λ (x : Record). x .serial) r) (ap (λ (x : Record). x .state) r ∙ sym begins))
         | no q ↦ elim (ℕ-discrete i k) [
           | yes p ↦ (let r = here (did .table) p (b .old) in
               let s : placeAt n t k ≡ placeAt n t i = ap (placeAt n t) (sym p) in
@@ -228,14 +242,14 @@ module _ (env : Env) (holder : ℕ) (t : List ℕ) (held : Held (env .places) t)
 -- what is issued stands
 kind-stands : (env : Env) (holder : ℕ) (t : List ℕ) → Held (env .places) t → Bytes (env .fresh) → {operation : ℕ} (c : Command) (did : Did) → Kind env holder t c did → Commanded operation c
     → (issuedBy c (did .outcome) ≡ 0 → ⊥) → (i : ℕ) × (i < env .places) × (placeAt (env .places) (did .table) i .serial ≡ issuedBy c (did .outcome))
-unfolding createPlan rekeyPlan newRecord heirOf issuedBy
+unfolding createPlan rekeyPlan newRecord heirOf heirDated issuedBy
 kind-stands env holder t held fresh-bytes c did (fails reason) m h = absurd (h (no-issue c reason))
 kind-stands env holder t held fresh-bytes c did (creates wanted room) m h =
     let b = born-leaves (env .places) t held room (env .fresh) fresh-bytes wanted (create-allowed m) in
     (b .place, b .below, ap (λ (r : Record). r .serial) (b .stored .here))
-kind-stands env holder t held fresh-bytes c did (rekeys target k e alive single room) m h =
+kind-stands env holder t held fresh-bytes c did (rekeys target offset k e alive single right room) m h =
     let x = sought holder target in
-    let b = heir-leaves (env .places) t held room (env .fresh) fresh-bytes k (find-below (env .places) t x k e) (found-stands (env .places) t x k e) alive in
+    let b = heir-leaves (env .places) t held room (env .fresh) fresh-bytes offset k (find-below (env .places) t x k e) (found-stands (env .places) t x k e) alive right in
     (b .place, b .below, ap (λ (r : Record). r .serial) (b .new))
 kind-stands env holder t held fresh-bytes c did (grants target amount k e g) m h = absurd (h refl)
 kind-stands env holder t held fresh-bytes c did (moves v k next e late g) m h = absurd (h (move-issues v (did .outcome)))
@@ -254,7 +268,7 @@ module _ (env : Env) (holder : ℕ) (t : List ℕ) where
   unfolding createPlan rekeyPlan withCount movedTo withDates inState shownOf keyOf isFailed issuedBy namedBy carries
   kind-about c did (fails reason) m f z = absurd (true≢false f)
   kind-about c did (creates wanted room) m f z = absurd (let y : lastSerial t + 1 ≡ 0 = z in omega arith)
-  kind-about c did (rekeys target k e live single room) m f z = absurd (let y : lastSerial t + 1 ≡ 0 = z in omega arith)
+  kind-about c did (rekeys target offset k e live single right room) m f z = absurd (let y : lastSerial t + 1 ≡ 0 = z in omega arith)
   kind-about c did (grants target amount k e g) m f z = named-there c did (sought holder target) k e refl refl
   kind-about c did (moves {target = target} v k next e late g) m f z = named-there c did (sought holder target) k e (move-code holder v m .2) refl
   kind-about c did (shows target k e) m f z = named-there c did (sought holder target) k e refl refl
@@ -271,7 +285,7 @@ kind-hands : (env : Env) (holder : ℕ) (t : List ℕ) (c : Command) (did : Did)
 unfolding createPlan rekeyPlan handedBy asksKey
 kind-hands env holder t c did (fails reason) h = absurd (h refl)
 kind-hands env holder t c did (creates wanted room) h = absurd (h refl)
-kind-hands env holder t c did (rekeys target k e live single room) h = absurd (h refl)
+kind-hands env holder t c did (rekeys target offset k e live single right room) h = absurd (h refl)
 kind-hands env holder t c did (grants target amount k e g) h = absurd (h refl)
 kind-hands env holder t c did (moves v k next e late g) h = absurd (h refl)
 kind-hands env holder t c did (shows target k e) h = absurd (h refl)
@@ -282,7 +296,7 @@ kind-alive : (env : Env) (holder : ℕ) (t : List ℕ) (c : Command) (did : Did)
 unfolding createPlan rekeyPlan isFailed namedBy asksKey
 kind-alive env holder t c did (fails reason) i a f k = absurd (true≢false f)
 kind-alive env holder t c did (creates wanted room) i a f k = absurd (false≢true k)
-kind-alive env holder t c did (rekeys target j e live single room) i a f k = absurd (false≢true k)
+kind-alive env holder t c did (rekeys target offset j e live single right room) i a f k = absurd (false≢true k)
 kind-alive env holder t c did (grants target amount j e g) i a f k = absurd (false≢true k)
 kind-alive env holder t c did (moves v j next e late g) i a f k = absurd (true≢false (sym k ∙ moving-asks v))
 kind-alive env holder t c did (shows target j e) i a f k = absurd (false≢true k)
@@ -293,7 +307,7 @@ kind-failed : (env : Env) (holder : ℕ) (t : List ℕ) (c : Command) (did : Did
 unfolding createPlan rekeyPlan isFailed
 kind-failed env holder t c did (fails reason) h = refl
 kind-failed env holder t c did (creates wanted room) h = absurd (false≢true h)
-kind-failed env holder t c did (rekeys target k e alive single room) h = absurd (false≢true h)
+kind-failed env holder t c did (rekeys target offset k e alive single right room) h = absurd (false≢true h)
 kind-failed env holder t c did (grants target amount k e g) h = absurd (false≢true h)
 kind-failed env holder t c did (moves v k next e late g) h = absurd (false≢true h)
 kind-failed env holder t c did (shows target k e) h = refl
@@ -310,7 +324,7 @@ kind-understood : (env : Env) (holder : ℕ) (t : List ℕ) (c : Command) (did :
 unfolding isUnderstood isFailed
 kind-understood env holder t c did (fails reason) h = refl
 kind-understood env holder t c did (creates wanted room) h = absurd (true≢false h)
-kind-understood env holder t c did (rekeys target k e alive single room) h = absurd (true≢false h)
+kind-understood env holder t c did (rekeys target offset k e alive single right room) h = absurd (true≢false h)
 kind-understood env holder t c did (grants target amount k e g) h = absurd (true≢false h)
 kind-understood env holder t c did (moves v k next e late g) h = absurd (true≢false (sym (moving-understood v) ∙ h))
 kind-understood env holder t c did (shows target k e) h = absurd (true≢false h)
@@ -343,7 +357,7 @@ module _ (strip : List ℕ) (k holder : ℕ) (t : List ℕ) (asked : Asked) wher
     kept = λ i low b. serial-is placeCount (did .table) i ∙ at i low .kept b ∙ sym (serial-is placeCount t i);
     moves = λ i low b d. (let w = at i low .moves b d in record { done = w .0; named = w .1; way = w .2 });
     obeys = λ i low a f m. at i low .obeys a f m;
-    taken = λ i low y. (let w = at i low .taken y in record { was = w .0; serial = serial-is placeCount (did .table) i ∙ w .1; state = w .2 });
+    taken = λ i low y. (let w = at i low .taken y in record { was = w .0; serial = serial-is placeCount (did .table) i ∙ w .1; state = w .2 ∙ ap (bornBy (latestClock t) c) (found-same t _) });
     stands = λ h. (let w = kind-stands own holder t held fresh-bytes c did went (commanded (asked .operation) (asked .payload)) h in (w .0, record { below = w .1; serial = serial-is placeCount (did .table) (w .0) ∙ w .2 }));
     about = λ f z. (let w = kind-about own holder t c did went (commanded (asked .operation) (asked .payload)) f z in record { place = w .0; below = w .1; named = w .2; serial = w .3 });
     hands = kind-hands own holder t c did went;

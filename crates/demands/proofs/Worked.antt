@@ -23,11 +23,15 @@ use Rattle.search.specs.Search.{firstFrom, orElse, find, freePlace, destroyedPl
 use Rattle.soundness.specs.Checked.{isAt}
 use Rattle.rules.specs.declared.Reason.the-variants.{UsageLimitExceeded}
 use Rattle.batch_item.specs.Item.{Asked}
+use Rattle.rules.specs.declared.Offset.{Offset}
+use Rattle.rules.specs.declared.Offset.the-variants.{NoOffset, Seconds}
 use Rattle.target_read.specs.declared.Target.the-variants.{Placeholder, Serial}
 use Rattle.payload.specs.declared.Command.{Command}
 use Rattle.payload.specs.declared.Command.the-variants.{Unsupported, Invalid, Create, Rekey, GetUsageAllocation, Activate, Revoke, Destroy, GetAttributes, Get}
 use Rattle.attributes_read.specs.Attributes.{limitIn, limitFirst, dateFirst, orUnset, datesIn, wantedOf, limitedIn, maskedIn, attributesIn}
-use Rattle.payload.specs.Payload.{createIn, aloneIn, allocationIn, revokeIn, orInvalid, command}
+use Rattle.payload.specs.Payload.{createIn, offsetOf, rekeyIn, aloneIn, allocationIn, revokeIn, orInvalid, command}
+use Rattle.date_rules.specs.Dates.{startedState, stoppedState, datedState}
+use Rattle.changes.specs.Records.{heirActivation, heirDeactivation}
 use Rattle.target_read.specs.Target.{targetOf, targetIn}
 use Rattle.plans.specs.declared.Key.{Key}
 use Rattle.plans.specs.declared.Outcome.{Outcome}
@@ -38,7 +42,7 @@ use Rattle.answer.specs.Respond.{Answer}
 use Rattle.demands.specs.Box.{Call, counted}
 use Rattle.demands.specs.Demand2.{Link, ofFrame, lowest, goesOn, linkAt, answerFor, answersFor}
 use Rattle.demands.specs.Log.{Event, heldAfter, paired, orNoItems, orNoAnswers, onto, issuedBy, issued, grantBy, granted, limitBy, limit, handedBy, destroyedBy, wasDestroyed, handedDead}
-use Rattle.demands.specs.Demand3.{namedBy, isUnderstood, movesState, asksKey, carries, codeOf, names, takes, mayTake, bornState, listed, listedFor, listedBy}
+use Rattle.demands.specs.Demand3.{namedBy, isUnderstood, movesState, asksKey, carries, codeOf, names, takes, mayTake, bornBy, foundIn, bornState, listed, listedFor, listedBy}
 use Rattle.demands.specs.Hope.{largest}
 
 -- ---- commands and outcomes
@@ -49,7 +53,7 @@ commands =
     Unsupported
     ∷ Invalid
     ∷ Create (record { bits = 128; mask = 4; unit = 2; total = 100; activation = 0; deactivation = 0 })
-    ∷ Rekey (Serial 7)
+    ∷ Rekey (Serial 7) NoOffset
     ∷ GetUsageAllocation (Serial 7) 60
     ∷ Activate (Serial 7)
     ∷ Revoke (Serial 7) 5
@@ -60,7 +64,7 @@ commands =
 
 -- by the placeholder
 heldCommands : List Command
-heldCommands = Rekey Placeholder ∷ GetUsageAllocation Placeholder 60 ∷ Activate Placeholder ∷ Revoke Placeholder 5 ∷ Destroy Placeholder ∷ GetAttributes Placeholder ∷ Get Placeholder ∷ []
+heldCommands = Rekey Placeholder NoOffset ∷ GetUsageAllocation Placeholder 60 ∷ Activate Placeholder ∷ Revoke Placeholder 5 ∷ Destroy Placeholder ∷ GetAttributes Placeholder ∷ Get Placeholder ∷ []
 
 -- a key of 128 bits
 key : ℕ → Key
@@ -324,6 +328,10 @@ placeCases =
     ∷ same (ofPlaces (listedFor activating (keyed 1) (keyed 2))) (0 ∷ 1 ∷ 0 ∷ [])
     ∷ same (ofPlaces (listedFor activating (keyed 2) (keyed 1))) (0 ∷ 0 ∷ 0 ∷ [])
     ∷ same (bornState activating (keyed 2) ∷ []) (1 ∷ [])
+    -- at clock 5 a replacement begins as its dates make it, copied or moved by an Offset, and everything else Pre-Active
+    ∷ same (map (λ c. bornBy 5 c (datedKey 4 5 2)) commands) (1 ∷ 1 ∷ 1 ∷ 3 ∷ 1 ∷ 1 ∷ 1 ∷ 1 ∷ 1 ∷ 1 ∷ [])
+    ∷ same (map (λ (o : Offset). bornBy 5 (Rekey (Serial 7) o) (datedKey 4 6 2)) (NoOffset ∷ Seconds 0 ∷ Seconds 1 ∷ [])) (2 ∷ 2 ∷ 1 ∷ [])
+    ∷ same (map (λ (o : Offset). bornBy 5 (Rekey (Serial 7) o) (datedKey 4 4 3)) (NoOffset ∷ Seconds 0 ∷ Seconds 1 ∷ [])) (3 ∷ 3 ∷ 1 ∷ [])
     -- a free place may be taken, and one in state 5 or 6
     ∷ same (ofPlaces (mayTake (keyed 4))) (1 ∷ 0 ∷ 1 ∷ [])
     ∷ same (ofPlaces (mayTake (keyed 5))) (1 ∷ 1 ∷ 1 ∷ [])
@@ -365,5 +373,5 @@ cases = commandCases ++ (stateCases ++ (dateCases ++ (logCases ++ (placeCases ++
 
 -- every case holds
 pub worked : all (λ b. b) cases ≡ true
-unfolding cases dateCases datedKey dueTo dueFrom listedBy largest before latestClock key of-none destroyedIn got asksKey carries handedBy destroyedBy wasDestroyed handedDead commandCases stateCases logCases placeCases callCases commands heldCommands outcomes flag matrix none-of eight waysTo waysFrom ways itemsRead asking items answering answers events log ofEach heldIn limitOf holding keyed activating rekeying ofPlaces call second goesOn isFailed answerFor namedBy isUnderstood movesState codeOf listed isAt heldAfter paired orNoItems orNoAnswers onto issuedBy issued grantBy granted limitBy limit ofFrame lowest sought ifb _>>=_ _>>_ isSome be fromBeAfter fromBe all same lengthOk text valueOk encode itemOk wellFormed ended headed firstOf putValue putGroup more walk parse startsWith bytesOf bodyOf numberOf optional digits identifier fromDigitsAfter serialOf limitIn limitFirst dateFirst orUnset datesIn wantedOf limitedIn maskedIn attributesIn createIn targetOf targetIn aloneIn allocationIn revokeIn orInvalid command line body recordOf placeAt withPlace serialAt stateAt blank firstFrom orElse find freePlace destroyedPlace newPlace
+unfolding cases bornBy foundIn heirActivation heirDeactivation datedState stoppedState startedState dateCases datedKey dueTo dueFrom listedBy largest before latestClock key of-none destroyedIn got asksKey carries handedBy destroyedBy wasDestroyed handedDead commandCases stateCases logCases placeCases callCases commands heldCommands outcomes flag matrix none-of eight waysTo waysFrom ways itemsRead asking items answering answers events log ofEach heldIn limitOf holding keyed activating rekeying ofPlaces call second goesOn isFailed answerFor namedBy isUnderstood movesState codeOf listed isAt heldAfter paired orNoItems orNoAnswers onto issuedBy issued grantBy granted limitBy limit ofFrame lowest sought ifb _>>=_ _>>_ isSome be fromBeAfter fromBe all same lengthOk text valueOk encode itemOk wellFormed ended headed firstOf putValue putGroup more walk parse startsWith bytesOf bodyOf numberOf optional digits identifier fromDigitsAfter serialOf limitIn limitFirst dateFirst orUnset datesIn wantedOf limitedIn maskedIn attributesIn createIn targetOf targetIn offsetOf rekeyIn aloneIn allocationIn revokeIn orInvalid command line body recordOf placeAt withPlace serialAt stateAt blank firstFrom orElse find freePlace destroyedPlace newPlace
 worked = refl

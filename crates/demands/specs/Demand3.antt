@@ -11,13 +11,15 @@ use lib.Dec.{eqb}
 use Rattle.table.specs.Layout.{placeCount, materialSize}
 use Rattle.table.specs.declared.Record.{Record}
 use Rattle.table.specs.Records.{serialAt, isFree, lastSerial, latestClock, blank}
+use Rattle.search.specs.declared.Found.{Found}
+use Rattle.search.specs.declared.Found.the-variants.{At, Nothing}
 use Rattle.search.specs.Search.{find, newPlace, isDestroyed}
 use Rattle.soundness.specs.Sound.{sound}
 use Rattle.soundness.specs.Checked.{isAt}
 use Rattle.rules.specs.Numbers.{activate, revoke, destroy, preActive}
 use Rattle.rules.specs.States.{isCompromise}
-use Rattle.date_rules.specs.Dates.{hasCome}
-use Rattle.changes.specs.Records.{inState}
+use Rattle.date_rules.specs.Dates.{hasCome, datedState}
+use Rattle.changes.specs.Records.{inState, heirActivation, heirDeactivation}
 use Rattle.payload.specs.declared.Command.{Command}
 use Rattle.payload.specs.declared.Command.the-variants.{Unsupported, Invalid, Create, Rekey, GetUsageAllocation, Activate, Revoke, Destroy, GetAttributes, Get}
 use Rattle.plans.specs.declared.Outcome.{Outcome}
@@ -47,7 +49,7 @@ unfoldable pub namedBy : ℕ → Command → ℕ
 namedBy holder Unsupported = 0
 namedBy holder Invalid = 0
 namedBy holder (Create wanted) = 0
-namedBy holder (Rekey target) = sought holder target
+namedBy holder (Rekey target offset) = sought holder target
 namedBy holder (GetUsageAllocation target amount) = sought holder target
 namedBy holder (Activate target) = sought holder target
 namedBy holder (Revoke target code) = sought holder target
@@ -60,7 +62,7 @@ unfoldable pub isUnderstood : Command → Bool
 isUnderstood Unsupported = false
 isUnderstood Invalid = false
 isUnderstood (Create wanted) = true
-isUnderstood (Rekey target) = true
+isUnderstood (Rekey target offset) = true
 isUnderstood (GetUsageAllocation target amount) = true
 isUnderstood (Activate target) = true
 isUnderstood (Revoke target code) = true
@@ -73,7 +75,7 @@ unfoldable pub movesState : Command → Bool
 movesState Unsupported = false
 movesState Invalid = false
 movesState (Create wanted) = false
-movesState (Rekey target) = false
+movesState (Rekey target offset) = false
 movesState (GetUsageAllocation target amount) = false
 movesState (Activate target) = true
 movesState (Revoke target code) = true
@@ -86,7 +88,7 @@ unfoldable pub codeOf : Command → ℕ
 codeOf Unsupported = 0
 codeOf Invalid = 0
 codeOf (Create wanted) = 0
-codeOf (Rekey target) = 0
+codeOf (Rekey target offset) = 0
 codeOf (GetUsageAllocation target amount) = 0
 codeOf (Activate target) = 0
 codeOf (Revoke target code) = code
@@ -99,7 +101,7 @@ unfoldable pub asksKey : Command → Bool
 asksKey Unsupported = false
 asksKey Invalid = false
 asksKey (Create wanted) = false
-asksKey (Rekey target) = false
+asksKey (Rekey target offset) = false
 asksKey (GetUsageAllocation target amount) = false
 asksKey (Activate target) = false
 asksKey (Revoke target code) = false
@@ -127,9 +129,27 @@ takes ev t i = not (eqb (issuedBy (commandOf ev) (ev .answer .outcome)) 0) && is
 abbrev pub mayTake : List ℕ → ℕ → Bool
 mayTake t i = isFree t i || isDestroyed (recordIn t i .state)
 
--- the state in which an object begins that the item issued: "Starts Pre-Active"
+-- the state in which an object begins: "Starts Pre-Active"; for Re-key, by 02, L4, "State follows from the dates as L3 applies them to a Pre-Active key", with the dates that it gives the replacement of a record
+unfoldable pub bornBy : ℕ → Command → Record → ℕ
+bornBy clock Unsupported r = preActive
+bornBy clock Invalid r = preActive
+bornBy clock (Create wanted) r = preActive
+bornBy clock (Rekey target offset) r = datedState clock (heirActivation clock offset r) (heirDeactivation clock offset r) preActive
+bornBy clock (GetUsageAllocation target amount) r = preActive
+bornBy clock (Activate target) r = preActive
+bornBy clock (Revoke target code) r = preActive
+bornBy clock (Destroy target) r = preActive
+bornBy clock (GetAttributes target) r = preActive
+bornBy clock (Get target) r = preActive
+
+-- the record that a search found; where it found none, that of place 0 stands in
+unfoldable pub foundIn : List ℕ → Found → Record
+foundIn t (At i) = recordIn t i
+foundIn t Nothing = recordIn t 0
+
+-- the state in which an object begins that the item issued
 abbrev pub bornState : Event → List ℕ → ℕ
-bornState ev t = preActive
+bornState ev t = bornBy (latestClock t) (commandOf ev) (foundIn t (find (placesOf t) t (namedBy (ev .held) (commandOf ev))))
 
 -- 01's list of transitions: Activate 1 to 2; Revoke with codes 2 and 3: 1, 2, 3 to 4 and 5 to 6, with the others 2 to 3; Destroy 1 and 3 to 5, 4 to 6
 unfoldable pub listed : ℕ → ℕ → ℕ → ℕ → Bool

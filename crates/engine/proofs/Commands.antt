@@ -14,6 +14,7 @@ use Rattle.values.specs.Values.{bitsOk, maskOk, unitOk, totalOk}
 use Rattle.rules.specs.declared.Attributes.{Attributes}
 use Rattle.rules.specs.Numbers.{create, rekey, get, getAttributes, getUsageAllocation, activate, revoke, destroy}
 use Rattle.keeps.proofs.Begun.{Allowed}
+use Rattle.rules.specs.declared.Offset.{Offset}
 use Rattle.target_read.specs.declared.Target.{Target}
 use Rattle.payload.specs.declared.Command.{Command}
 use Rattle.payload.specs.declared.Command.the-variants.{Unsupported, Invalid, Create, Rekey, GetUsageAllocation, Activate, Revoke, Destroy, GetAttributes, Get}
@@ -32,7 +33,7 @@ pub data Commanded (operation : ℕ) : Command → Type 0 where
   not-supported : Commanded operation Unsupported
   not-valid : Commanded operation Invalid
   to-create : {wanted : Attributes} → operation ≡ create → Allowed wanted → Commanded operation (Create wanted)
-  to-rekey : {target : Target} → operation ≡ rekey → Commanded operation (Rekey target)
+  to-rekey : {target : Target} {offset : Offset} → operation ≡ rekey → Commanded operation (Rekey target offset)
   to-allocate : {target : Target} {amount : ℕ} → operation ≡ getUsageAllocation → Commanded operation (GetUsageAllocation target amount)
   to-activate : {target : Target} → operation ≡ activate → Commanded operation (Activate target)
   to-revoke : {target : Target} {code : ℕ} → operation ≡ revoke → Commanded operation (Revoke target code)
@@ -129,7 +130,7 @@ module _ (operation : ℕ) (t : Items) where
   by-command (Create wanted) e =
       let o = is e refl refl in
       to-create o (create-ok t wanted (sym (of-create operation t o) ∙ e))
-  by-command (Rekey target) e = to-rekey (is e refl refl)
+  by-command (Rekey target offset) e = to-rekey (is e refl refl)
   by-command (GetUsageAllocation target amount) e = to-allocate (is e refl refl)
   by-command (Activate target) e = to-activate (is e refl refl)
   by-command (Revoke target code) e = to-revoke (is e refl refl)

@@ -32,6 +32,7 @@ use Rattle.keeps.proofs.Leaves.{moved-leaves, count-leaves, born-leaves, heir-l
 use Rattle.words.specs.Words.{wordsOf, wordBytes, wordsOk}
 use Rattle.words.proofs.Laws.{words-back, words-fit}
 use Rattle.batch_item.specs.Item.{Asked, idMost}
+use Rattle.rules.specs.declared.Offset.{Offset}
 use Rattle.target_read.specs.declared.Target.{Target}
 use Rattle.payload.specs.declared.Command.{Command}
 use Rattle.payload.specs.declared.Command.the-variants.{Create, Rekey, GetUsageAllocation, GetAttributes, Get}
@@ -47,7 +48,7 @@ use Rattle.engine.proofs.Commands.{Commanded, to-create, to-rekey, to-a
 create-allowed : {operation : ℕ} {wanted : Attributes} → Commanded operation (Create wanted) → (operation ≡ create) × Allowed wanted
 create-allowed (to-create o a) = (o, a)
 
-rekey-done : {operation : ℕ} {target : Target} → Commanded operation (Rekey target) → answersDone operation ≡ true
+rekey-done : {operation : ℕ} {target : Target} {offset : Offset} → Commanded operation (Rekey target offset) → answersDone operation ≡ true
 rekey-done (to-rekey o) = rw o
 
 allocation-done : {operation amount : ℕ} {target : Target} → Commanded operation (GetUsageAllocation target amount) → answersDone operation ≡ true
@@ -132,8 +133,8 @@ module _ (env : Env) (holder : ℕ) (t : List ℕ) (held : Held (env .places) t)
   unfolding createPlan rekeyPlan
   kind-held c did (fails reason) m = held
   kind-held c did (creates wanted room) m = keeps-born (env .places) t held room (env .fresh) fresh-bytes long wanted (create-allowed m .1)
-  kind-held c did (rekeys target i e alive none room) m =
-      keeps-heir (env .places) t held room (env .fresh) fresh-bytes long i (find-below (env .places) t (sought holder target) i e) (found-stands (env .places) t (sought holder target) i e) alive none
+  kind-held c did (rekeys target offset i e alive none right room) m =
+      keeps-heir (env .places) t held room (env .fresh) fresh-bytes long offset i (find-below (env .places) t (sought holder target) i e) (found-stands (env .places) t (sought holder target) i e) alive none right
   kind-held c did (grants target amount i e g) m =
       keeps-count (env .places) t held i (find-below (env .places) t (sought holder target) i e) (found-stands (env .places) t (sought holder target) i e) amount _ g
   kind-held c did (moves {operation} {code} {target} v i next e late g) m =
@@ -146,8 +147,8 @@ module _ (env : Env) (holder : ℕ) (t : List ℕ) (held : Held (env .places) t)
   unfolding createPlan rekeyPlan
   kind-latest c did (fails reason) m = refl
   kind-latest c did (creates wanted room) m = born-leaves (env .places) t held room (env .fresh) fresh-bytes wanted (create-allowed m .1) .stored .latest
-  kind-latest c did (rekeys target i e alive none room) m =
-      heir-leaves (env .places) t held room (env .fresh) fresh-bytes i (find-below (env .places) t (sought holder target) i e) (found-stands (env .places) t (sought holder target) i e) alive .latest
+  kind-latest c did (rekeys target offset i e alive none right room) m =
+      heir-leaves (env .places) t held room (env .fresh) fresh-bytes offset i (find-below (env .places) t (sought holder target) i e) (found-stands (env .places) t (sought holder target) i e) alive right .latest
   kind-latest c did (grants target amount i e g) m =
       count-leaves (env .places) t held i (find-below (env .places) t (sought holder target) i e) (found-stands (env .places) t (sought holder target) i e) amount _ g .latest
   kind-latest c did (moves {operation} {code} {target} v i next e late g) m =
@@ -160,7 +161,7 @@ module _ (env : Env) (holder : ℕ) (t : List ℕ) (held : Held (env .places) t)
   kind-ok c did (fails reason) m = refl
   kind-ok {operation} c did (creates wanted room) m =
       and-i (eqb operation create) (serialOk (nextSerial t)) (eq-eqb operation create (create-allowed m .0)) (serial-ok (nextSerial t) (λ z. omega arith) (next-fits (env .places) t held room))
-  kind-ok {operation} c did (rekeys target i e alive none room) m =
+  kind-ok {operation} c did (rekeys target offset i e alive none right room) m =
       and-i (answersDone operation) (serialOk (nextSerial t)) (rekey-done m) (serial-ok (nextSerial t) (λ z. omega arith) (next-fits (env .places) t held room))
   kind-ok {operation} c did (grants target amount i e g) m =
       and-i (answersDone operation) (serialOk (placeAt (env .places) t i .serial)) (allocation-done m) (record-ok (sought holder target) i e)

@@ -4,10 +4,10 @@ use mathlib.Core.Path.{_≡_, refl}
 use mathlib.Core.Logic.{_⊎_, inl, inr, ⊎-elim}
 use Prim.Native.Nat.{ℕ, _^_, _≤_, _<_}
 use native.Mathlib.Omega.{arith}
-use mathlib.Core.Bool.{true, false≢true}
+use mathlib.Core.Bool.{true, false}
 use mathlib.Core.List.{List}
 use lib.ListN.{length}
-use lib.Dec.{leb}
+use lib.Dec.{leb, eqb}
 use borrow.Author.Tests.{eqb-true, leb-true, le-leb}
 use Rattle.octets.specs.Octets.{Bytes}
 use Rattle.table.specs.declared.Record.{Record}
@@ -18,7 +18,11 @@ use Rattle.octets.proofs.Bools.{and-l, and-r, and-i, or-cases}
 use Rattle.record_rules.proofs.Fit.{Unlimited, Limited, Fit, Dated}
 use Rattle.rules.specs.declared.Attributes.{Attributes}
 use Rattle.rules.specs.Numbers.{preActive}
-use Rattle.changes.specs.Records.{materialFrom, newRecord, heirOf}
+use Rattle.rules.specs.declared.Offset.{Offset}
+use Rattle.search.specs.Search.{isDestroyed}
+use Rattle.date_rules.specs.Dates.{datedState}
+use Rattle.changes.specs.Records.{materialFrom, newRecord, heirActivation, heirDeactivation, offsetWrong, heirDated, heirOf}
+use Rattle.changes.proofs.Heirs.{heir-activation, heir-deactivation, heir-order, first-range, first-started}
 use Rattle.changes.proofs.Material.{length-material, bytes-material, material-tail}
 
 -- "Length, mask, total and unit (1 or 2) as a sound table allows", or no limit; dates not negative and in order
@@ -60,11 +64,11 @@ module _ (wanted : Attributes) (a : Allowed wanted) where
 
 -- ---- the record
 
--- what both begin: `replaced` is 0 or the serial of the record that it replaces
-abbrev pub begun : ℕ → Attributes → ℕ → List ℕ → Record
-begun serial wanted replaced fresh = record {
+-- what both begin, in a state: `replaced` is 0 or the serial of the record that it replaces
+abbrev pub begun : ℕ → ℕ → Attributes → ℕ → List ℕ → Record
+begun serial state wanted replaced fresh = record {
   serial = serial;
-  state = preActive;
+  state = state;
   unit = wanted .unit;
   bits = wanted .bits;
   replaced = replaced;
@@ -77,41 +81,67 @@ begun serial wanted replaced fresh = record {
   deactivation = wanted .deactivation;
 }
 
-abbrev pub attributesOf : Record → Attributes
-attributesOf r = record {
-  bits = r .bits;
-  mask = r .mask;
-  unit = r .unit;
-  total = r .total;
-  activation = r .activation;
-  deactivation = r .deactivation;
-}
-
-pub new-begun : (serial : ℕ) (wanted : Attributes) (fresh : List ℕ) → newRecord serial wanted fresh ≡ begun serial wanted 0 fresh
+pub new-begun : (serial : ℕ) (wanted : Attributes) (fresh : List ℕ) → newRecord serial wanted fresh ≡ begun serial preActive wanted 0 fresh
 unfolding newRecord
 new-begun serial wanted fresh = refl
 
-pub heir-begun : (serial : ℕ) (old : Record) (fresh : List ℕ) → heirOf serial old fresh ≡ begun serial (attributesOf old) (old .serial) fresh
-unfolding heirOf
-heir-begun serial old fresh = refl
+-- ---- a replacement
 
--- what a sound table allows, Create allows
-pub allowed-of : (last latest : ℕ) (r : Record) → Fit last r → Dated latest r → Allowed (attributesOf r)
-allowed-of last latest r f d = record {
+module _ (clock : ℕ) (offset : Offset) (old : Record) where
+  -- its attributes are those of the record that it replaces, but for the dates
+  abbrev pub heirWanted : Attributes
+  heirWanted = record {
+    bits = old .bits;
+    mask = old .mask;
+    unit = old .unit;
+    total = old .total;
+    activation = heirActivation clock offset old;
+    deactivation = heirDeactivation clock offset old;
+  }
+
+  -- and its state is what these make of a Pre-Active key
+  abbrev pub heirState : ℕ
+  heirState = datedState clock (heirActivation clock offset old) (heirDeactivation clock offset old) preActive
+
+  pub heir-begun : (serial : ℕ) (fresh : List ℕ) → heirOf serial clock offset old fresh ≡ begun serial heirState heirWanted (old .serial) fresh
+  unfolding heirOf heirDated
+  heir-begun serial fresh = refl
+
+-- a state in which a key may begin: none of a destroyed one, and an Active one has started
+pub record First (latest state activation : ℕ) : Type 0 where
+  pub low : 1 ≤ state
+  pub high : state ≤ 3
+  pub started : state ≡ 2 → activation ≤ latest
+
+pub first-new : (latest activation : ℕ) → First latest preActive activation
+first-new latest activation = record { low = omega arith; high = omega arith; started = λ e. absurd (omega arith) }
+
+pub first-heir : (clock : ℕ) (offset : Offset) (old : Record) → First clock (heirState clock offset old) (heirActivation clock offset old)
+first-heir clock offset old =
+    let a : ℕ = heirActivation clock offset old in
+    let d : ℕ = heirDeactivation clock offset old in
+    record { low = first-range clock a d .0; high = first-range clock a d .1; started = first-started clock a d }
+
+not-destroyed : (state : ℕ) → state ≤ 3 → isDestroyed state ≡ true → ⊥
+not-destroyed state h e = ⊎-elim (λ p. omega (arith, eqb-true state 5 p)) (λ p. omega (arith, eqb-true state 6 p)) (or-cases (eqb state 5) (eqb state 6) e)
+
+-- what a sound table allows, a replacement may have, where its Offset is not wrong
+pub allowed-of : (last clock : ℕ) (offset : Offset) (r : Record) → offsetWrong clock offset r ≡ false → Fit last r → Dated clock r → Allowed (heirWanted clock offset r)
+allowed-of last clock offset r right f d = record {
   bits = f .bits;
   mask = le-leb (r .mask) 0x00FFFFFF (f .mask);
   limit = ⊎-elim (λ l. inl (l .unit, l .total))
       (λ l. inr (l .unit, and-i _ _ (le-leb 1 (r .total) (l .least)) (le-leb (r .total) 1_000_000_000_000 (l .most)))) (f .limit);
-  activation = d .activation;
-  deactivation = d .deactivation;
-  order = d .order;
+  activation = heir-activation clock r offset right (d .activation);
+  deactivation = heir-deactivation clock r offset right (d .deactivation);
+  order = heir-order clock r offset (d .order);
 }
 
-module _ (serial : ℕ) (wanted : Attributes) (replaced : ℕ) (fresh : List ℕ) (a : Allowed wanted) where
-  pub begun-range : serial < 256 ^ 4 → replaced < 256 ^ 4 → Bytes fresh → InRange (begun serial wanted replaced fresh)
+module _ (latest serial state : ℕ) (wanted : Attributes) (replaced : ℕ) (fresh : List ℕ) (a : Allowed wanted) (f : First latest state (wanted .activation)) where
+  pub begun-range : serial < 256 ^ 4 → replaced < 256 ^ 4 → Bytes fresh → InRange (begun serial state wanted replaced fresh)
   begun-range s r b = record {
     serial = s;
-    state = omega arith;
+    state = omega (arith, f .high);
     unit = omega (arith, allowed-unit wanted a);
     bits = omega (arith, bits-most (wanted .bits) (a .bits));
     replaced = r;
@@ -125,7 +155,7 @@ module _ (serial : ℕ) (wanted : Attributes) (replaced : ℕ) (fresh : List ℕ
     deactivation = omega (arith, a .deactivation);
   }
 
-  begun-limit : Unlimited (begun serial wanted replaced fresh) ⊎ Limited (begun serial wanted replaced fresh)
+  begun-limit : Unlimited (begun serial state wanted replaced fresh) ⊎ Limited (begun serial state wanted replaced fresh)
   begun-limit = ⊎-elim (λ l. inl (record { unit = l .0; total = l .1; count = l .1 })) (λ l. inr (record {
     unit = l .0;
     least = total-least (wanted .total) (l .1);
@@ -133,19 +163,18 @@ module _ (serial : ℕ) (wanted : Attributes) (replaced : ℕ) (fresh : List ℕ
     count = omega arith;
   })) (a .limit)
 
-  pub begun-fit : materialSize ≤ length fresh → (replaced ≡ 0) ⊎ (replaced < serial) → Fit serial (begun serial wanted replaced fresh)
+  pub begun-fit : materialSize ≤ length fresh → (replaced ≡ 0) ⊎ (replaced < serial) → Fit serial (begun serial state wanted replaced fresh)
   begun-fit long link = record {
-    low = omega arith;
-    high = omega arith;
+    low = f .low;
+    high = omega (arith, f .high);
     bits = a .bits;
     mask = allowed-mask wanted a;
     limit = begun-limit;
     tail = let h = bits-most (wanted .bits) (a .bits) in material-tail (wanted .bits) fresh (omega arith) (omega arith);
-    wiped = λ e. absurd (false≢true e);
+    wiped = λ e. absurd (not-destroyed state (f .high) e);
     replaced = link;
     replacement = inl refl;
   }
 
-  -- it is not Active
-  pub begun-dated : (latest : ℕ) → Dated latest (begun serial wanted replaced fresh)
-  begun-dated latest = record { activation = a .activation; deactivation = a .deactivation; order = a .order; started = λ e. absurd (omega arith) }
+  pub begun-dated : Dated latest (begun serial state wanted replaced fresh)
+  begun-dated = record { activation = a .activation; deactivation = a .deactivation; order = a .order; started = f .started }

@@ -28,17 +28,19 @@ use Rattle.record_rules.proofs.Fit.{Fit, Dated}
 use Rattle.soundness.proofs.SoundIs.{Stands, Sound, sound-is, sound-of}
 use Rattle.soundness.proofs.Blank.{blank-sound}
 use Rattle.rules.specs.declared.Attributes.{Attributes}
+use Rattle.rules.specs.declared.Offset.{Offset}
+use Rattle.rules.specs.Numbers.{preActive}
 use Rattle.rules.specs.declared.Next.the-variants.{To}
 use Rattle.rules.specs.declared.Granted.the-variants.{Left}
 use Rattle.rules.specs.States.{nextState, granting}
 use Rattle.date_rules.specs.Dates.{isLate}
-use Rattle.changes.specs.Records.{newRecord, heirOf, movedTo, withCount}
+use Rattle.changes.specs.Records.{newRecord, offsetWrong, heirOf, movedTo, withCount}
 use Rattle.changes.specs.Changes.{serialMost, isFull, nextSerial, bornAt, withBorn, withHeir}
 use Rattle.rules.proofs.Moves.{move}
 use Rattle.rules.proofs.Grants.{grant-is}
 use Rattle.keeps.proofs.Edits.{Stays, edit-sound}
 use Rattle.keeps.proofs.Births.{linked-range, born-sound, heir-sound}
-use Rattle.keeps.proofs.Begun.{Allowed, attributesOf, begun, new-begun, heir-begun, allowed-of, begun-range, begun-fit, begun-dated}
+use Rattle.keeps.proofs.Begun.{Allowed, begun, new-begun, heirWanted, heirState, heir-begun, first-new, first-heir, allowed-of, begun-range, begun-fit, begun-dated}
 use Rattle.keeps.proofs.Moved.{moved-range, moved-fit, moved-dated, moved-stays, count-range, count-fit, count-dated, count-stays}
 
 -- a sound table of bytes
@@ -126,26 +128,35 @@ module _ (n : ℕ) (t : List ℕ) (held : Held n t) where
       pub keeps-born : (wanted : Attributes) → Allowed wanted → Held n (withBorn n t (newRecord (nextSerial t) wanted fresh))
       unfolding withBorn bornAt
       keeps-born wanted a =
-          let r : Record = begun (nextSerial t) wanted 0 fresh in
-          let g : InRange r = begun-range (nextSerial t) wanted 0 fresh a next-fits (omega arith) fresh-bytes in
-          with-place (λ k e. rw (new-begun (nextSerial t) wanted fresh, e) (record {
-            right = sound-of n _ (born-sound n t k r facts (new-below n t k e) g (omega arith) (begun-fit (nextSerial t) wanted 0 fresh a long (inl refl))
-                (begun-dated (nextSerial t) wanted 0 fresh a (latestClock t)) refl refl);
+          let latest : ℕ = latestClock t in
+          let serial : ℕ = nextSerial t in
+          let first = first-new latest (wanted .activation) in
+          let r : Record = begun serial preActive wanted 0 fresh in
+          let g : InRange r = begun-range latest serial preActive wanted 0 fresh a first next-fits (omega arith) fresh-bytes in
+          with-place (λ k e. rw (new-begun serial wanted fresh, e) (record {
+            right = sound-of n _ (born-sound n t k r facts (new-below n t k e) g (omega arith) (begun-fit latest serial preActive wanted 0 fresh a first long (inl refl))
+                (begun-dated latest serial preActive wanted 0 fresh a first) refl refl);
             bytes = bytes-last _ _ (bytes-with n t k r (held .bytes) (g .bytes));
           }))
 
       -- Re-key
-      module _ (i : ℕ) (lo : i < n) (stands : Stands t i) (alive : isDestroyed (placeAt n t i .state) ≡ false) (none : placeAt n t i .replacement ≡ 0) where
-        pub keeps-heir : Held n (withHeir n t i (heirOf (nextSerial t) (placeAt n t i) fresh))
+      module _ (offset : Offset) (i : ℕ) (lo : i < n) (stands : Stands t i) (alive : isDestroyed (placeAt n t i .state) ≡ false) (none : placeAt n t i .replacement ≡ 0)
+          (right : offsetWrong (latestClock t) offset (placeAt n t i) ≡ false) where
+        pub keeps-heir : Held n (withHeir n t i (heirOf (nextSerial t) (latestClock t) offset (placeAt n t i) fresh))
         unfolding withHeir bornAt
         keeps-heir =
             let old : Record = placeAt n t i in
-            let a : Allowed (attributesOf old) = allowed-of (lastSerial t) (latestClock t) old (fit i lo stands) (dated i lo stands) in
-            let below : old .serial < nextSerial t = omega (arith, facts .issued i lo, serial-is n t i) in
-            let heir : Record = begun (nextSerial t) (attributesOf old) (old .serial) fresh in
-            let g : InRange heir = begun-range (nextSerial t) (attributesOf old) (old .serial) fresh a next-fits (range i lo stands .serial) fresh-bytes in
-            with-place (λ k e. rw (heir-begun (nextSerial t) old fresh, e) (record {
+            let latest : ℕ = latestClock t in
+            let serial : ℕ = nextSerial t in
+            let wanted : Attributes = heirWanted latest offset old in
+            let state : ℕ = heirState latest offset old in
+            let a : Allowed wanted = allowed-of (lastSerial t) latest offset old right (fit i lo stands) (dated i lo stands) in
+            let first = first-heir latest offset old in
+            let below : old .serial < serial = omega (arith, facts .issued i lo, serial-is n t i) in
+            let heir : Record = begun serial state wanted (old .serial) fresh in
+            let g : InRange heir = begun-range latest serial state wanted (old .serial) fresh a first next-fits (range i lo stands .serial) fresh-bytes in
+            with-place (λ k e. rw (heir-begun latest offset old serial fresh, e) (record {
               right = sound-of n _ (heir-sound n t i k heir facts lo stands (new-below n t k e) (not-here i lo stands alive k e) (range i lo stands) none g (omega arith)
-                  (begun-fit (nextSerial t) (attributesOf old) (old .serial) fresh a long (inr below)) (begun-dated (nextSerial t) (attributesOf old) (old .serial) fresh a (latestClock t)) refl refl);
-              bytes = bytes-last _ _ (bytes-with n _ k heir (bytes-with n t i _ (held .bytes) (linked-range (nextSerial t) old next-fits (range i lo stands) .bytes)) (g .bytes));
+                  (begun-fit latest serial state wanted (old .serial) fresh a first long (inr below)) (begun-dated latest serial state wanted (old .serial) fresh a first) refl refl);
+              bytes = bytes-last _ _ (bytes-with n _ k heir (bytes-with n t i _ (held .bytes) (linked-range serial old next-fits (range i lo stands) .bytes)) (g .bytes));
             }))

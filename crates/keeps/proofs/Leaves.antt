@@ -17,16 +17,18 @@ use Rattle.table.proofs.Places.{length-with}
 use Rattle.search.proofs.Finds.{new-below}
 use Rattle.soundness.proofs.SoundIs.{Stands}
 use Rattle.rules.specs.declared.Attributes.{Attributes}
+use Rattle.rules.specs.declared.Offset.{Offset}
+use Rattle.rules.specs.Numbers.{preActive}
 use Rattle.rules.specs.declared.Next.the-variants.{To}
 use Rattle.rules.specs.declared.Granted.the-variants.{Left}
 use Rattle.rules.specs.States.{nextState, granting}
-use Rattle.changes.specs.Records.{newRecord, heirOf, linkedTo, movedTo, withCount}
+use Rattle.changes.specs.Records.{newRecord, offsetWrong, heirOf, linkedTo, movedTo, withCount}
 use Rattle.changes.specs.Changes.{isFull, nextSerial, bornAt, withBorn, withHeir}
 use Rattle.rules.proofs.Moves.{move}
 use Rattle.rules.proofs.Grants.{grant-is}
 use Rattle.keeps.proofs.Stores.{Stored, stored, stored-last, other}
 use Rattle.keeps.proofs.Births.{linked-range}
-use Rattle.keeps.proofs.Begun.{Allowed, attributesOf, begun, new-begun, heir-begun, allowed-of, begun-range}
+use Rattle.keeps.proofs.Begun.{Allowed, begun, new-begun, heirWanted, heirState, heir-begun, first-new, first-heir, allowed-of, begun-range}
 use Rattle.keeps.proofs.Moved.{moved-range, count-range}
 use Rattle.keeps.proofs.Keeps.{Held, facts, range, fit, dated, with-place, next-fits, not-here}
 
@@ -85,9 +87,9 @@ module _ (n : ℕ) (t : List ℕ) (held : Held n t) where
     pub born-leaves : (wanted : Attributes) → Allowed wanted → Born n t (newRecord (nextSerial t) wanted fresh) (withBorn n t (newRecord (nextSerial t) wanted fresh))
     unfolding withBorn bornAt
     born-leaves wanted a =
-        let r : Record = begun (nextSerial t) wanted 0 fresh in
+        let r : Record = begun (nextSerial t) preActive wanted 0 fresh in
         let serial : nextSerial t < 256 ^ 4 = next-fits n t held room in
-        let g : InRange r = begun-range (nextSerial t) wanted 0 fresh a serial (omega arith) fresh-bytes in
+        let g : InRange r = begun-range (latestClock t) (nextSerial t) preActive wanted 0 fresh a (first-new (latestClock t) (wanted .activation)) serial (omega arith) fresh-bytes in
         with-place n t held room (λ k e. rw (new-begun (nextSerial t) wanted fresh, e) (record {
           place = k;
           due = e;
@@ -97,19 +99,22 @@ module _ (n : ℕ) (t : List ℕ) (held : Held n t) where
         }))
 
     -- Re-key
-    module _ (i : ℕ) (lo : i < n) (stands : Stands t i) (alive : isDestroyed (placeAt n t i .state) ≡ false) where
-      pub heir-leaves : Replaced n t i (heirOf (nextSerial t) (placeAt n t i) fresh) (withHeir n t i (heirOf (nextSerial t) (placeAt n t i) fresh))
+    module _ (offset : Offset) (i : ℕ) (lo : i < n) (stands : Stands t i) (alive : isDestroyed (placeAt n t i .state) ≡ false)
+        (right : offsetWrong (latestClock t) offset (placeAt n t i) ≡ false) where
+      pub heir-leaves : Replaced n t i (heirOf (nextSerial t) (latestClock t) offset (placeAt n t i) fresh) (withHeir n t i (heirOf (nextSerial t) (latestClock t) offset (placeAt n t i) fresh))
       unfolding withHeir bornAt
       heir-leaves =
           let old : Record = placeAt n t i in
+          let latest : ℕ = latestClock t in
           let was : InRange old = range n t held i lo stands in
           let serial : nextSerial t < 256 ^ 4 = next-fits n t held room in
-          let a : Allowed (attributesOf old) = allowed-of (lastSerial t) (latestClock t) old (fit n t held i lo stands) (dated n t held i lo stands) in
-          let heir : Record = begun (nextSerial t) (attributesOf old) (old .serial) fresh in
-          let g : InRange heir = begun-range (nextSerial t) (attributesOf old) (old .serial) fresh a serial (was .serial) fresh-bytes in
+          let wanted : Attributes = heirWanted latest offset old in
+          let a : Allowed wanted = allowed-of (lastSerial t) latest offset old right (fit n t held i lo stands) (dated n t held i lo stands) in
+          let heir : Record = begun (nextSerial t) (heirState latest offset old) wanted (old .serial) fresh in
+          let g : InRange heir = begun-range latest (nextSerial t) (heirState latest offset old) wanted (old .serial) fresh a (first-heir latest offset old) serial (was .serial) fresh-bytes in
           let link : Record = linkedTo (nextSerial t) old in
           let size : Table n (withPlace n t i link) = length-with n t i link ∙ facts n t held .size in
-          with-place n t held room (λ k e. rw (heir-begun (nextSerial t) old fresh, e)
+          with-place n t held room (λ k e. rw (heir-begun latest offset old (nextSerial t) fresh, e)
           (replaced n t i k heir (withPlace n t i link) e lo (not-here n t held i lo stands alive k e)
           (stored n t i link (facts n t held .size) lo (linked-range (nextSerial t) old serial was)) _
           (stored-last n _ k heir _ _ (nextSerial t) (omega (arith, length-with n (withPlace n t i link) k heir, size)) serial

@@ -82,6 +82,11 @@ module _ (s : List ℕ) (run : isRun s ≡ true) (tag kind : ℕ) (num : isNumbe
   pub number-stops : {B : Type 0} (k : ℕ × Items → Option B) → numberAt s tag kind ≡ NoNumber → (numberOf tag kind (treeOf s) >>= k) ≡ none
   number-stops k e = stops k (number-none s run tag kind num e)
 
+  -- the last field is a number at the front
+  pub only-found : {v next : ℕ} → onlyNumberAt s tag kind ≡ Number v next → numberAt s tag kind ≡ Number v next
+  unfolding onlyNumberAt
+  only-found h = last-number (length s) (numberAt s tag kind) h .0
+
   -- a number that is tested, with nothing behind it
   module _ {B : Type 0} (p : ℕ → Bool) (k : ℕ → Option B) where
     abbrev then : ℕ × Items → Option B

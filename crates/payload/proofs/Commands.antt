@@ -6,7 +6,7 @@ use borrow.Author.Tests.{ne-eqb}
 use Rattle.octets.specs.If.{ifb}
 use Rattle.octets.proofs.If.{ifb-false}
 use Rattle.ttlv.specs.Items.{Items}
-use Rattle.payload.specs.Payload.{createIn, aloneIn, allocationIn, revokeIn, orInvalid, command}
+use Rattle.payload.specs.Payload.{createIn, rekeyIn, aloneIn, allocationIn, revokeIn, orInvalid, command}
 use Rattle.payload.specs.Readers.{aloneOf}
 use Rattle.payload.specs.declared.Command.{Command}
 use Rattle.payload.specs.declared.Command.the-variants.{Unsupported}
@@ -19,6 +19,10 @@ module _ (operation : ℕ) (t : Items) where
   unfolding command ifb
   of-create e = ap (λ (n : ℕ). command n t) e
 
+  pub of-rekey : operation ≡ 0x04 → command operation t ≡ orInvalid (rekeyIn t)
+  unfolding command ifb
+  of-rekey e = ap (λ (n : ℕ). command n t) e
+
   pub of-allocation : operation ≡ 0x11 → command operation t ≡ orInvalid (allocationIn t)
   unfolding command ifb
   of-allocation e = ap (λ (n : ℕ). command n t) e
@@ -26,10 +30,6 @@ module _ (operation : ℕ) (t : Items) where
   pub of-revoke : operation ≡ 0x13 → command operation t ≡ orInvalid (revokeIn t)
   unfolding command ifb
   of-revoke e = ap (λ (n : ℕ). command n t) e
-
-  pub of-rekey : operation ≡ 0x04 → command operation t ≡ byAlone operation
-  unfolding command aloneOf ifb
-  of-rekey e = ap (λ (n : ℕ). command n t) e ∙ sym (ap byAlone e)
 
   pub of-activate : operation ≡ 0x12 → command operation t ≡ byAlone operation
   unfolding command aloneOf ifb

@@ -11,11 +11,11 @@ use Rattle.octets.proofs.If.{on-if}
 use Rattle.octets.proofs.Maybe.{some-is, on-bind, on-test}
 use Rattle.ttlv.specs.Items.{Items}
 use Rattle.rules.specs.Numbers.{create, rekey, get, getAttributes, getUsageAllocation, activate, revoke, destroy}
-use Rattle.payload.specs.Payload.{createIn, aloneIn, allocationIn, revokeIn, orInvalid, command}
+use Rattle.payload.specs.Payload.{createIn, rekeyIn, aloneIn, allocationIn, revokeIn, orInvalid, command}
 use Rattle.payload.specs.Reasons.{operationOf, reasonOf}
 use Rattle.target_read.specs.declared.Target.{Target}
 use Rattle.payload.specs.declared.Command.{Command}
-use Rattle.payload.specs.declared.Command.the-variants.{Rekey, Activate, Destroy, GetAttributes, Get}
+use Rattle.payload.specs.declared.Command.the-variants.{Activate, Destroy, GetAttributes, Get}
 
 -- what was read is of the operation
 Of : ℕ → Option Command → Type 0
@@ -26,6 +26,10 @@ unfolding Of createIn operationOf
 create-of t c h =
     on-bind h λ a e1 h1. on-test h1 λ kind h2. on-bind h2 λ b e2 h3. on-test h3 λ end h4. on-bind h4 λ wanted e4 h5.
     ap operationOf (sym (some-is h5))
+
+rekey-of : (t : Items) → Of rekey (rekeyIn t)
+unfolding Of rekeyIn operationOf
+rekey-of t c h = on-bind h λ a e1 h1. on-bind h1 λ b e2 h2. on-test h2 λ end h3. ap operationOf (sym (some-is h3))
 
 alone-of : {operation : ℕ} (make : Target → Command) → ((target : Target) → operationOf (make target) ≡ some operation) → (t : Items) → Of operation (aloneIn make t)
 unfolding Of aloneIn
@@ -55,7 +59,7 @@ pub command-operation : (operation : ℕ) (t : Items) → reasonOf (command oper
 unfolding Asked command reasonOf operationOf
 command-operation operation t =
     on-if (Asked operation) (λ e. asked operation create _ e (create-of t))
-    (λ _. on-if (Asked operation) (λ e. asked operation rekey _ e (alone-of Rekey (λ target. refl) t))
+    (λ _. on-if (Asked operation) (λ e. asked operation rekey _ e (rekey-of t))
     (λ _. on-if (Asked operation) (λ e. asked operation getUsageAllocation _ e (allocation-of t))
     (λ _. on-if (Asked operation) (λ e. asked operation activate _ e (alone-of Activate (λ target. refl) t))
     (λ _. on-if (Asked operation) (λ e. asked operation revoke _ e (revoke-of t))

@@ -6,6 +6,7 @@ use mathlib.Core.Option.{Option, none, some}
 use mathlib.Core.List.{[]}
 use Rattle.hex.specs.Texts.{hex}
 use Rattle.ttlv.specs.Items.{Items, ended}
+use Rattle.rules.specs.declared.Offset.the-variants.{NoOffset, Seconds}
 use Rattle.target_read.specs.declared.Target.the-variants.{Placeholder, Serial}
 use Rattle.payload.specs.declared.Command.{Command}
 use Rattle.payload.specs.declared.Command.the-variants.{Unsupported, Invalid, Create, Rekey, GetUsageAllocation, Revoke, Destroy, GetAttributes, Get}
@@ -19,7 +20,7 @@ use Rattle.fields.specs.Fields.{startsWith, bytesOf, bodyOf, numberOf, optional
 use Rattle.identifier.specs.Identifier.{digits, identifier, fromDigitsAfter, serialOf}
 use Rattle.attributes_read.specs.Attributes.{limitIn, limitFirst, dateFirst, orUnset, datesIn, wantedOf, limitedIn, maskedIn, attributesIn}
 use Rattle.target_read.specs.Target.{targetOf, targetIn}
-use Rattle.payload.specs.Payload.{createIn, aloneIn, allocationIn, revokeIn, orInvalid, command}
+use Rattle.payload.specs.Payload.{createIn, offsetOf, rekeyIn, aloneIn, allocationIn, revokeIn, orInvalid, command}
 
 -- the command that a payload's bytes spell; none where they are no items
 commandOf : ℕ → Option Items → Option Command
@@ -28,7 +29,7 @@ commandOf operation (some t) = some (command operation t)
 
 -- the definitions that the cases compute with: who opens this opens them all
 opened : Unit {0}
-unfolding commandOf ifb _>>=_ _>>_ isSome be fromBeAfter fromBe all same lengthOk text valueOk encode itemOk wellFormed headed firstOf putValue putGroup more walk parse isOne message startsWith ended bytesOf bodyOf numberOf optional digits identifier fromDigitsAfter serialOf limitIn limitFirst dateFirst orUnset datesIn wantedOf limitedIn maskedIn attributesIn createIn targetOf targetIn aloneIn allocationIn revokeIn orInvalid command
+unfolding commandOf ifb _>>=_ _>>_ isSome be fromBeAfter fromBe all same lengthOk text valueOk encode itemOk wellFormed headed firstOf putValue putGroup more walk parse isOne message startsWith ended bytesOf bodyOf numberOf optional digits identifier fromDigitsAfter serialOf limitIn limitFirst dateFirst orUnset datesIn wantedOf limitedIn maskedIn attributesIn createIn targetOf targetIn offsetOf rekeyIn aloneIn allocationIn revokeIn orInvalid command
 opened = tt
 
 create-limited : commandOf 0x01 (parse 6 (hex "42005705 00000004 00000002 00000000 42012501 00000058 42002805 00000004 00000003 00000000 42002A02 00000004 00000080 00000000 42002C02 00000004 00000004 00000000 42009501 00000020 42009703 00000008 00000000 00000064 42009805 00000004 00000002 00000000")) ≡ some (Create (record { bits = 128; mask = 4; unit = 2; total = 100; activation = 0; deactivation = 0 }))
@@ -66,9 +67,36 @@ lower-case : commandOf 0x14 (parse 6 (hex "42009407 00000008 30303030 30303061")
 unfolding opened
 lower-case = refl
 
-alone : commandOf 0x04 (parse 6 []) ≡ some (Rekey Placeholder)
+alone : commandOf 0x04 (parse 6 []) ≡ some (Rekey Placeholder NoOffset)
 unfolding opened
 alone = refl
+
+-- ten days; and the longest Offset, which is not negative
+rekey-later : commandOf 0x04 (parse 6 (hex "42009407 00000008 30303030 30303041 4200580A 00000004 000D2F00 00000000")) ≡ some (Rekey (Serial 10) (Seconds 864_000))
+unfolding opened
+rekey-later = refl
+
+rekey-latest : commandOf 0x04 (parse 6 (hex "4200580A 00000004 FFFFFFFF 00000000")) ≡ some (Rekey Placeholder (Seconds 4_294_967_295))
+unfolding opened
+rekey-latest = refl
+
+-- an Offset that is an Integer, one in front of the identifier, and two
+rekey-integer : commandOf 0x04 (parse 6 (hex "42005802 00000004 000D2F00 00000000")) ≡ some Invalid
+unfolding opened
+rekey-integer = refl
+
+rekey-turned : commandOf 0x04 (parse 6 (hex "4200580A 00000004 000D2F00 00000000 42009407 00000008 30303030 30303041")) ≡ some Invalid
+unfolding opened
+rekey-turned = refl
+
+rekey-twice : commandOf 0x04 (parse 6 (hex "4200580A 00000004 000D2F00 00000000 4200580A 00000004 000D2F00 00000000")) ≡ some Invalid
+unfolding opened
+rekey-twice = refl
+
+-- and an Offset for another operation
+activate-later : commandOf 0x12 (parse 6 (hex "4200580A 00000004 000D2F00 00000000")) ≡ some Invalid
+unfolding opened
+activate-later = refl
 
 shown-alone : commandOf 0x0B (parse 6 []) ≡ some (GetAttributes Placeholder)
 unfolding opened

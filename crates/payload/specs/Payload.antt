@@ -1,18 +1,20 @@
--- 01, "Operations": each payload's shape and allowed values. "A payload holds what its line names, in that order, and nothing else."
+-- 01, "Operations", and 02, L4: each payload's shape and allowed values. "A payload holds what its line names, in that order, and nothing else."
 -- Assumes nothing. "One of wrong shape or with a value not allowed here fails with Invalid Field."
 use Prim.Native.Nat.{ℕ}
 use mathlib.Core.Option.{Option, none, some}
 use lib.Dec.{eqb}
 use Rattle.octets.specs.If.{ifb}
 use Rattle.octets.specs.Maybe.{_>>=_, _>>_}
-use Rattle.ttlv_types.specs.Types.{longInteger, enumeration}
+use Rattle.ttlv_types.specs.Types.{longInteger, enumeration, interval}
 use Rattle.ttlv.specs.Items.{Items, ended}
-use Rattle.fields.specs.Fields.{bodyOf, numberOf}
-use Rattle.tags.specs.Tags.{attributes, objectType, revocationReason, revocationReasonCode, usageLimitsCount}
+use Rattle.fields.specs.Fields.{bodyOf, numberOf, optional}
+use Rattle.tags.specs.Tags.{attributes, objectType, offset, revocationReason, revocationReasonCode, usageLimitsCount}
 use Rattle.attributes_read.specs.Attributes.{attributesIn}
 use Rattle.values.specs.Values.{aboveZero}
 use Rattle.rules.specs.Numbers.{create, rekey, get, getAttributes, getUsageAllocation, activate, revoke, destroy}
 use Rattle.rules.specs.States.{codeOk}
+use Rattle.rules.specs.declared.Offset.{Offset}
+use Rattle.rules.specs.declared.Offset.the-variants.{NoOffset, Seconds}
 use Rattle.target_read.specs.declared.Target.{Target}
 use Rattle.target_read.specs.Target.{targetIn}
 use Rattle.payload.specs.declared.Command.{Command}
@@ -36,7 +38,19 @@ createIn t = do
 
 -- ---- the target operations
 
--- Re-key, Activate, Destroy, Get Attributes, Get: nothing more in the request
+unfoldable pub offsetOf : Option ℕ → Offset
+offsetOf none = NoOffset
+offsetOf (some seconds) = Seconds seconds
+
+-- 02, L4: "Add the optional Offset (Interval, unsigned seconds)"
+unfoldable pub rekeyIn : Items → Option Command
+rekeyIn t = do
+  (target, r) ← targetIn t
+  (given, s) ← optional offset (numberOf offset interval) r
+  ended s
+  some (Rekey target (offsetOf given))
+
+-- Activate, Destroy, Get Attributes, Get: nothing more in the request
 unfoldable pub aloneIn : (Target → Command) → Items → Option Command
 aloneIn command t = do
   (target, r) ← targetIn t
@@ -73,7 +87,7 @@ orInvalid (some command) = command
 unfoldable pub command : ℕ → Items → Command
 command operation t =
     ifb (eqb operation create) (orInvalid (createIn t))
-    (ifb (eqb operation rekey) (orInvalid (aloneIn Rekey t))
+    (ifb (eqb operation rekey) (orInvalid (rekeyIn t))
     (ifb (eqb operation getUsageAllocation) (orInvalid (allocationIn t))
     (ifb (eqb operation activate) (orInvalid (aloneIn Activate t))
     (ifb (eqb operation revoke) (orInvalid (revokeIn t))

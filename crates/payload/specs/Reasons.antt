@@ -13,7 +13,7 @@ unfoldable pub operationOf : Command → Option ℕ
 operationOf Unsupported = none
 operationOf Invalid = none
 operationOf (Create wanted) = some create
-operationOf (Rekey target) = some rekey
+operationOf (Rekey target offset) = some rekey
 operationOf (GetUsageAllocation target amount) = some getUsageAllocation
 operationOf (Activate target) = some activate
 operationOf (Revoke target code) = some revoke
@@ -26,7 +26,7 @@ unfoldable pub reasonOf : Command → Option Reason
 reasonOf Unsupported = some OperationNotSupported
 reasonOf Invalid = some InvalidField
 reasonOf (Create wanted) = none
-reasonOf (Rekey target) = none
+reasonOf (Rekey target offset) = none
 reasonOf (GetUsageAllocation target amount) = none
 reasonOf (Activate target) = none
 reasonOf (Revoke target code) = none

@@ -5,13 +5,14 @@ use attributes_read::AttributesRead;
 use fields::BodyField;
 use fields::NumberField;
 use rules::Attributes;
+use rules::Offset;
 use target_read::Target;
 use target_read::TargetRead;
 ghost use mathlib.Core.Path.{_≡_};
 ghost use mathlib.Core.Bool.{true};
 ghost use Rattle.ttlv.specs.Tree.{isRun, treeOf};
 ghost use Rattle.rules.specs.States.{codeOk};
-ghost use Rattle.payload.specs.Payload.{createIn, aloneIn, allocationIn, revokeIn, orInvalid, command};
+ghost use Rattle.payload.specs.Payload.{createIn, rekeyIn, aloneIn, allocationIn, revokeIn, orInvalid, command};
 ghost use Rattle.payload.specs.Readers.{aloneOf};
 
 // The operations.
@@ -35,7 +36,7 @@ pub enum Command {
     // a payload of wrong shape or with a value not allowed
     Invalid,
     Create { wanted: Attributes },
-    Rekey { target: Target },
+    Rekey { target: Target, offset: Offset },
     GetUsageAllocation { target: Target, amount: u64 },
     Activate { target: Target },
     Revoke { target: Target, code: u32 },
@@ -69,13 +70,40 @@ fn read_create(s: &[u8]) -> Command
     Command::Create { wanted }
 }
 
+// The payload of Re-key: its Offset, if it is given, is the last item.
+fn read_rekey(s: &[u8]) -> Command
+    requires { ⌜ isRun (now s) ≡ true ⌝ }
+    ensures { λ r. ⌜ r ≡ orInvalid (rekeyIn (treeOf (now (s .entry)))) ⌝ }
+{
+    let TargetRead::Is { target, next } = target_read::read_target(s) else {
+        return Command::Invalid;
+    };
+    let t = &s[next..];
+    if t.len() == 0 {
+        return Command::Rekey {
+            target,
+            offset: Offset::NoOffset,
+        };
+    }
+    let NumberField::Number {
+        value: seconds,
+        next: _,
+    } = last_field::only_number(t, tags::OFFSET, ttlv_types::INTERVAL)
+    else {
+        return Command::Invalid;
+    };
+    Command::Rekey {
+        target,
+        offset: Offset::Seconds {
+            seconds: seconds as u32,
+        },
+    }
+}
+
 // The command of an operation that asks for nothing but its target.
 fn alone(operation: u32, target: Target) -> Command
     ensures { λ r. ⌜ r ≡ aloneOf operation target ⌝ }
 {
-    if operation == REKEY {
-        return Command::Rekey { target };
-    }
     if operation == rules::ACTIVATE {
         return Command::Activate { target };
     }
@@ -88,7 +116,7 @@ fn alone(operation: u32, target: Target) -> Command
     Command::GetAttributes { target }
 }
 
-// The payload of Re-key, Activate, Destroy, Get or Get Attributes.
+// The payload of Activate, Destroy, Get or Get Attributes.
 fn read_alone(operation: u32, s: &[u8]) -> Command
     requires { ⌜ isRun (now s) ≡ true ⌝ }
     ensures { λ r. ⌜ r ≡ orInvalid (aloneIn (aloneOf operation) (treeOf (now (s .entry)))) ⌝ }
@@ -180,7 +208,7 @@ pub fn read_command(operation: u32, s: &[u8]) -> Command
         return read_create(s);
     }
     if operation == REKEY {
-        return read_alone(operation, s);
+        return read_rekey(s);
     }
     if operation == GET_USAGE_ALLOCATION {
         return read_allocation(s);

@@ -11,13 +11,14 @@ use Rattle.table.specs.Layout.{materialSize}
 use Rattle.table.specs.Records.{withPlace, latestClock}
 use Rattle.search.specs.Search.{isDestroyed}
 use Rattle.rules.specs.declared.Reason.{Reason}
-use Rattle.rules.specs.declared.Reason.the-variants.{ObjectDestroyed, PermissionDenied, ServerLimitExceeded, WrongKeyLifecycleState}
+use Rattle.rules.specs.declared.Reason.the-variants.{InvalidField, ObjectDestroyed, PermissionDenied, ServerLimitExceeded, WrongKeyLifecycleState}
 use Rattle.rules.specs.declared.Attributes.{Attributes}
+use Rattle.rules.specs.declared.Offset.{Offset}
 use Rattle.rules.specs.Numbers.{activate, revoke, destroy}
 use Rattle.rules.specs.Tests.{Test, _⇒_, due}
 use Rattle.rules.specs.States.{activateTests, revokeTests, destroyTests, grantTests, movedState}
 use Rattle.date_rules.specs.Dates.{isLate}
-use Rattle.changes.specs.Records.{newRecord, heirOf, movedTo, withCount}
+use Rattle.changes.specs.Records.{newRecord, offsetWrong, heirOf, movedTo, withCount}
 use Rattle.changes.specs.Changes.{isFull, nextSerial, withBorn, withHeir}
 use Rattle.words.specs.Words.{wordsOf}
 use Rattle.plans.specs.declared.Shown.{Shown}
@@ -123,17 +124,19 @@ module _ (env : Env) (holder : ℕ) (t : List ℕ) where
     };
   }
 
-  -- "destroyed: Object Destroyed. Has a replacement serial: Permission Denied. Then as Create .. Answers the new identifier"
-  unfoldable pub rekeyPlan : ℕ → Record → Plan
-  rekeyPlan i r = record {
+  -- "destroyed: Object Destroyed. Has a replacement serial: Permission Denied. Then as Create .. Answers the new identifier"; 02, L4: a wrong Offset "is Invalid Field,
+  -- given after Permission Denied and before Server Limit Exceeded". The clock that counts is the latest, stored before the first item
+  unfoldable pub rekeyPlan : Offset → ℕ → Record → Plan
+  rekeyPlan offset i r = record {
     tests =
         isDestroyed (r .state) ⇒ ObjectDestroyed
         ∷ not (eqb (r .replacement) 0) ⇒ PermissionDenied
+        ∷ offsetWrong (latestClock t) offset r ⇒ InvalidField
         ∷ isFull (env .places) t ⇒ ServerLimitExceeded
         ∷ [];
     did = record {
       outcome = Done (nextSerial t);
-      table = withHeir (env .places) t i (heirOf (nextSerial t) r (env .fresh));
+      table = withHeir (env .places) t i (heirOf (nextSerial t) (latestClock t) offset r (env .fresh));
       holder = nextSerial t;
     };
   }

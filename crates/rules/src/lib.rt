@@ -40,6 +40,13 @@ pub struct Attributes {
     pub deactivation: u64,
 }
 
+// The Offset that a Re-key asks for, if it does: the seconds from the clock to the activation date
+// of the replacement.
+pub enum Offset {
+    NoOffset,
+    Seconds { seconds: u32 },
+}
+
 // The operations that move a state, as `Numbers` has them.
 pub const ACTIVATE: u32 = 0x12;
 

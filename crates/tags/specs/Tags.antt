@@ -62,6 +62,9 @@ linkedObjectIdentifier = 0x42004C
 abbrev pub objectType : ℕ
 objectType = 0x420057
 
+abbrev pub offset : ℕ
+offset = 0x420058
+
 abbrev pub operationTag : ℕ
 operationTag = 0x42005C
 

@@ -39,6 +39,8 @@ pub const LINKED_OBJECT_IDENTIFIER: u32 = 0x42004C;
 
 pub const OBJECT_TYPE: u32 = 0x420057;
 
+pub const OFFSET: u32 = 0x420058;
+
 pub const OPERATION: u32 = 0x42005C;
 
 pub const PROTOCOL_VERSION: u32 = 0x420069;

@@ -66,7 +66,7 @@ unfolding issuedBy grantBy
 issue-grants x Unsupported o h = refl
 issue-grants x Invalid o h = refl
 issue-grants x (Create wanted) o h = refl
-issue-grants x (Rekey target) o h = refl
+issue-grants x (Rekey target offset) o h = refl
 issue-grants x (GetUsageAllocation target amount) o h = absurd (h refl)
 issue-grants x (Activate target) o h = refl
 issue-grants x (Revoke target code) o h = refl

@@ -202,7 +202,7 @@ unfoldable pub undead : Command → Outcome → Outcome
 undead Unsupported o = o
 undead Invalid o = o
 undead (Create wanted) o = o
-undead (Rekey target) o = o
+undead (Rekey target offset) o = o
 undead (GetUsageAllocation target amount) o = o
 undead (Activate target) o = o
 undead (Revoke target code) o = o

@@ -20,6 +20,9 @@ last-serial-requires c κs = search needs
 add-serial : tie.Need-add-serial
 add-serial c = let unissued : c .last-serial .result ≡ serialMost → ⊥ = search new-serial in omega arith
 
+latest-clock-requires : tie.Need-latest-clock-requires
+latest-clock-requires c κs = search needs
+
 heir-of-requires : tie.Need-heir-of-requires
 heir-of-requires c κs = search needs
 
@@ -36,7 +39,14 @@ same-length : tie.Need-same-length
 same-length c = search needs
 
 returns : tie.Need-returns
-returns c = search replaces
+returns c =
+    let at-put = c .before .before in
+    let at-heir = at-put .before .before in
+    let at-serial = at-heir .before .before .before in
+    let at-place = at-serial .before .before .before in
+    let at-new = at-place .before .before in
+    replaces _ _ _ _ _ _ _ _ (at-new .place-for-new .ensures) _ (at-place .place .given .1) _ (at-serial .last-serial .ensures)
+    _ (at-heir .before .latest-clock .ensures) _ (at-heir .heir-of .ensures) _ (at-put .put-heir .ensures)
 
 same-length-2 : tie.Need-same-length-2
 same-length-2 c = search needs
@@ -52,6 +62,7 @@ replace-at-spec =
     enum-known-place
     last-serial-requires
     add-serial
+    latest-clock-requires
     heir-of-requires
     put-heir-requires
     enum-told

@@ -1,17 +1,20 @@
--- `heir_of` meets its contract: the material is that of `material_from`.
+-- `heir_of` meets its contract: the material is that of `material_from`, the state that of `dated_state`.
 -- Assumes nothing.
 use borrow.Author.Needs.{needs}
-use Rattle.changes.specs.Records.{heirOf}
+use Rattle.changes.specs.Records.{heirDated}
 use Rattle.changes.proofs.heir_of.Statement.{statement}
 use Rattle.changes.proofs.heir_of.Tie as tie
+
+dated-state-requires : tie.Need-dated-state-requires
+dated-state-requires c κs = search needs
 
 material-from-requires : tie.Need-material-from-requires
 material-from-requires c κs = search needs
 
 returns : tie.Need-returns
-unfolding heirOf
-returns c = rw (c .material-from .ensures)
+unfolding heirDated
+returns c = rw (c .material-from .ensures, c .before .dated-state .ensures)
 
 pub heir-of-spec : {M : Type 1} → statement M
 heir-of-spec =
-    tie.close (tie.spec material-from-requires returns)
+    tie.close (tie.spec dated-state-requires material-from-requires returns)

@@ -5,32 +5,32 @@ use borrow.Author.Needs.{needs}
 use Rattle.deeds.proofs.act_at.Statement.{statement}
 use Rattle.deeds.proofs.act_at.Tie as tie
 
-enum-told : tie.Need-enum-told
-enum-told c = search needs
+enum-known-deed : tie.Need-enum-known-deed
+enum-known-deed c = search needs
 
 rekey-at-requires : tie.Need-rekey-at-requires
 rekey-at-requires c κs = search needs
 
-enum-known-deed : tie.Need-enum-known-deed
-enum-known-deed c = search needs
+enum-known-deed-2 : tie.Need-enum-known-deed-2
+enum-known-deed-2 c = search needs
 
 allocate-at-requires : tie.Need-allocate-at-requires
 allocate-at-requires c κs = search needs
 
-enum-known-deed-2 : tie.Need-enum-known-deed-2
-enum-known-deed-2 c = search needs
+enum-known-deed-3 : tie.Need-enum-known-deed-3
+enum-known-deed-3 c = search needs
 
 move-at-requires : tie.Need-move-at-requires
 move-at-requires c κs = search needs
 
-enum-told-2 : tie.Need-enum-told-2
-enum-told-2 c = search needs
+enum-told : tie.Need-enum-told
+enum-told c = search needs
 
 show-at-requires : tie.Need-show-at-requires
 show-at-requires c κs = search needs
 
-enum-told-3 : tie.Need-enum-told-3
-enum-told-3 c = search needs
+enum-told-2 : tie.Need-enum-told-2
+enum-told-2 c = search needs
 
 give-at-requires : tie.Need-give-at-requires
 give-at-requires c κs = search needs
@@ -69,15 +69,15 @@ pub act-at-spec : {M : Type 1} → statement M
 act-at-spec =
     tie.close
     (tie.spec
-    enum-told
-    rekey-at-requires
     enum-known-deed
-    allocate-at-requires
+    rekey-at-requires
     enum-known-deed-2
+    allocate-at-requires
+    enum-known-deed-3
     move-at-requires
-    enum-told-2
+    enum-told
     show-at-requires
-    enum-told-3
+    enum-told-2
     give-at-requires
     same-length
     returns

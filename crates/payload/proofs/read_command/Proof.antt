@@ -12,11 +12,11 @@ read-create-requires c κs = search needs
 returns : tie.Need-returns
 returns c = c .read-create .ensures ∙ sym (of-create _ _ (c .before .if1 .taken))
 
-read-alone-requires : tie.Need-read-alone-requires
-read-alone-requires c κs = search needs
+read-rekey-requires : tie.Need-read-rekey-requires
+read-rekey-requires c κs = search needs
 
 returns-2 : tie.Need-returns-2
-returns-2 c = c .read-alone .ensures ∙ sym (of-rekey _ _ (c .before .if2 .taken))
+returns-2 c = c .read-rekey .ensures ∙ sym (of-rekey _ _ (c .before .if2 .taken))
 
 read-allocation-requires : tie.Need-read-allocation-requires
 read-allocation-requires c κs = search needs
@@ -24,11 +24,11 @@ read-allocation-requires c κs = search needs
 returns-3 : tie.Need-returns-3
 returns-3 c = c .read-allocation .ensures ∙ sym (of-allocation _ _ (c .before .if3 .taken))
 
-read-alone-requires-2 : tie.Need-read-alone-requires-2
-read-alone-requires-2 c κs = search needs
+read-alone-requires : tie.Need-read-alone-requires
+read-alone-requires c κs = search needs
 
 returns-4 : tie.Need-returns-4
-returns-4 c = c .read-alone2 .ensures ∙ sym (of-activate _ _ (c .before .if4 .taken))
+returns-4 c = c .read-alone .ensures ∙ sym (of-activate _ _ (c .before .if4 .taken))
 
 read-revoke-requires : tie.Need-read-revoke-requires
 read-revoke-requires c κs = search needs
@@ -36,23 +36,23 @@ read-revoke-requires c κs = search needs
 returns-5 : tie.Need-returns-5
 returns-5 c = c .read-revoke .ensures ∙ sym (of-revoke _ _ (c .before .if5 .taken))
 
+read-alone-requires-2 : tie.Need-read-alone-requires-2
+read-alone-requires-2 c κs = search needs
+
+returns-6 : tie.Need-returns-6
+returns-6 c = c .read-alone2 .ensures ∙ sym (of-destroy _ _ (c .before .if6 .taken))
+
 read-alone-requires-3 : tie.Need-read-alone-requires-3
 read-alone-requires-3 c κs = search needs
 
-returns-6 : tie.Need-returns-6
-returns-6 c = c .read-alone3 .ensures ∙ sym (of-destroy _ _ (c .before .if6 .taken))
+returns-7 : tie.Need-returns-7
+returns-7 c = c .read-alone3 .ensures ∙ sym (of-attributes _ _ (c .before .if7 .taken))
 
 read-alone-requires-4 : tie.Need-read-alone-requires-4
 read-alone-requires-4 c κs = search needs
 
-returns-7 : tie.Need-returns-7
-returns-7 c = c .read-alone4 .ensures ∙ sym (of-attributes _ _ (c .before .if7 .taken))
-
-read-alone-requires-5 : tie.Need-read-alone-requires-5
-read-alone-requires-5 c κs = search needs
-
 returns-8 : tie.Need-returns-8
-returns-8 c = c .read-alone5 .ensures ∙ sym (of-get _ _ (c .before .if8 .taken))
+returns-8 c = c .read-alone4 .ensures ∙ sym (of-get _ _ (c .before .if8 .taken))
 
 returns-9 : tie.Need-returns-9
 returns-9 c =
@@ -66,18 +66,18 @@ read-command-spec =
     (tie.spec
     read-create-requires
     returns
-    read-alone-requires
+    read-rekey-requires
     returns-2
     read-allocation-requires
     returns-3
-    read-alone-requires-2
+    read-alone-requires
     returns-4
     read-revoke-requires
     returns-5
-    read-alone-requires-3
+    read-alone-requires-2
     returns-6
-    read-alone-requires-4
+    read-alone-requires-3
     returns-7
-    read-alone-requires-5
+    read-alone-requires-4
     returns-8
     returns-9)
