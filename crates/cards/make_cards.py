@@ -197,6 +197,10 @@ def rekey(name=None, *more, id=None):
     return ask(REKEY, *target(name), *more, id=id)
 
 
+def offset(seconds):
+    return interval(OFFSET, seconds)
+
+
 def allocate(name, count, id=None):
     return ask(ALLOCATE, *target(name), long_integer(USAGE_LIMITS_COUNT, count), id=id)
 
@@ -383,7 +387,7 @@ def check_builders():
     assert response(created("00000001")) == PRINTED_CREATED and len(PRINTED_CREATED) == 168
     assert response(failed(CREATE, INVALID_FIELD), failed(ACTIVATE, OBJECT_NOT_FOUND)) == PRINTED_BAD_CREATE
     assert structure(NAME, text(NAME_VALUE, "pump"), enumeration(NAME_TYPE, 1)) == PRINTED_NAME
-    assert interval(OFFSET, 864000) == PRINTED_OFFSET
+    assert offset(864000) == PRINTED_OFFSET
     # sizes of answers with an ID of 16 bytes
     id = bytes(16)
     full = shown("00000002", 1, limit=(5, 5, 1), replaced="00000001", replacement="00000003", id=id)
@@ -402,7 +406,7 @@ def check_builders():
 # ---- the script and what comes of it
 
 
-SCRIPT_ROOM = 262144  # a script has to stay below
+SCRIPT_ROOM = 524288  # a script has to stay below
 
 
 def grouped(octets):
@@ -840,7 +844,7 @@ def cards_of_allocation(s):
 
 
 def cards_of_rekey(s):
-    s.about("Re-key: attributes copied, new material, count = total, Pre-Active, linked both ways; the old record changes its replacement only.")
+    s.about("Re-key: attributes copied, new material, count = total, without dates Pre-Active, linked both ways; the old record changes its replacement only.")
     results = ["00000007", "00000008", "00000009", "0000000A", OBJECT_DESTROYED, OBJECT_DESTROYED]
     on_six(s, "Re-key on states 1 to 6", REKEY, rekey, results)
     s.table("lead after Re-key on states 1 to 6", 0, lead(10))
@@ -860,8 +864,8 @@ def cards_of_rekey(s):
     s.fails("Re-key of a key whose replacement is gone", rekey(ONE), REKEY, PERMISSION_DENIED)
     s.fails("Re-key of no key", rekey("0000000B"), REKEY, OBJECT_NOT_FOUND)
     s.fails("Re-key without identifier", rekey(), REKEY, OBJECT_NOT_FOUND)
-    s.fails("Re-key with an Offset", rekey("00000008", PRINTED_OFFSET), REKEY, INVALID_FIELD)
-    s.fails("Re-key of a destroyed key with an Offset", rekey(FIVE, PRINTED_OFFSET), REKEY, INVALID_FIELD)
+    s.fails("Re-key with something after the identifier", rekey("00000008", integer(OTHER, 1)), REKEY, INVALID_FIELD)
+    s.fails("Re-key of a destroyed key with something after the identifier", rekey(FIVE, integer(OTHER, 1)), REKEY, INVALID_FIELD)
     s.table("lead after Re-keys that failed", 0, lead(10))
     s.about("Lengths and masks are copied, and the length says how much of the strip is taken.")
     s.blank()
@@ -1385,21 +1389,6 @@ def cards_of_dates_kept(s):
     s.table("bodies after dates were kept", body_at(0), dated(2, 50, 200) + dated(1, 200, 300) + gone + body(100, 0, 4, material(2), 50, 200))
 
 
-def cards_of_rekey_with_dates(s):
-    s.about("L3: Re-key copies the dates; the new key starts Pre-Active, and they act at the next request. With a past deactivation date alone it never starts.")
-    keys = [(4, 200), (2, 50, 200), (3, 40, 60), (3, 0, 60)]
-    dated_keys(s, 50, *keys)
-    s.say("clock 100")
-    s.card("Re-key with a date to come", (rekey(ONE), named(REKEY, FIVE)), clock=100)
-    s.card("Re-key with dates", *[(rekey(f"{n:08X}"), named(REKEY, f"{n + 4:08X}")) for n in (2, 3, 4)], clock=100)
-    s.table("lines after Re-key with dates", line_at(4), b"".join(line(n + 4, 1, 2, replaced=n) for n in range(1, 5)))
-    copies = b"".join(body(100, 100, 4, fresh(item, 16), *key[1:]) for item, key in zip((0, 0, 1, 2), keys))
-    s.table("bodies after Re-key with dates", body_at(0), b"".join(dated(*key) for key in keys) + copies)
-    s.fails("Activate of a new key with a past deactivation date alone", activate("00000008"), ACTIVATE, WRONG, clock=100)
-    states = zip(range(1, 5), (1, 2, 3, 1))
-    s.table("lines at the request after Re-key", line_at(4), b"".join(line(n + 4, state, 2, replaced=n) for n, state in states))
-
-
 def cards_of_attributes_with_dates(s):
     s.about("L3: Get Attributes shows the dates that are set, after State, in every state.")
     keys = [(1,), (1, 200), (1, 0, 200), (2, 50, 200), (5, 50, 60)]
@@ -1411,6 +1400,367 @@ def cards_of_attributes_with_dates(s):
         name = f"{serial:08X}"
         pairs.append((attributes(name), shown(name, state, limit=(100, 50, 2), activation=activation, deactivation=deactivation)))
     s.card("Get Attributes with dates", *pairs, clock=100)
+
+
+# ---- L4: Re-key by the book
+
+
+def name_of(serial):
+    return f"{serial:08X}"
+
+
+def replace(s, name, old, new, *offset, clock):
+    """A request with one Re-key, which succeeds."""
+    s.card(name, (rekey(name_of(old), *offset), named(REKEY, name_of(new))), clock=clock)
+
+
+def heir(item, activation=0, deactivation=0):
+    """The body of a replacement of such a key as `dated` lays out: its material is that of the item at this position, and nothing was granted yet."""
+    return body(100, 100, 4, fresh(item, 16), activation, deactivation)
+
+
+def heirs_in(states):
+    """The lines of the replacements of keys 1, 2, 3 and so on, in these states."""
+    count = len(states)
+    return b"".join(line(count + old, state, 2, replaced=old) for old, state in enumerate(states, 1))
+
+
+def cards_of_rekey_with_dates(s):
+    s.about(
+        "L4: without Offset the dates are copied and the state is set from them at once, as L3 does for a Pre-Active key: the old key's state plays no",
+        "part. The clock is 100. Old keys: Compromised with a date to come, Active, Deactivated by date, Deactivated with no activation date, Active with no",
+        "date as a converted table may have it, Compromised past one date and past both, deactivation to come alone; then dates at the clock and one after.",
+    )
+    keys = [(4, 200), (2, 50, 200), (3, 40, 60), (3, 0, 60), (2,), (4, 50), (4, 50, 60), (1, 0, 200)]
+    keys += [(1, 100), (1, 101), (2, 50, 100), (2, 50, 101)]
+    began = [4, 2, 3, 3, 2, 4, 4, 1, 2, 1, 3, 2]
+    first = [1, 2, 3, 1, 1, 2, 3, 1, 2, 1, 3, 2]
+    dated_keys(s, 50, *keys)
+    s.say("clock 100")
+    for old in range(1, 5):
+        replace(s, f"L4 Re-key with dates, {name_of(old)}", old, old + 12, clock=100)
+    rest = range(5, 13)
+    s.card("L4 Re-key with dates, the others", *[(rekey(name_of(old)), named(REKEY, name_of(old + 12))) for old in rest], clock=100)
+    old_lines = b"".join(line(serial, state, 2, replacement=serial + 12) for serial, state in enumerate(began, 1))
+    s.table("L4 lead and lines after Re-key with dates", 0, lead(24, latest=100) + old_lines + heirs_in(first))
+    s.table("L4 old bodies after Re-key with dates", body_at(0), b"".join(dated(*key) for key in keys))
+    items = [0, 0, 0, 0, *range(8)]
+    s.table("L4 new bodies after Re-key with dates", body_at(12), b"".join(heir(item, *key[1:]) for item, key in zip(items, keys)))
+    s.about("Such a replacement is used at once if it is Active, and cannot be activated again; one with a past deactivation date alone never starts.")
+    s.fails("L4 Activate of a replacement that is Active already", activate(name_of(14)), ACTIVATE, WRONG, clock=100)
+    s.fails("L4 Activate of a replacement that is Deactivated already", activate(name_of(15)), ACTIVATE, WRONG, clock=100)
+    s.fails("L4 Activate of a replacement with a past deactivation date alone", activate(name_of(16)), ACTIVATE, WRONG, clock=100)
+    s.card(
+        "L4 replacements in use",
+        (allocate(name_of(14), 60), named(ALLOCATE, name_of(14))),
+        (attributes(name_of(14)), shown(name_of(14), 2, limit=(100, 40, 2), replaced=TWO, activation=50, deactivation=200)),
+        (destroy(name_of(14)), failed(DESTROY, WRONG)),
+        (get(name_of(15)), handed(name_of(15), fresh(0, 16))),
+        (allocate(name_of(15), 1), failed(ALLOCATE, WRONG)),
+        (destroy(name_of(15)), named(DESTROY, name_of(15))),
+        (activate(name_of(17)), named(ACTIVATE, name_of(17))),
+        option=CONTINUE,
+        clock=100,
+    )
+    first[2], first[4] = 5, 2
+    s.table("L4 lines after replacements were used", line_at(12), heirs_in(first))
+    s.about("Later the dates act on it as on any key.")
+    s.say("clock 200")
+    s.fails("L4 replacements at clock 200", attributes(), GET_ATTRIBUTES, OBJECT_NOT_FOUND, clock=200)
+    s.table("L4 lines of replacements at clock 200", line_at(12), heirs_in([2, 3, 5, 1, 2, 2, 3, 1, 2, 2, 3, 3]))
+
+
+def cards_of_rekey_in_one_batch(s):
+    s.about("L4: that of an Active key is Active at once, since Activate set its date; and it is Pre-Active as 01 has it where no date was set.")
+    s.blank()
+    s.card(
+        "L4 Re-key of a key just activated, and of one that was not",
+        (create(limit(100, 2)), created(ONE)),
+        (activate(), named(ACTIVATE, ONE)),
+        (rekey(), named(REKEY, TWO)),
+        (attributes(), shown(TWO, 2, limit=(100, 100, 2), replaced=ONE, activation=1)),
+        (allocate(None, 100), named(ALLOCATE, TWO)),
+        (rekey(), named(REKEY, THREE)),
+        (attributes(), shown(THREE, 2, limit=(100, 100, 2), replaced=TWO, activation=1)),
+        (create(), created(FOUR)),
+        (rekey(), named(REKEY, FIVE)),
+        (attributes(), shown(FIVE, 1, replaced=FOUR)),
+        (revoke(THREE, 1), named(REVOKE, THREE)),
+        (rekey(THREE), named(REKEY, SIX)),
+        (attributes(), shown(SIX, 3, limit=(100, 100, 2), replaced=THREE, activation=1, deactivation=1)),
+    )
+    s.about("L4: in the batch of its Create a date that has come acts on the replacement at once, and on the created key at the next accepted request.")
+    s.blank()
+    s.say("clock 10")
+    s.card(
+        "L4 Create with dates that have come and Re-key in one batch",
+        (create(starts(10)), created(ONE)),
+        (rekey(), named(REKEY, TWO)),
+        (attributes(), shown(TWO, 2, replaced=ONE, activation=10)),
+        (attributes(ONE), shown(ONE, 1, replacement=TWO, activation=10)),
+        (create(starts(9), ends(10)), created(THREE)),
+        (rekey(), named(REKEY, FOUR)),
+        (attributes(), shown(FOUR, 3, replaced=THREE, activation=9, deactivation=10)),
+        (create(ends(10)), created(FIVE)),
+        (rekey(), named(REKEY, SIX)),
+        (attributes(), shown(SIX, 1, replaced=FIVE, deactivation=10)),
+        (create(starts(11)), created("00000007")),
+        (rekey(), named(REKEY, "00000008")),
+        (attributes(), shown("00000008", 1, replaced="00000007", activation=11)),
+        clock=10,
+    )
+    linked = lambda *states: b"".join(
+        line(serial, state, replaced=(serial - 1) * (1 - serial % 2), replacement=(serial + 1) * (serial % 2)) for serial, state in enumerate(states, 1)
+    )
+    s.table("L4 lines after Create and Re-key in one batch", line_at(0), linked(1, 2, 1, 3, 1, 1, 1, 1))
+    s.fails("L4 the request after Create and Re-key", attributes(), GET_ATTRIBUTES, OBJECT_NOT_FOUND, clock=10)
+    s.table("L4 lines at the request after Create and Re-key", line_at(0), linked(2, 2, 3, 3, 1, 1, 1, 1))
+
+
+def cards_of_offset(s):
+    s.about(
+        "L4, Offset: activation is the clock, 100, plus Offset; deactivation moves by the same difference, later or earlier; a key without dates gets an",
+        "activation date all the same. The state follows from the new dates. Offset is unsigned: from 80000000 hex on it is a long one.",
+    )
+    tries = [
+        ("0, both dates", (2, 50, 200), 0, (100, 250), 2),
+        ("1, both dates", (2, 50, 200), 1, (101, 251), 1),
+        ("10 days", (2, 50), 864000, (864100,), 1),
+        ("FFFFFFFF, both dates past", (3, 50, 60), 0xFFFFFFFF, (4294967395, 4294967405), 1),
+        ("0, no dates", (1,), 0, (100,), 2),
+        ("1, an Active key of no dates", (2,), 1, (101,), 1),
+        ("0, dates that are the same", (3, 60, 60), 0, (100, 100), 3),
+        ("1, dates that are the same", (3, 60, 60), 1, (101, 101), 1),
+        ("10, Compromised, dates to come", (4, 500, 700), 10, (110, 310), 1),
+        ("0, dates to come", (1, 500, 501), 0, (100, 101), 2),
+        ("0, dates to come that are the same", (1, 500, 500), 0, (100, 100), 3),
+        ("80000000, an activation date", (4, 70), 0x80000000, (2147483748,), 1),
+        ("400, the same dates as before", (1, 500, 2**63 - 1), 400, (500, 2**63 - 1), 1),
+        ("0, both dates past", (4, 50, 60), 0, (100, 110), 2),
+    ]
+    keys = [key for _, key, _, _, _ in tries]
+    dated_keys(s, 50, *keys)
+    s.say("clock 100")
+    count = len(tries)
+    for old, (name, _, seconds, _, _) in enumerate(tries, 1):
+        given = PRINTED_OFFSET if seconds == 864000 else offset(seconds)
+        replace(s, f"L4 Offset {name}", old, old + count, given, clock=100)
+    old_lines = b"".join(line(old, key[0], 2, replacement=old + count) for old, key in enumerate(keys, 1))
+    states = [state for _, _, _, _, state in tries]
+    s.table("L4 lead and lines after Offsets", 0, lead(2 * count, latest=100) + old_lines + heirs_in(states))
+    s.table("L4 old bodies after Offsets", body_at(0), b"".join(dated(*key) for key in keys))
+    s.table("L4 new bodies after Offsets", body_at(count), b"".join(heir(0, *dates) for _, _, _, dates, _ in tries))
+    first, same = name_of(count + 1), name_of(count + 7)
+    s.card(
+        "L4 replacements by Offset",
+        (attributes(first), shown(first, 2, limit=(100, 100, 2), replaced=ONE, activation=100, deactivation=250)),
+        (activate(first), failed(ACTIVATE, WRONG)),
+        (activate(same), failed(ACTIVATE, WRONG)),
+        (rekey(first, offset(5)), named(REKEY, name_of(2 * count + 1))),
+        (attributes(), shown(name_of(2 * count + 1), 1, limit=(100, 100, 2), replaced=first, activation=105, deactivation=255)),
+        option=CONTINUE,
+        clock=100,
+    )
+    s.about("The moved dates act when they have come: at 101, at 10 days one second before and on time, and so for the longest Offset and its end.")
+    for clock, states in [
+        (101, [2, 2, 1, 1, 2, 2, 3, 3, 1, 3, 3, 1, 1, 2]),
+        (864099, [3, 3, 1, 1, 2, 2, 3, 3, 3, 3, 3, 1, 2, 3]),
+        (864100, [3, 3, 2, 1, 2, 2, 3, 3, 3, 3, 3, 1, 2, 3]),
+        (4294967394, [3, 3, 2, 1, 2, 2, 3, 3, 3, 3, 3, 2, 2, 3]),
+        (4294967395, [3, 3, 2, 2, 2, 2, 3, 3, 3, 3, 3, 2, 2, 3]),
+        (4294967404, [3, 3, 2, 2, 2, 2, 3, 3, 3, 3, 3, 2, 2, 3]),
+        (4294967405, [3, 3, 2, 3, 2, 2, 3, 3, 3, 3, 3, 2, 2, 3]),
+    ]:
+        s.say(f"clock {clock}")
+        s.fails(f"L4 Offsets at clock {clock}", attributes(), GET_ATTRIBUTES, OBJECT_NOT_FOUND, clock=clock)
+        lines = line(count + 1, states[0], 2, replaced=1, replacement=2 * count + 1) + heirs_in(states)[16:]
+        s.table(f"L4 lines of replacements at clock {clock}", line_at(count), lines)
+
+
+def cards_of_offset_and_the_clock(s):
+    s.about("L4: Offset counts from the clock that counts: 40 is given, and 100 was seen.")
+    keys = [(2, 50, 200), (2, 50, 200), (2, 50, 200)]
+    dated_keys(s, 100, *keys)
+    s.say("clock 40")
+    replace(s, "L4 Offset 0 at clock 40 after 100", 1, 4, offset(0), clock=100)
+    replace(s, "L4 Offset 5 at clock 40 after 100", 2, 5, offset(5), clock=100)
+    s.say("clock 104")
+    replace(s, "L4 Offset 1 at clock 104", 3, 6, offset(1), clock=104)
+    s.table("L4 lines after Offsets and a clock that went back", line_at(3), heirs_in([2, 1, 1]))
+    s.table("L4 bodies after Offsets and a clock that went back", body_at(3), heir(0, 100, 250) + heir(0, 105, 255) + heir(0, 105, 255))
+
+
+def cards_of_offset_alone(s):
+    s.about("L4: with Offset, a deactivation date without an activation date is Invalid Field; without Offset it is copied. A failed item changes nothing.")
+    keys = [(1, 0, 200), (2, 0, 200), (3, 0, 60), (4, 0, 60)]
+    dated_keys(s, 50, *keys)
+    s.say("clock 100")
+    for seconds in (0, 0xFFFFFFFF):
+        s.fails(f"L4 Offset {seconds} and a deactivation date alone", rekey(ONE, offset(seconds)), REKEY, INVALID_FIELD, clock=100)
+    pairs = [(rekey(name, offset(1)), failed(REKEY, INVALID_FIELD)) for name in (TWO, THREE, FOUR)]
+    s.card("L4 Offset 1 and a deactivation date alone, other states", *pairs, option=CONTINUE, clock=100)
+    s.table("L4 lead and lines after Offsets and a deactivation date alone", 0, lead(4, latest=100) + in_states(1, 2, 3, 4) + bytes(16))
+    s.card("L4 a deactivation date alone without Offset", *[(rekey(name_of(n)), named(REKEY, name_of(n + 4))) for n in range(1, 5)], clock=100)
+    s.table("L4 lines after a deactivation date alone without Offset", line_at(4), heirs_in([1, 1, 1, 1]))
+    copies = b"".join(heir(item, *key[1:]) for item, key in enumerate(keys))
+    s.table("L4 bodies after a deactivation date alone without Offset", body_at(0), b"".join(dated(*key) for key in keys) + copies)
+    s.about("Such a failure empties the placeholder, as every failure does.")
+    s.card(
+        "L4 Offset and a deactivation date alone, by the placeholder",
+        (create(ends(200)), created("00000009")),
+        (rekey(None, offset(1)), failed(REKEY, INVALID_FIELD)),
+        (rekey(), failed(REKEY, OBJECT_NOT_FOUND)),
+        (create(), created("0000000A")),
+        (rekey(None, offset(1)), named(REKEY, "0000000B")),
+        (attributes(), shown("0000000B", 1, replaced="0000000A", activation=101)),
+        option=CONTINUE,
+        clock=100,
+    )
+
+
+def cards_of_offset_past_the_largest_date(s):
+    most = 2**63 - 1
+    s.about("L4: a sum past the largest Date-Time, 2^63 - 1, is Invalid Field; one that comes to it is not. The clock is ten seconds before it.")
+    keys = [(2, 50), (2, 50), (3, 60, 65), (3, 60, 65), (1, most), (2, 50, most), (1,), (3, 60, 60)]
+    dated_keys(s, 60, *keys)
+    s.say(f"clock {most - 10}")
+    clock = most - 10
+    s.fails("L4 activation one past 2^63 - 1", rekey(ONE, offset(11)), REKEY, INVALID_FIELD, clock=clock)
+    s.fails("L4 activation far past 2^63 - 1", rekey(ONE, offset(0xFFFFFFFF)), REKEY, INVALID_FIELD, clock=clock)
+    replace(s, "L4 activation at 2^63 - 1", 2, 9, offset(10), clock=clock)
+    s.fails("L4 deactivation alone one past 2^63 - 1", rekey(THREE, offset(6)), REKEY, INVALID_FIELD, clock=clock)
+    s.fails("L4 both dates past 2^63 - 1", rekey(THREE, offset(11)), REKEY, INVALID_FIELD, clock=clock)
+    replace(s, "L4 deactivation at 2^63 - 1", 4, 10, offset(5), clock=clock)
+    replace(s, "L4 an activation date of 2^63 - 1 moved to the clock", 5, 11, offset(0), clock=clock)
+    s.fails("L4 a deactivation date of 2^63 - 1 that would move on", rekey(SIX, offset(0)), REKEY, INVALID_FIELD, clock=clock)
+    replace(s, "L4 a deactivation date of 2^63 - 1 without Offset", 6, 12, clock=clock)
+    replace(s, "L4 both dates at 2^63 - 1", 8, 13, offset(10), clock=clock)
+    old = [(1, 2, 0), (2, 2, 9), (3, 3, 0), (4, 3, 10), (5, 1, 11), (6, 2, 12), (7, 1, 0), (8, 3, 13)]
+    new = [(9, 1, 2), (10, 1, 4), (11, 2, 5), (12, 2, 6), (13, 1, 8)]
+    lines = b"".join(line(serial, state, 2, replacement=other) for serial, state, other in old)
+    lines += b"".join(line(serial, state, 2, replaced=other) for serial, state, other in new)
+    s.table("L4 lead and lines before the largest date", 0, lead(13, latest=clock) + lines)
+    bodies = heir(0, most) + heir(0, most - 5, most) + heir(0, most - 10) + heir(0, 50, most) + heir(0, most, most)
+    s.table("L4 new bodies before the largest date", body_at(8), bodies)
+    s.about("At the largest clock Offset 0 is the only one.")
+    s.say(f"clock {most}")
+    s.fails("L4 Offset 1 at clock 2^63 - 1", rekey(ONE, offset(1)), REKEY, INVALID_FIELD, clock=most)
+    replace(s, "L4 Offset 0 at clock 2^63 - 1", 1, 14, offset(0), clock=most)
+    s.fails("L4 Offset 0 and a span of 5 at clock 2^63 - 1", rekey(THREE, offset(0)), REKEY, INVALID_FIELD, clock=most)
+    s.card("L4 Offset 0 on a key without dates at clock 2^63 - 1", (rekey("00000007", offset(0)), named(REKEY, "0000000F")), clock=most)
+    s.table("L4 lines at the largest date", line_at(13), line(14, 2, 2, replaced=1) + line(15, 2, 2, replaced=7) + bytes(16))
+    s.table("L4 bodies at the largest date", body_at(13), heir(0, most) * 2)
+    s.about("It need not be late for that: at clock 100 a key that lasts to the largest date can be moved to where it was and not a second on.")
+    dated_keys(s, 50, (1, 200, most), (1, 200, most), (1, 1, most))
+    s.say("clock 100")
+    s.fails("L4 Offset 101 and an end at 2^63 - 1", rekey(ONE, offset(101)), REKEY, INVALID_FIELD, clock=100)
+    replace(s, "L4 Offset 100 and an end at 2^63 - 1", 1, 4, offset(100), clock=100)
+    replace(s, "L4 Offset 99 and an end at 2^63 - 1", 2, 5, offset(99), clock=100)
+    s.fails("L4 the longest Offset and the longest span", rekey(THREE, offset(0xFFFFFFFF)), REKEY, INVALID_FIELD, clock=100)
+    s.table("L4 bodies of keys that last to the largest date", body_at(3), heir(0, 200, most) + heir(0, 199, most - 1))
+    s.about("The largest sums there are: the largest clock, the longest Offset, the longest span.")
+    s.say(f"clock {most}")
+    s.fails("L4 the largest sums", rekey(THREE, offset(0xFFFFFFFF)), REKEY, INVALID_FIELD, clock=most)
+
+
+def cards_of_the_order_of_rekey(s):
+    s.about(
+        "L4, the order of reasons: Object Not Found, Object Destroyed, Permission Denied, Invalid Field by the dates, Server Limit Exceeded. A full table of",
+        "live keys; keys 1 and 2 have a deactivation date alone, and 2 is replaced by 6; key 8 has both dates, key 9 none.",
+    )
+    full_table(s)
+    s.put(8, numbers(1))
+    s.put(line_at(1), line(2, 2, replacement=6))
+    s.put(line_at(5), line(6, 2, replaced=2))
+    for place in (0, 1):
+        s.put(body_at(place) + DEACTIVATION_IN, numbers(2**63 - 1))
+    s.put(body_at(7) + ACTIVATION_IN, numbers(1, 2**63 - 1))
+    given = offset(1)
+    s.fails("L4 replaced, Offset and a deactivation date alone, table full", rekey(TWO, given), REKEY, PERMISSION_DENIED)
+    s.fails("L4 Offset and a deactivation date alone, table full", rekey(ONE, given), REKEY, INVALID_FIELD)
+    s.fails("L4 deactivation past 2^63 - 1, table full", rekey("00000008", given), REKEY, INVALID_FIELD)
+    s.fails("L4 Offset that fits, table full", rekey("00000009", given), REKEY, SERVER_LIMIT_EXCEEDED)
+    s.fails("L4 a deactivation date alone without Offset, table full", rekey(ONE), REKEY, SERVER_LIMIT_EXCEEDED)
+    s.fails("L4 no key, Offset, table full", rekey("00000041", given), REKEY, OBJECT_NOT_FOUND)
+    s.fails("L4 no identifier, Offset, table full", rekey(None, given), REKEY, OBJECT_NOT_FOUND)
+    s.say(f"clock {2**63 - 1}")
+    s.fails("L4 activation past 2^63 - 1, table full", rekey("00000009", given), REKEY, INVALID_FIELD, clock=2**63 - 1)
+    s.table("L4 lead after the order of reasons", 0, lead(64, latest=2**63 - 1))
+    s.about("The same where no serial is left: the last one was issued, and places are free. All is at fault with key 5: destroyed, replaced, its date alone.")
+    s.blank()
+    s.put(0, lead(0xFFFFFFFF)[:4])
+    s.put(line_at(0), line(1, 2) + line(2, 2, replacement=3) + line(4, 2) + line(5, 5, replacement=6))
+    for place in (0, 1, 3):
+        s.put(body_at(place) + DEACTIVATION_IN, numbers(9))
+    s.fails("L4 all at fault", rekey(FIVE, given), REKEY, OBJECT_DESTROYED)
+    s.fails("L4 Offset and a deactivation date alone, no serial left", rekey(ONE, given), REKEY, INVALID_FIELD)
+    s.fails("L4 replaced by a key that is gone, no serial left", rekey(TWO, given), REKEY, PERMISSION_DENIED)
+    s.fails("L4 Offset that fits, no serial left", rekey(FOUR, given), REKEY, SERVER_LIMIT_EXCEEDED)
+    s.about("On a destroyed and on a replaced key the Offset is not looked at, whether it fits or not.")
+    dated_keys(s, 50, (5, 50), (6, 0, 60), (2, 50), (2, 50))
+    s.put(line_at(2), line(3, 2, 2, replacement=4) + line(4, 2, 2, replaced=3))
+    s.say("clock 100")
+    s.fails("L4 Offset that fits, destroyed", rekey(ONE, given), REKEY, OBJECT_DESTROYED, clock=100)
+    s.fails("L4 Offset and a deactivation date alone, destroyed", rekey(TWO, given), REKEY, OBJECT_DESTROYED, clock=100)
+    s.fails("L4 Offset that fits, replaced", rekey(THREE, given), REKEY, PERMISSION_DENIED, clock=100)
+    s.about("A destroyed place is taken over by a replacement with its state and dates, and nothing of the destroyed key stays.")
+    full_table(s)
+    s.put(line_at(9), line(10, 5, 2, bits=256))
+    s.put(body_at(9), body(100, 50, 0x00FFFFFF, b"", 7, 8))
+    s.card("L4 Offset 0 into a destroyed place", (rekey(ONE, offset(0)), named(REKEY, "00000041")))
+    s.table("L4 line of place 9, Active at once", line_at(9), line(65, 2, replaced=1))
+    s.table("L4 body of place 9, taken over", body_at(9), body(0, 0, 0, fresh(0, 16), 1))
+
+
+def cards_of_offset_shapes(s):
+    s.about("L4: Offset is an Interval behind the identifier, once, and in Re-key alone; any other shape is Invalid Field, also for no key and a destroyed one.")
+    dated_keys(s, 50, (2, 50), (5, 50))
+    s.say("clock 100")
+    given, first = offset(1), identifier(ONE)
+    wrong = [
+        ("as Integer", [first, integer(OFFSET, 1)]),
+        ("as Enumeration", [first, enumeration(OFFSET, 1)]),
+        ("as Long Integer", [first, long_integer(OFFSET, 1)]),
+        ("as Date-Time", [first, date_time(OFFSET, 1)]),
+        ("as Date-Time Extended", [first, date_time_extended(OFFSET, 1)]),
+        ("as Byte String", [first, byte_string(OFFSET, bytes(4))]),
+        ("in a structure", [first, structure(OFFSET, given)]),
+        ("before the identifier", [given, first]),
+        ("given twice", [first, given, given]),
+        ("and something more", [first, given, integer(OTHER, 1)]),
+        ("behind something", [first, integer(OTHER, 1), given]),
+        ("of rotation, 42016C", [first, interval(0x42016C, 1)]),
+        ("as Integer alone", [integer(OFFSET, 1)]),
+        ("with an identifier as Integer", [integer(UNIQUE_IDENTIFIER, 1), given]),
+    ]
+    for name, payload in wrong:
+        s.fails(f"L4 Offset {name}", ask(REKEY, *payload), REKEY, INVALID_FIELD, clock=100)
+    for what, key in [("no key", THREE), ("a destroyed key", TWO)]:
+        asked = [(rekey(key, integer(OFFSET, 1)), failed(REKEY, INVALID_FIELD)), (rekey(key, given, given), failed(REKEY, INVALID_FIELD))]
+        s.card(f"L4 Offset of wrong shape for {what}", *asked, option=CONTINUE, clock=100)
+    s.refused("L4 Offset of 8 bytes is malformed", request(rekey(ONE, ttlv(OFFSET, 0x0A, bytes(8)))), 5)
+    others = [
+        (create(given), CREATE),
+        (ask(CREATE, symmetric_key(), wanted(), given), CREATE),
+        (get(ONE, given), GET),
+        (attributes(ONE, given), GET_ATTRIBUTES),
+        (ask(ALLOCATE, first, long_integer(USAGE_LIMITS_COUNT, 1), given), ALLOCATE),
+        (activate(ONE, given), ACTIVATE),
+        (ask(REVOKE, first, reason_code(1), given), REVOKE),
+        (destroy(ONE, given), DESTROY),
+    ]
+    s.card("L4 Offset in other operations", *[(asked, failed(operation, INVALID_FIELD)) for asked, operation in others], option=CONTINUE, clock=100)
+    s.table("L4 lead and lines after Offsets of wrong shape", 0, lead(2, latest=100) + in_states(2, 5) + bytes(16))
+    s.about("Without identifier, by the placeholder, it stands alone; and an ID is echoed.")
+    s.card(
+        "L4 Offset by the placeholder",
+        (create(), created(THREE)),
+        (rekey(None, offset(0), id=b"again"), named(REKEY, FOUR, id=b"again")),
+        (attributes(), shown(FOUR, 2, replaced=THREE, activation=100)),
+        (rekey(None, PRINTED_OFFSET), named(REKEY, FIVE)),
+        (attributes(), shown(FIVE, 1, replaced=FOUR, activation=864100)),
+        clock=100,
+    )
 
 
 # ---- refusals
@@ -1782,8 +2132,15 @@ def all_cards():
         cards_of_activate_with_dates,
         cards_of_revoke_with_dates,
         cards_of_dates_kept,
-        cards_of_rekey_with_dates,
         cards_of_attributes_with_dates,
+        cards_of_rekey_with_dates,
+        cards_of_rekey_in_one_batch,
+        cards_of_offset,
+        cards_of_offset_and_the_clock,
+        cards_of_offset_alone,
+        cards_of_offset_past_the_largest_date,
+        cards_of_the_order_of_rekey,
+        cards_of_offset_shapes,
         cards_of_refusals_1_to_4,
         cards_of_unsound_tables,
         cards_of_sound_dates,

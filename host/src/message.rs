@@ -66,6 +66,10 @@ pub fn date_time(tag: u32, seconds: i64) -> Node {
     Node { tag, kind: 0x09, body: Body::Bytes(seconds.to_be_bytes().to_vec()) }
 }
 
+pub fn interval(tag: u32, seconds: u32) -> Node {
+    Node { tag, kind: 0x0A, body: Body::Bytes(seconds.to_be_bytes().to_vec()) }
+}
+
 /// The numbers in a request's header.
 #[derive(Clone, Copy, Debug)]
 pub struct Header {
@@ -121,9 +125,16 @@ pub fn create_dated(
     vec![enumeration(0x420057, 2), structure(0x420125, attributes)]
 }
 
-/// The payload of Re-key, Activate, Destroy, Get and Get Attributes: the identifier, or nothing.
+/// The payload of Re-key without Offset, Activate, Destroy, Get and Get Attributes: the identifier, or nothing.
 pub fn target(identifier: Option<&str>) -> Vec<Node> {
     identifier.map(|identifier| text(0x420094, identifier)).into_iter().collect()
+}
+
+/// The payload of Re-key with an Offset in seconds.
+pub fn replacement(identifier: Option<&str>, offset: u32) -> Vec<Node> {
+    let mut payload = target(identifier);
+    payload.push(interval(0x420058, offset));
+    payload
 }
 
 /// The payload of Get Usage Allocation.

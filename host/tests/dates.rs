@@ -1,12 +1,14 @@
 //! Dates around the clock: every state, dates before, at and after it, clocks that go back, stay and go on or are below
-//! 1, and every operation on such a key. The engines must agree, and the coverage's checks of clocks and dates must hold.
+//! 1, and every operation on such a key, Re-key with Offsets; and Offsets that bring a date up to the largest one and past
+//! it. The engines must agree, and the coverage's checks of clocks, dates and replacements must hold.
 
 mod support;
 
-use junctionmoth::message::{allocation, create_dated, item, request, revocation, target, Node};
+use junctionmoth::message::{allocation, create_dated, item, replacement, request, revocation, target, Node};
 use junctionmoth::model::soundness;
 use junctionmoth::model::table::{Record, Table};
 use junctionmoth::Refusal;
+use support::coverage::results;
 use support::coverage::Coverage;
 use support::{engines, Case};
 
@@ -44,6 +46,7 @@ fn items(activation: i64, deactivation: i64) -> Vec<Node> {
     let set = |date: i64| (date != 0).then_some(date);
     let mut items: Vec<Node> =
         [0x04, 0x0A, 0x0B, 0x12, 0x14].into_iter().map(|operation| item(operation, None, target(name))).collect();
+    items.extend([0, 1, u32::MAX].map(|offset| item(0x04, None, replacement(name, offset))));
     items.push(item(0x11, None, allocation(name, 50)));
     items.extend([1, 2].map(|code| item(0x13, None, revocation(name, code))));
     items.push(item(0x01, None, create_dated(128, 4, None, (set(activation), set(deactivation)))));
@@ -75,4 +78,40 @@ fn every_state_with_dates_around_the_clock() {
             }
         }
     }
+}
+
+/// Clocks before the largest Date-Time, by so many seconds.
+const LEFT: [i64; 5] = [0, 1, 1_000, 0xFFFF_FFFF, 0x1_0000_0000];
+/// How long a key of these dates is Active; activation date 5.
+const SPANS: [i64; 5] = [0, 1, 1_000, 0xFFFF_FFFE, i64::MAX - 5];
+
+/// Whether a Re-key with this Offset succeeds, so long before the largest Date-Time.
+fn fits(left: i64, span: i64, offset: u32) -> bool {
+    i128::from(offset) + i128::from(span) <= i128::from(left)
+}
+
+#[test]
+fn offsets_up_to_the_largest_date_and_past_it() {
+    let (engines, mut coverage) = (engines(), Coverage::default());
+    let (mut done, mut failed) = (0, 0);
+    for (left, span) in LEFT.into_iter().flat_map(|left| SPANS.map(|span| (left, span))) {
+        let table = table_of(3, 5, 5 + span, 5);
+        let edge = left.saturating_sub(span);
+        for offset in [0, 1, edge - 1, edge, edge + 1, 0xFFFF_FFFF].map(u32::try_from).into_iter().flatten() {
+            let rekey = item(0x04, None, replacement(Some("00000001"), offset));
+            let mut case = Case::new(request(None, vec![rekey]).encode(), table.clone());
+            case.clock = i64::MAX - left;
+            let effect = case.run_all(&engines, "largest date");
+            coverage.count(&case, &effect);
+            let length = effect.served.expect("answered");
+            let expected = (!fits(left, span, offset)).then_some(0x07);
+            assert_eq!(results(&effect.out[..length]), [(0x04, expected)], "{left} {span} {offset}");
+            if expected.is_none() {
+                done += 1;
+            } else {
+                failed += 1;
+            }
+        }
+    }
+    assert!(done > 20 && failed > 20, "{done} and {failed}");
 }

@@ -3,7 +3,9 @@
 
 mod support;
 
+use junctionmoth::message::{item, request, target, Node};
 use junctionmoth::model::frame::{self, BatchItem};
+use junctionmoth::model::operations::identifier;
 use junctionmoth::model::payload::{self, Action, Order, Target};
 use junctionmoth::model::soundness;
 use junctionmoth::model::table::Table;
@@ -20,6 +22,15 @@ struct Issued {
     granted: u64,
     activation: i64,
     deactivation: i64,
+    /// Whether it was issued by Re-key.
+    replaces: bool,
+}
+
+impl Issued {
+    /// Whether its activation date is set and has come, and its deactivation date.
+    fn come_by(&self, now: i64) -> (bool, bool) {
+        ((1..=now).contains(&self.activation), (1..=now).contains(&self.deactivation))
+    }
 }
 
 /// Everything issued so far, by serial.
@@ -37,6 +48,10 @@ struct Ledger {
     went_back: u64,
     /// Items that asked for the key of a destroyed identifier; each failed.
     asked_dead: u64,
+    /// Replacements by Re-key with an Offset, those that had begun at once, and those that had ended at once.
+    moved: u64,
+    begun: u64,
+    ended: u64,
 }
 
 impl Ledger {
@@ -75,17 +90,40 @@ impl Ledger {
                 *placeholder = Some(answered);
                 let total = wanted.limit.as_ref().map_or(0, |limit| limit.total);
                 let (activation, deactivation) = (wanted.activation.unwrap_or(0), wanted.deactivation.unwrap_or(0));
-                return self.issue(answered, Issued { total, granted: 0, activation, deactivation });
+                let new = Issued { total, granted: 0, activation, deactivation, replaces: false };
+                return self.issue(answered, new);
             }
             Order::Target(Target::Placeholder, action) => (placeholder.expect("the placeholder is set"), action),
             Order::Target(Target::Identifier(text), action) => (serial(text), action),
         };
-        if let Action::Rekey = action {
+        if let Action::Rekey(offset) = action {
             *placeholder = Some(answered);
-            return self.issue(answered, Issued { granted: 0, ..self.issued[&target] });
+            let new = self.replacement(target, *offset);
+            return self.issue(answered, new);
         }
         self.enter_action(action, target);
         assert_eq!(answered, target);
+    }
+
+    /// What a replacement begins with: nothing granted, and the dates of the old key, or the clock plus Offset and an end
+    /// as far from it as before.
+    fn replacement(&mut self, old: u32, offset: Option<u32>) -> Issued {
+        let now = self.largest_clock;
+        let mut new = Issued { granted: 0, replaces: true, ..self.issued[&old] };
+        if let Some(seconds) = offset {
+            assert!(new.activation != 0 || new.deactivation == 0, "a deactivation date alone was moved");
+            let start = now.checked_add(i64::from(seconds)).expect("a Date-Time");
+            if new.deactivation != 0 {
+                let span = new.deactivation - new.activation;
+                new.deactivation = start.checked_add(span).expect("a Date-Time");
+            }
+            new.activation = start;
+            self.moved += 1;
+        }
+        let (begun, ended) = new.come_by(now);
+        self.begun += u64::from(begun && !ended);
+        self.ended += u64::from(begun && ended);
+        new
     }
 
     fn enter_action(&mut self, action: &Action, target: u32) {
@@ -93,7 +131,7 @@ impl Ledger {
         let known = self.issued.get_mut(&target).expect("only issued identifiers are known");
         match action {
             Action::GetUsageAllocation(amount) => {
-                let ended = known.deactivation != 0 && known.deactivation <= now;
+                let (_, ended) = known.come_by(now);
                 assert!(!ended, "units were granted past the deactivation date");
                 known.granted += amount;
                 self.grants += 1;
@@ -116,7 +154,8 @@ impl Ledger {
     }
 
     /// For every record that stands, granted and left make the total, and the dates are those that were set; one that
-    /// was Deactivated is neither Pre-Active nor Active again. The stored clock is the largest that was accepted.
+    /// was Deactivated is neither Pre-Active nor Active again. The stored clock is the largest that was accepted. An
+    /// Active key has begun and a Deactivated one has ended; a replacement is never behind its dates.
     fn compare(&mut self, table: &Table) {
         assert_eq!(table.latest, self.largest_clock);
         for record in table.standing() {
@@ -124,6 +163,11 @@ impl Ledger {
             assert_eq!(issued.granted + record.count, issued.total, "serial {}", record.serial);
             assert_eq!(record.total, issued.total);
             assert_eq!((record.activation, record.deactivation), (issued.activation, issued.deactivation));
+            let (begun, ended) = issued.come_by(table.latest);
+            assert!(record.state != 2 || begun, "serial {} is Active too early", record.serial);
+            assert!(record.state != 3 || ended, "serial {} is Deactivated too early", record.serial);
+            let behind = begun && record.state < if ended { 3 } else { 2 };
+            assert!(!(issued.replaces && behind), "serial {}, a replacement, is behind its dates", record.serial);
             if record.state == 3 {
                 self.stopped.insert(record.serial);
             }
@@ -163,12 +207,25 @@ fn compare_states(before: &Table, after: &Table) {
     assert!(after.standing().all(|record| record.state < 5 || record.material == [0; 32]));
 }
 
+/// Gets of keys that are destroyed, as many as a batch holds.
+fn gets_of_destroyed(table: &Table) -> Node {
+    let destroyed = table.standing().filter(|record| record.state >= 5).map(|record| record.serial);
+    let mut serials: Vec<u32> = destroyed.take(16).collect();
+    if serials.is_empty() {
+        serials.push(1);
+    }
+    let gets = serials.into_iter().map(|serial| item(GET, None, target(Some(&identifier(serial)))));
+    request(Some(1), gets.collect())
+}
+
 /// A request on the table of now: spoilt sometimes, accepted mostly.
 fn next_request(rng: &mut Rng, table: &Table) -> Vec<u8> {
-    let mut bytes = match rng.below(10) {
-        0 => requests::edited(rng, table).encode(),
-        1 => requests::wrong_numbers(rng, table).encode(),
-        2 => requests::creations(rng, table).encode(),
+    let mut bytes = match rng.below(20) {
+        0..=1 => requests::edited(rng, table).encode(),
+        2..=3 => requests::wrong_numbers(rng, table).encode(),
+        4..=5 => requests::creations(rng, table).encode(),
+        6 => requests::renewals(rng, table).encode(),
+        7 => gets_of_destroyed(table).encode(),
         _ => requests::accepted(rng, table).encode(),
     };
     if rng.one_in(20) {
@@ -209,6 +266,7 @@ fn grants_are_counted_and_destroyed_keys_stay_so() {
     let (mut grants, mut full, mut taken_over) = (0, 0, 0);
     let (mut handed_out, mut asked_dead) = (0, 0);
     let (mut went_back, mut stopped) = (0, 0);
+    let (mut moved, mut begun, mut ended) = (0, 0, 0);
     for seed in 0..200 {
         let mut rng = Rng::new(seed);
         let mut table = Table::blank();
@@ -222,6 +280,7 @@ fn grants_are_counted_and_destroyed_keys_stay_so() {
         asked_dead += ledger.asked_dead;
         went_back += ledger.went_back;
         stopped += ledger.stopped.len();
+        (moved, begun, ended) = (moved + ledger.moved, begun + ledger.begun, ended + ledger.ended);
         full += u32::from(table.standing().count() == 64);
         taken_over += u32::from(ledger.issued.len() > 64);
     }
@@ -229,6 +288,8 @@ fn grants_are_counted_and_destroyed_keys_stay_so() {
     println!("{handed_out} keys handed out, and {asked_dead} that were asked for after their Destroy were not");
     assert!(grants > 100 && full > 10 && taken_over > 10);
     println!("{went_back} requests answered with a clock that went back, {stopped} keys seen Deactivated");
+    println!("{moved} replacements with Offset; {begun} with and without were Active at once, {ended} Deactivated");
     assert!(handed_out > 100 && asked_dead > 100);
     assert!(went_back > 100 && stopped > 100);
+    assert!(moved > 100 && begun > 100 && ended > 100);
 }

@@ -8,7 +8,7 @@ use script::Clock;
 use script::Number;
 
 // The bytes of room for a script: one more than the longest.
-pub const SCRIPT_ROOM: usize = 262144;
+pub const SCRIPT_ROOM: usize = 524288;
 
 // What is lent to a call besides the request.
 pub enum Buffer {
@@ -47,7 +47,7 @@ pub struct Done {
 
 // Room for a script, all zero.
 pub fn script_room() -> [u8; SCRIPT_ROOM]
-    ensures { λ r. ⌜ r ≡ replicate 262144 0 ⌝ }
+    ensures { λ r. ⌜ r ≡ replicate 524288 0 ⌝ }
 {
     [0u8; SCRIPT_ROOM]
 }

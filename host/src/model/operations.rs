@@ -1,7 +1,7 @@
 //! The eight operations on records.
 //! Starts from a sound table, whose latest clock is the one that counts; a failed item leaves it as it was.
 
-use super::dates::has_come;
+use super::dates::{self, has_come};
 use super::frame::BatchItem;
 use super::payload::{self, Action, Order, Target, Wanted};
 use super::table::{Record, Table};
@@ -90,7 +90,7 @@ impl<'a> KeyBox<'a> {
         let clock = self.table.latest;
         let record = self.record(serial);
         match action {
-            Action::Rekey => return self.rekey(serial, fresh),
+            Action::Rekey(offset) => return self.rekey(serial, offset, fresh),
             Action::Get if [5, 6].contains(&record.state) => return Err(Reason::ObjectDestroyed),
             Action::Get => return Ok(Success::Key(record.clone())),
             Action::GetAttributes => return Ok(Success::Attributes(record.clone())),
@@ -109,11 +109,12 @@ impl<'a> KeyBox<'a> {
         let (total, unit) = wanted.limit.map_or((0, 0), |limit| (limit.total, limit.unit));
         let (activation, deactivation) = (wanted.activation.unwrap_or(0), wanted.deactivation.unwrap_or(0));
         let Wanted { length, mask, .. } = wanted;
-        let key = Record { length, mask, total, unit, activation, deactivation, ..Record::default() };
+        let key = Record { state: 1, length, mask, total, unit, activation, deactivation, ..Record::default() };
         self.issue(key, fresh).map(Success::Created)
     }
 
-    fn rekey(&mut self, old: u32, fresh: &[u8]) -> Result<Success, Reason> {
+    fn rekey(&mut self, old: u32, offset: Option<u32>, fresh: &[u8]) -> Result<Success, Reason> {
+        let clock = self.table.latest;
         let record = self.record(old).clone();
         if [5, 6].contains(&record.state) {
             return Err(Reason::ObjectDestroyed);
@@ -121,12 +122,16 @@ impl<'a> KeyBox<'a> {
         if record.replacement != 0 {
             return Err(Reason::PermissionDenied);
         }
-        let new = self.issue(Record { replaced: old, replacement: 0, ..record }, fresh)?;
+        let dates = dates::of_replacement(&record, offset, clock).ok_or(Reason::InvalidField)?;
+        let (activation, deactivation) = dates;
+        let mut key = Record { replaced: old, replacement: 0, activation, deactivation, ..record };
+        key.state = dates::first_state(&key, clock);
+        let new = self.issue(key, fresh)?;
         self.record(old).replacement = new;
         Ok(Success::Rekeyed(new))
     }
 
-    /// Puts a new key with these attributes, dates and links into its place, and gives its serial.
+    /// Puts a new key with this state and these attributes, dates and links into its place, and gives its serial.
     fn issue(&mut self, key: Record, fresh: &[u8]) -> Result<u32, Reason> {
         let place = self.place_for_new().ok_or(Reason::ServerLimitExceeded)?;
         let serial = self.table.last.checked_add(1).ok_or(Reason::ServerLimitExceeded)?;
@@ -134,7 +139,7 @@ impl<'a> KeyBox<'a> {
         let mut material = [0; 32];
         material[..bytes].copy_from_slice(&fresh[..bytes]);
         self.table.last = serial;
-        self.table.places[place] = Record { serial, state: 1, count: key.total, material, ..key };
+        self.table.places[place] = Record { serial, count: key.total, material, ..key };
         Ok(serial)
     }
 

@@ -37,10 +37,10 @@ pub enum Target {
     Identifier(String),
 }
 
-/// What is to be done with it.
+/// What is to be done with it; Re-key may have an Offset, in seconds.
 #[derive(Debug)]
 pub enum Action {
-    Rekey,
+    Rekey(Option<u32>),
     GetUsageAllocation(u64),
     Activate,
     Revoke(u32),
@@ -75,7 +75,8 @@ fn read_target(payload: &[Item]) -> Option<(Target, &[Item])> {
 
 fn read_action(operation: u32, rest: &[Item]) -> Option<Action> {
     match (operation, rest) {
-        (REKEY, []) => Some(Action::Rekey),
+        (REKEY, []) => Some(Action::Rekey(None)),
+        (REKEY, [offset]) => offset.interval(OFFSET).map(|seconds| Action::Rekey(Some(seconds))),
         (GET, []) => Some(Action::Get),
         (GET_ATTRIBUTES, []) => Some(Action::GetAttributes),
         (ACTIVATE, []) => Some(Action::Activate),

@@ -17,6 +17,7 @@ pub const LINK: u32 = 0x42004A;
 pub const LINK_TYPE: u32 = 0x42004B;
 pub const LINKED_OBJECT_IDENTIFIER: u32 = 0x42004C;
 pub const OBJECT_TYPE: u32 = 0x420057;
+pub const OFFSET: u32 = 0x420058;
 pub const OPERATION: u32 = 0x42005C;
 pub const PROTOCOL_VERSION: u32 = 0x420069;
 pub const PROTOCOL_VERSION_MAJOR: u32 = 0x42006A;

@@ -148,6 +148,13 @@ impl Item {
         }
     }
 
+    pub fn interval(&self, tag: u32) -> Option<u32> {
+        match self.value {
+            Value::Interval(seconds) if self.tag == tag => Some(seconds),
+            _ => None,
+        }
+    }
+
     pub fn bytes(&self, tag: u32) -> Option<&[u8]> {
         match &self.value {
             Value::Bytes(bytes) if self.tag == tag => Some(bytes),

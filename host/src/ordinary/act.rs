@@ -65,7 +65,7 @@ impl<'a> Session<'a> {
         })?;
         match order {
             Order::Create(wanted) => self.create(wanted, fresh),
-            Order::Rekey(target) => self.rekey(target, fresh),
+            Order::Rekey(target, offset) => self.rekey(target, offset, fresh),
             Order::Allocate(target, amount) => self.allocate(target, amount),
             Order::Activate(target) => self.activate(target),
             Order::Revoke(target, 2 | 3) => self.change_state(target, &COMPROMISE),
@@ -102,7 +102,8 @@ impl<'a> Session<'a> {
         Ok(Outcome::Created(serial))
     }
 
-    fn rekey(&mut self, target: Target, fresh: &[u8; 32]) -> Result<Outcome, Reason> {
+    /// A replacement stands where its dates put it: they are due at once, and may be moved by an Offset.
+    fn rekey(&mut self, target: Target, offset: Option<u32>, fresh: &[u8; 32]) -> Result<Outcome, Reason> {
         let (place, line) = self.find(target)?;
         if matches!(line.state, 5 | 6) {
             return Err(Reason::ObjectDestroyed);
@@ -110,8 +111,11 @@ impl<'a> Session<'a> {
         if line.replacement != 0 {
             return Err(Reason::PermissionDenied);
         }
-        let (usage, dates) = (self.table.usage(place), self.table.dates(place));
-        let new = Line { state: 1, replaced: line.serial, ..line };
+        let (usage, mut dates) = (self.table.usage(place), self.table.dates(place));
+        if let Some(seconds) = offset {
+            dates = dates.moved_to(self.now + u64::from(seconds)).ok_or(Reason::InvalidField)?;
+        }
+        let new = Line { state: dates.state_at(self.now, 1), replaced: line.serial, ..line };
         let serial = self.issue(new, Usage { count: usage.total, ..usage }, dates, fresh)?;
         self.table.set_line(place, Line { replacement: serial, ..line });
         Ok(Outcome::Named(serial))

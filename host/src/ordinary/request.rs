@@ -23,7 +23,8 @@ pub struct BatchItem<'a> {
 /// What an item asks for.
 pub enum Order<'a> {
     Create(Wanted),
-    Rekey(Target<'a>),
+    /// With its Offset, if one is given.
+    Rekey(Target<'a>, Option<u32>),
     Allocate(Target<'a>, u64),
     Activate(Target<'a>),
     Revoke(Target<'a>, u32),
@@ -113,7 +114,7 @@ fn read_order<'a>(operation: u32, payload: &mut Fields<'a>) -> Option<Order<'a>>
     }
     let target = read_target(payload)?;
     match operation {
-        0x04 => Some(Order::Rekey(target)),
+        0x04 => read_offset(payload).map(|offset| Order::Rekey(target, offset)),
         0x0A => Some(Order::Key(target)),
         0x0B => Some(Order::Attributes(target)),
         0x11 => read_amount(payload).map(|amount| Order::Allocate(target, amount)),
@@ -127,6 +128,15 @@ fn read_order<'a>(operation: u32, payload: &mut Fields<'a>) -> Option<Order<'a>>
 fn read_target<'a>(payload: &mut Fields<'a>) -> Option<Target<'a>> {
     if payload.next_has_tag(0x420094) {
         payload.take(0x42009407).map(Some)
+    } else {
+        Some(None)
+    }
+}
+
+/// The Offset if one is given; nothing if it is no Interval.
+fn read_offset(payload: &mut Fields) -> Option<Option<u32>> {
+    if payload.next_has_tag(0x420058) {
+        payload.word(0x4200580A).map(Some)
     } else {
         Some(None)
     }

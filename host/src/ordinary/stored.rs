@@ -4,6 +4,9 @@
 pub const PLACES: usize = 64;
 pub const GREATEST_TOTAL: u64 = 1_000_000_000_000;
 
+/// The largest Date-Time.
+const LAST_DATE: u64 = i64::MAX as u64;
+
 const LEAD: usize = 16;
 const LINE: usize = 16;
 const BODY: usize = 72;
@@ -58,6 +61,17 @@ impl Dates {
         self.deactivation == 0 || self.activation <= self.deactivation
     }
 
+    /// The same span from this start on; one without an end stays so. None if it has an end and no start, or runs past
+    /// the last Date-Time.
+    pub fn moved_to(self, start: u64) -> Option<Dates> {
+        let end = match (self.activation, self.deactivation) {
+            (_, 0) => 0,
+            (0, _) => return None,
+            (first, last) => start.checked_add(last.checked_sub(first)?)?,
+        };
+        (start.max(end) <= LAST_DATE).then_some(Dates { activation: start, deactivation: end })
+    }
+
     fn begun_by(self, now: u64) -> bool {
         (1..=now).contains(&self.activation)
     }
@@ -67,7 +81,7 @@ impl Dates {
     }
 
     /// The state that a key of this state has when the clock is `now`.
-    fn state_at(self, now: u64, state: u8) -> u8 {
+    pub fn state_at(self, now: u64, state: u8) -> u8 {
         match state {
             1 if self.begun_by(now) => self.state_at(now, 2),
             2 if self.ended_by(now) => 3,

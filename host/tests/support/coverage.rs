@@ -37,7 +37,7 @@ const CHANGES: [(u8, u8); 9] = [(1, 2), (1, 4), (1, 5), (2, 3), (2, 4), (3, 4), 
 const DUE: [(u8, u8); 3] = [(1, 2), (2, 3), (1, 3)];
 
 /// Things that must occur beside those lists.
-const EVENTS: [&str; 31] = [
+const EVENTS: [&str; 55] = [
     "answered with fewer items than asked",
     "batch of 16 answered whole",
     "response of 5,336 bytes",
@@ -63,6 +63,30 @@ const EVENTS: [&str; 31] = [
     "Create with both dates",
     "Create with a date that has come: Pre-Active",
     "Re-key of a key with dates",
+    "Re-key without Offset: Pre-Active",
+    "Re-key without Offset: Active",
+    "Re-key without Offset: Deactivated",
+    "Re-key without Offset, a deactivation date alone that has come: Pre-Active",
+    "Re-key with Offset: Pre-Active",
+    "Re-key with Offset: Active",
+    "Re-key with Offset: Deactivated",
+    "Re-key with Offset 0",
+    "Re-key with Offset 2^32 - 1",
+    "Re-key with Offset, no dates: activation set",
+    "Re-key with Offset: activation at 2^63 - 1",
+    "Re-key with Offset: deactivation at 2^63 - 1",
+    "Re-key with Offset: both dates earlier than before",
+    "Re-key with Offset, clock earlier than the latest",
+    "Re-key with Offset, a deactivation date alone: Invalid Field",
+    "Re-key with Offset, activation past 2^63 - 1: Invalid Field",
+    "Re-key with Offset, deactivation alone past 2^63 - 1: Invalid Field",
+    "Re-key with an Offset that does not fit, nothing left to issue: Invalid Field",
+    "Re-key with an Offset that does not fit, of a replaced key: Permission Denied",
+    "Re-key with an Offset that does not fit, of a destroyed key: Object Destroyed",
+    "Re-key with an Offset that fits, nothing left to issue: Server Limit Exceeded",
+    "Re-key with Offset, of no key: Object Not Found",
+    "Re-key with an Offset of wrong shape, of no key: Invalid Field",
+    "Re-key in the batch of its Create: Active at once, the old key not yet",
     "Activate over a date that was set",
     "Activate past the deactivation date: Wrong Key Lifecycle State",
     "Revoke over a deactivation date to come",
@@ -126,14 +150,16 @@ impl Coverage {
         }
         self.count_targets(&start, &asked, &results);
         self.count_activate(&start, &asked[0], results[0]);
+        self.count_rekey(&start, &asked[0], results[0], case.clock < before.latest);
+        self.count_renewals(&before, &after);
+        if let ([result], [item]) = (&results[..], &asked[..]) {
+            self.count_single(&start, &after, item, *result);
+        }
         let asked = asked.len();
         self.note_if("answered with fewer items than asked", results.len() < asked);
         self.note_if("batch of 16 answered whole", asked == 16 && results.len() == 16);
         self.note_if("response of 5,336 bytes", length == 5336);
         self.note_if("request of 4,096 bytes answered", case.request.len() == 4096);
-        if let ([result], 1) = (&results[..], asked) {
-            self.count_single(&start, &after, *result);
-        }
     }
 
     /// Counts the clock of an answered call; the one that counts is stored, and is the Time Stamp.
@@ -173,12 +199,13 @@ impl Coverage {
                     self.note_if("placeholder used", reason.is_none());
                     self.note_if("placeholder emptied by a failure: Object Not Found", not_found && issued);
                 }
-                Ok(Order::Target(Target::Identifier(text), _)) => {
+                Ok(Order::Target(Target::Identifier(text), action)) => {
+                    let allocates = matches!(action, Action::GetUsageAllocation(_));
                     let lower = text.bytes().any(|byte| byte.is_ascii_lowercase())
                         && table.standing().any(|record| identifier(record.serial) == text.to_uppercase());
                     self.note_if("identifier of a record in lower case: Object Not Found", not_found && lower);
                     self.note_if("identifier of eight zeros: Object Not Found", not_found && text == "00000000");
-                    self.note_if("no usage limit: Invalid Field", invalid);
+                    self.note_if("no usage limit: Invalid Field", invalid && allocates);
                 }
                 _ => {}
             }
@@ -198,8 +225,65 @@ impl Coverage {
         self.note_if("Activate past the deactivation date: Wrong Key Lifecycle State", late);
     }
 
+    /// Counts a Re-key, first in its batch, that names its key: the first of its tests that fails gives the reason.
+    fn count_rekey(&mut self, start: &Table, first: &BatchItem, (operation, reason): (u32, Option<u32>), back: bool) {
+        if operation != REKEY {
+            return;
+        }
+        let text = first.payload.iter().find_map(|field| field.text(UNIQUE_IDENTIFIER));
+        let named = start.standing().find(|record| Some(&*identifier(record.serial)) == text);
+        let Ok(Order::Target(Target::Identifier(_), Action::Rekey(offset))) = payload::read(REKEY, &first.payload)
+        else {
+            let no_key = text.is_some() && named.is_none() && reason == Some(InvalidField as u32);
+            let shape = no_key && first.payload.iter().any(|field| field.tag == OFFSET);
+            return self.note_if("Re-key with an Offset of wrong shape, of no key: Invalid Field", shape);
+        };
+        let Some(key) = named else {
+            assert_eq!(reason, Some(ObjectNotFound as u32), "Re-key of no key");
+            return self.note_if("Re-key with Offset, of no key: Object Not Found", offset.is_some());
+        };
+        let misfit = misfit(key, offset, start.latest);
+        let taken = |record: &Record| !record.is_free() && record.state < 5;
+        let full = start.last == u32::MAX || start.places.iter().all(taken);
+        let tests = [
+            (key.state >= 5, ObjectDestroyed),
+            (key.replacement != 0, PermissionDenied),
+            (misfit.is_some(), InvalidField),
+            (full, ServerLimitExceeded),
+        ];
+        let due = tests.into_iter().find(|(fails, _)| *fails).map(|(_, reason)| reason);
+        assert_eq!(reason, due.map(|due| due as u32), "the reason of a Re-key");
+        self.note_if("Re-key with Offset, clock earlier than the latest", back && offset.is_some() && due.is_none());
+        self.count_misfit(misfit, offset.is_some(), full, due);
+    }
+
+    fn count_misfit(&mut self, misfit: Option<&'static str>, offset: bool, full: bool, due: Option<Reason>) {
+        let limited = offset && due == Some(ServerLimitExceeded);
+        self.note_if("Re-key with an Offset that fits, nothing left to issue: Server Limit Exceeded", limited);
+        let Some(misfit) = misfit else { return };
+        let invalid = due == Some(InvalidField);
+        self.note_if(misfit, invalid);
+        let what = "Re-key with an Offset that does not fit, nothing left to issue: Invalid Field";
+        self.note_if(what, invalid && full);
+        let what = "Re-key with an Offset that does not fit, of a replaced key: Permission Denied";
+        self.note_if(what, due == Some(PermissionDenied));
+        let what = "Re-key with an Offset that does not fit, of a destroyed key: Object Destroyed";
+        self.note_if(what, due == Some(ObjectDestroyed));
+    }
+
+    /// Counts keys that were created and replaced in this call, of which the old one waits for the next to begin.
+    fn count_renewals(&mut self, before: &Table, after: &Table) {
+        let ahead = |new: &Record| {
+            let old = after.find(new.replaced).filter(|old| old.serial > before.last);
+            let waits = |old: &Record| old.state == 1 && is_due(old.activation, after.latest);
+            old.is_some_and(|old| new.state == 2 && waits(old) && new.activation == old.activation)
+        };
+        let occurred = after.standing().any(ahead);
+        self.note_if("Re-key in the batch of its Create: Active at once, the old key not yet", occurred);
+    }
+
     /// Counts what the one item of a request did to the table that it met.
-    fn count_single(&mut self, before: &Table, after: &Table, result: (u32, Option<u32>)) {
+    fn count_single(&mut self, before: &Table, after: &Table, item: &BatchItem, result: (u32, Option<u32>)) {
         for (old, new) in before.places.iter().zip(&after.places) {
             if old.serial == new.serial {
                 self.count_change(old, new, after.latest);
@@ -210,8 +294,9 @@ impl Coverage {
             match before.find(new.replaced) {
                 None => self.count_new_dates(new, after.latest),
                 Some(replaced) => {
-                    assert_eq!(dates(new), dates(replaced), "Re-key copies the dates");
-                    self.note_if("Re-key of a key with dates", dates(new) != (0, 0));
+                    let order = payload::read(result.0, &item.payload);
+                    let Ok(Order::Target(_, Action::Rekey(offset))) = order else { panic!("only Re-key links keys") };
+                    self.count_replacement(replaced, new, offset, after.latest);
                 }
             }
         }
@@ -219,6 +304,43 @@ impl Coverage {
         let free = before.places.iter().any(|record| record.is_free());
         let limited = result.1 == Some(ServerLimitExceeded as u32);
         self.note_if("last serial FFFFFFFF with a free place: Server Limit Exceeded", limited && free);
+    }
+
+    /// Counts a replacement: its dates are copied or moved, and its state is what they make of a Pre-Active key.
+    fn count_replacement(&mut self, old: &Record, new: &Record, offset: Option<u32>, clock: i64) {
+        assert_eq!(dates(new), moved_dates(old, offset, clock), "the dates of a replacement");
+        let begun = is_due(new.activation, clock);
+        let ended = is_due(new.deactivation, clock);
+        let [first, second, third] = match offset {
+            None => [
+                "Re-key without Offset: Pre-Active",
+                "Re-key without Offset: Active",
+                "Re-key without Offset: Deactivated",
+            ],
+            Some(_) => {
+                ["Re-key with Offset: Pre-Active", "Re-key with Offset: Active", "Re-key with Offset: Deactivated"]
+            }
+        };
+        let (state, event) = match (begun, ended) {
+            (true, true) => (3, third),
+            (true, false) => (2, second),
+            (false, _) => (1, first),
+        };
+        assert_eq!(new.state, state, "the first state of a replacement");
+        self.note_if(event, true);
+        self.note_if("Re-key of a key with dates", dates(old) != (0, 0));
+        let what = "Re-key without Offset, a deactivation date alone that has come: Pre-Active";
+        self.note_if(what, offset.is_none() && !begun && ended);
+        if offset.is_some() {
+            self.note_if("Re-key with Offset 0", offset == Some(0));
+            self.note_if("Re-key with Offset 2^32 - 1", offset == Some(u32::MAX));
+            self.note_if("Re-key with Offset, no dates: activation set", dates(old) == (0, 0));
+            self.note_if("Re-key with Offset: activation at 2^63 - 1", new.activation == i64::MAX);
+            let at_most = new.deactivation == i64::MAX && new.activation < i64::MAX;
+            self.note_if("Re-key with Offset: deactivation at 2^63 - 1", at_most);
+            let earlier = new.deactivation != 0 && new.deactivation < old.deactivation;
+            self.note_if("Re-key with Offset: both dates earlier than before", earlier);
+        }
     }
 
     /// Counts what an item did to a record. Activate and a Revoke that is no compromise set their date, and nothing
@@ -342,6 +464,29 @@ fn dates(record: &Record) -> (i64, i64) {
 /// Whether a date is set, and at or before a clock.
 fn is_due(date: i64, clock: i64) -> bool {
     (1..=clock).contains(&date)
+}
+
+/// In what way an Offset, if there is one, does not fit the dates of a key; none if it does.
+fn misfit(key: &Record, offset: Option<u32>, clock: i64) -> Option<&'static str> {
+    let seconds = i64::from(offset?);
+    if key.activation == 0 && key.deactivation != 0 {
+        return Some("Re-key with Offset, a deactivation date alone: Invalid Field");
+    }
+    let Some(start) = clock.checked_add(seconds) else {
+        return Some("Re-key with Offset, activation past 2^63 - 1: Invalid Field");
+    };
+    let past = key.deactivation != 0 && start.checked_add(key.deactivation - key.activation).is_none();
+    past.then_some("Re-key with Offset, deactivation alone past 2^63 - 1: Invalid Field")
+}
+
+/// The dates of a replacement; the Offset fits.
+fn moved_dates(old: &Record, offset: Option<u32>, clock: i64) -> (i64, i64) {
+    let Some(seconds) = offset else { return dates(old) };
+    let start = clock + i64::from(seconds);
+    if old.deactivation == 0 {
+        return (start, 0);
+    }
+    (start, old.deactivation - old.activation + start)
 }
 
 /// The table that the first item meets: the clock that counts is stored, and what is due by it is done.

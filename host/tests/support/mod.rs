@@ -134,7 +134,9 @@ pub fn any_clock(rng: &mut Rng, latest: i64) -> i64 {
 
 fn any_request(rng: &mut Rng, table: &Table) -> Vec<u8> {
     let mut bytes = match rng.below(100) {
-        0..=64 => requests::accepted(rng, table).encode(),
+        0..=59 => requests::accepted(rng, table).encode(),
+        60..=62 => requests::rekey(rng, table).encode(),
+        63..=64 => requests::renewals(rng, table).encode(),
         65..=66 => requests::widest(rng, table).encode(),
         67..=80 => requests::edited(rng, table).encode(),
         81..=85 => requests::wrong_numbers(rng, table).encode(),

@@ -49,6 +49,7 @@ fn payload(rng: &mut Rng, table: &Table, operation: u32) -> Vec<Node> {
     let name = name.as_deref();
     match operation {
         0x01 => creation(rng, table),
+        0x04 => rekeying(rng, table, name),
         0x11 => allocation(name, amount(rng, table, name)),
         0x13 => {
             let code = rng.between(1, 7) as u32;
@@ -89,6 +90,49 @@ fn creation(rng: &mut Rng, table: &Table) -> Vec<Node> {
         5..=14 => create(length, mask, limit),
         _ => create_dated(length, mask, limit, right_dates(rng, table.latest)),
     }
+}
+
+/// A Re-key without Offset, with one, or with something in its place that is none.
+fn rekeying(rng: &mut Rng, table: &Table, name: Option<&str>) -> Vec<Node> {
+    let seconds = offset(rng, table, name);
+    match rng.below(24) {
+        0..=8 => target(name),
+        9..=21 => replacement(name, seconds),
+        _ => wrong_offset(rng, name, seconds),
+    }
+}
+
+/// An Offset: at the edges, a few seconds, or about as many as bring a date of the replacement to the largest one.
+fn offset(rng: &mut Rng, table: &Table, name: Option<&str>) -> u32 {
+    let named = table.standing().find(|record| name == Some(&identifier(record.serial)));
+    let span = named.map_or(0, |record| (record.deactivation - record.activation).max(0));
+    let room = i64::MAX - table.latest;
+    for room in [room - span, room] {
+        if let (Ok(most), true) = (u32::try_from(room), !rng.one_in(4)) {
+            return rng.pick(&[most, most, most, most.saturating_sub(1), most.saturating_add(1)]);
+        }
+    }
+    let few = rng.between(1, 30) as u32;
+    let any = rng.next() as u32;
+    rng.pick(&[0, 0, 0, 1, few, few, 864_000, 0x8000_0000, u32::MAX, any])
+}
+
+/// A Re-key with an Offset of another type, twice, before the identifier or under another tag, of a key or of none.
+fn wrong_offset(rng: &mut Rng, name: Option<&str>, seconds: u32) -> Vec<Node> {
+    let name = rng.pick(&[name, name, Some("00000000")]);
+    let number = seconds as i32;
+    let mut payload = target(name);
+    match rng.below(8) {
+        0 => payload.push(integer(0x420058, number)),
+        1 => payload.push(enumeration(0x420058, seconds)),
+        2 => payload.push(long_integer(0x420058, i64::from(seconds))),
+        3 => payload.push(date_time(0x420058, i64::from(seconds))),
+        4 => payload.insert(0, interval(0x420058, seconds)),
+        5 => payload.extend([interval(0x420058, seconds), interval(0x420058, seconds)]),
+        6 => payload.push(structure(0x420058, vec![interval(0x420058, seconds)])),
+        _ => payload.push(interval(rng.pick(&[0x420057, 0x420059, 0x4200D4, 0x42016C]), seconds)),
+    }
+    payload
 }
 
 /// A date around a clock, or at the edges.
@@ -171,6 +215,23 @@ fn wrong_text(rng: &mut Rng, table: &Table, serial: u32) -> String {
 pub fn creations(rng: &mut Rng, table: &Table) -> Node {
     let number = rng.between(1, 16);
     request(Some(1), (0..number).map(|_| item(0x01, None, creation(rng, table))).collect())
+}
+
+/// A Re-key alone.
+pub fn rekey(rng: &mut Rng, table: &Table) -> Node {
+    request(None, vec![item(0x04, None, payload(rng, table, 0x04))])
+}
+
+/// A batch that creates keys and replaces each at once, and then uses the replacement.
+pub fn renewals(rng: &mut Rng, table: &Table) -> Node {
+    let mut items = Vec::new();
+    for _ in 0..rng.between(1, 4) {
+        items.push(item(0x01, None, creation(rng, table)));
+        items.push(item(0x04, None, rekeying(rng, table, None)));
+        let used = rng.pick(&[0x04, 0x0A, 0x0B, 0x11, 0x12, 0x14]);
+        items.push(item(used, None, payload(rng, table, used)));
+    }
+    request(rng.pick(&[Some(1), Some(2)]), items)
 }
 
 /// The request with the longest answer that the table allows: sixteen times all attributes, with IDs of 16 bytes.
@@ -302,7 +363,7 @@ fn edit_fields(rng: &mut Rng, nodes: &mut Vec<Node>) {
     let at = rng.index(nodes.len() + 1);
     let extra_tag = rng.pick(&[
         0x420092, 0x420050, 0x420154, 0x420051, 0x420010, 0x42000E, 0x420093, 0x420094, 0x420096, 0x420080, 0x420095,
-        0x42002C, 0x42000F, 0x42000D, 0x42FFFF, 0x420001, 0x42002F,
+        0x42002C, 0x42000F, 0x42000D, 0x42FFFF, 0x420001, 0x42002F, 0x420058,
     ]);
     match rng.below(5) {
         0 => nodes.insert(at, well_formed(rng, extra_tag)),

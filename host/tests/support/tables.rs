@@ -58,7 +58,7 @@ fn set_dates(rng: &mut Rng, table: &mut Table) {
             let (one, two) = (date_around(rng, latest), date_around(rng, latest));
             let (first, last) = (one.min(two), one.max(two));
             (record.activation, record.deactivation) =
-                rng.pick(&[(first, 0), (0, last), (first, last), (first, last), (last, last)]);
+                rng.pick(&[(first, 0), (0, last), (first, last), (first, last), (last, last), (last, i64::MAX)]);
         }
         if record.state == 2 {
             record.activation = record.activation.min(latest);
