@@ -1669,7 +1669,7 @@ def cards_of_the_order_of_rekey(s):
         "live keys; keys 1 and 2 have a deactivation date alone, and 2 is replaced by 6; key 8 has both dates, key 9 none.",
     )
     full_table(s)
-    s.put(8, numbers(1))
+    s.put(LATEST_CLOCK, numbers(1))
     s.put(line_at(1), line(2, 2, replacement=6))
     s.put(line_at(5), line(6, 2, replaced=2))
     for place in (0, 1):

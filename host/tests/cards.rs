@@ -215,6 +215,31 @@ fn a_key_is_rekeyed_once() {
 }
 
 #[test]
+fn a_replacement_begins_in_the_state_that_its_dates_give() {
+    let one = Some("00000001");
+    let setup = vec![new_key(None), on(ACTIVATE, None)];
+    let active = call(batch(None, setup), &blank_table()).table;
+    let rekeyed = |table: &[u8]| record(&call(batch(None, vec![on(REKEY, one)]), table), 1);
+    assert_eq!((rekeyed(&active).state, rekeyed(&active).activation), (2, 1));
+    let stopped = call(batch(None, vec![revoke(one, 1)]), &active).table;
+    assert_eq!((rekeyed(&stopped).state, rekeyed(&stopped).deactivation), (3, 1));
+}
+
+#[test]
+fn the_printed_offset_of_ten_days_moves_both_dates() {
+    let asked = "42007801 00000080 42007701 00000038 42006901 00000020 42006A02 00000004 00000002 00000000 42006B02 \
+        00000004 00000001 00000000 42000D02 00000004 00000001 00000000 42000F01 00000038 42005C05 00000004 00000004 \
+        00000000 42007901 00000020 42009407 00000008 30303030 30303031 4200580A 00000004 000D2F00 00000000";
+    assert_eq!(batch(None, vec![item(REKEY, None, replacement(Some("00000001"), 864_000))]), unhex(asked));
+    let dated = item(CREATE, None, create_dated(128, 4, None, (Some(5), Some(9))));
+    let table = call(batch(None, vec![dated]), &blank_table()).table;
+    let effect = call(unhex(asked), &table);
+    assert_eq!(reasons(&effect), [None]);
+    let new = record(&effect, 1);
+    assert_eq!((new.state, new.activation, new.deactivation), (1, 864_001, 864_005));
+}
+
+#[test]
 fn a_bad_create_stops_the_batch_or_empties_the_placeholder() {
     let items = || vec![item(CREATE, None, create(129, 4, None)), on(ACTIVATE, None)];
     assert_eq!(reasons(&call(batch(None, items()), &blank_table())), [INVALID_FIELD]);
