@@ -12,7 +12,7 @@ use Rattle.octets.specs.If.{ifb}
 use Rattle.octets.specs.Octets.{be, all}
 use Rattle.octets.proofs.If.{on-if}
 use Rattle.octets.proofs.Numbers.{length-be}
-use Rattle.ttlv_types.specs.Types.{structure, integer, longInteger, enumeration, textString, byteString, dateTime, lengthOk, text, valueOk}
+use Rattle.ttlv_types.specs.Types.{structure, integer, longInteger, enumeration, textString, byteString, dateTime, lengthOk, valueOk}
 use Rattle.tags.specs.Tags.{tagLead, tagOk, activationDate, batchCount, batchItem, operationTag, protocolVersion, protocolVersionMajor, protocolVersionMinor, uniqueBatchItemId, attributes, cryptographicAlgorithm, cryptographicLength, cryptographicUsageMask, deactivationDate, keyBlock, keyFormatType, keyMaterial, keyValue, objectType, uniqueIdentifier, usageLimits, usageLimitsCount, usageLimitsTotal, usageLimitsUnit, link, linkType, linkedObjectIdentifier, responseHeader, responseMessage, responsePayload, resultReason, resultStatus, stateTag, symmetricKeyTag, timeStamp}
 use Rattle.attributes_read.specs.Attributes.{aes}
 use Rattle.payload.specs.Payload.{symmetricKey}
@@ -65,7 +65,7 @@ long-well : (d tag kind n : ℕ) (rest : Items) → shapeOk tag kind 8 ≡ true 
 long-well d tag kind n rest = field-well d tag kind 8 (be 8 n) rest (length-be 8 n)
 
 named-well : (d tag serial : ℕ) (rest : Items) → shapeOk tag textString 8 ≡ true → Well (suc d) rest → Well (suc d) (named tag serial rest)
-unfolding valueOk ifb text
+unfolding valueOk ifb
 named-well d tag serial rest h w = field-well d tag textString 8 (identifier serial) rest (length-identifier serial) h (identifier-text serial) w
 
 body-well : (d tag : ℕ) (body rest : Items) → tag / 65536 ≡ tagLead → size body < 256 ^ 4 → Well d body → Well (suc d) rest → Well (suc d) (group tag body rest)

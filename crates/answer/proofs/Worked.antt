@@ -14,7 +14,8 @@ use Rattle.answer.specs.Respond.{Answer, Response, dateItems, limitItems
 use Rattle.octets.specs.If.{ifb}
 use Rattle.octets.specs.Maybe.{_>>=_, _>>_, isSome}
 use Rattle.octets.specs.Octets.{be, fromBeAfter, fromBe, all, same}
-use Rattle.ttlv_types.specs.Types.{lengthOk, text, valueOk}
+use Rattle.utf8.specs.Text.{text}
+use Rattle.ttlv_types.specs.Types.{lengthOk, valueOk}
 use Rattle.ttlv.specs.Items.{nil, group, encode, itemOk, wellFormed, ended}
 use Rattle.tags.specs.Tags.{batchItem}
 use Rattle.ttlv.specs.Parse.{headed, firstOf, putValue, putGroup, more, walk, parse, isOne, message}

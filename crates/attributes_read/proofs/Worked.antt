@@ -7,7 +7,8 @@ use Rattle.ttlv.specs.Items.{Items, ended}
 use Rattle.octets.specs.If.{ifb}
 use Rattle.octets.specs.Maybe.{_>>=_, _>>_, isSome}
 use Rattle.octets.specs.Octets.{be, fromBeAfter, fromBe, all, same}
-use Rattle.ttlv_types.specs.Types.{lengthOk, text, valueOk}
+use Rattle.utf8.specs.Text.{text}
+use Rattle.ttlv_types.specs.Types.{lengthOk, valueOk}
 use Rattle.ttlv.specs.Items.{encode, itemOk, wellFormed}
 use Rattle.ttlv.specs.Parse.{headed, firstOf, putValue, putGroup, more, walk, parse, isOne, message}
 use Rattle.fields.specs.Fields.{startsWith, bytesOf, bodyOf, numberOf, optional}

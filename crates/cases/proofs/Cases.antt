@@ -8,7 +8,8 @@ use Rattle.octets.specs.Octets.{be, fromBeAfter, fromBe, all, same, countedFrom
 use Rattle.fields.specs.Fields.{startsWith, bytesOf, bodyOf, numberOf, optional}
 use Rattle.ttlv.specs.Items.{encode, itemOk, wellFormed, ended}
 use Rattle.ttlv.specs.Parse.{headed, firstOf, putValue, putGroup, more, walk, parse, isOne, message}
-use Rattle.ttlv_types.specs.Types.{lengthOk, text, valueOk}
+use Rattle.utf8.specs.Text.{text}
+use Rattle.ttlv_types.specs.Types.{lengthOk, valueOk}
 use Rattle.identifier.specs.Identifier.{digits, identifier, fromDigitsAfter, serialOf}
 use Rattle.table.specs.Records.{line, body, recordOf, placeAt, withPlace, serialAt, stateAt, lastSerial, withLast, placesSaid, latestClock, withClock, blank}
 use Rattle.search.specs.Search.{firstFrom, isNothing, orElse, find, freePlace, destroyedPlace, newPlace}

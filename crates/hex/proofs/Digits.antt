@@ -91,11 +91,11 @@ digit-spells d h = on-bool (ltb d 10) decimal letter
         let m : 0x37 + d - 0x37 ≡ d = omega arith in
         rw (ifb-false (ltb d 10) (0x30 + d) (0x37 + d) n) (rw m at (letter-spells (0x37 + d) (omega arith) (omega arith)))
 
--- a digit character is a character of text
-pub digit-text : (c : ℕ) → isDigit c ≡ true → (leb 0x20 c && leb c 0x7E) ≡ true
-digit-text c e =
+-- a digit character is below 80 hex
+pub digit-plain : (c : ℕ) → isDigit c ≡ true → leb c 0x7F ≡ true
+digit-plain c e =
     let s = character-spells c e in
-    rw (le-leb 0x20 c (omega arith), le-leb c 0x7E (omega arith))
+    le-leb c 0x7F (omega arith)
 
 -- ---- the digit of a character, or 16
 

@@ -4,15 +4,17 @@ use mathlib.Core.Path.{_≡_, sym, _∙_}
 use Prim.Native.Nat.{ℕ, _+_, _^_, _<_}
 use native.Mathlib.Nat.{one-mul}
 use native.Mathlib.Omega.{arith}
-use mathlib.Core.Bool.{true, false, _&&_, and-false}
+use mathlib.Core.Bool.{true, false, and-false}
 use mathlib.Core.List.{List}
 use lib.ListN.{length}
-use lib.Dec.{leb, eqb}
+use lib.Dec.{eqb}
 use borrow.Author.Tests.{eqb-true, eq-eqb, ne-eqb}
 use Rattle.octets.specs.Octets.{all, Bytes}
 use Rattle.octets.proofs.If.{ifb-true, ifb-false, on-if}
 use Rattle.hex.specs.Hex.{isDigit}
-use Rattle.hex.proofs.Digits.{digit-text}
+use Rattle.hex.proofs.Digits.{digit-plain}
+use Rattle.utf8.specs.Text.{isPlain, text}
+use Rattle.utf8.proofs.Texts.{text-plain}
 use Rattle.identifier.specs.Identifier.{digits, fromDigitsAfter, identifier, identifierSize, serialOf}
 use Rattle.octets.proofs.Bools.{both}
 use Rattle.identifier.proofs.Digits.{length-digits, digits-all, all-bytes, all-weaker, digits-back, digits-after, after-lt}
@@ -30,9 +32,8 @@ identifier-digits s = digits-all 8 s
 pub identifier-bytes : (s : ℕ) → Bytes (identifier s)
 identifier-bytes s = all-bytes (identifier s) (identifier-digits s)
 
--- it is a text of characters 20 to 7E
-pub identifier-text : (s : ℕ) → all (λ c. leb 0x20 c && leb c 0x7E) (identifier s) ≡ true
-identifier-text s = all-weaker isDigit (λ c. leb 0x20 c && leb c 0x7E) digit-text (identifier s) (identifier-digits s)
+pub identifier-text : (s : ℕ) → text (identifier s) ≡ true
+identifier-text s = text-plain (identifier s) (all-weaker isDigit isPlain digit-plain (identifier s) (identifier-digits s))
 
 -- ---- the serial of a text
 

@@ -6,7 +6,8 @@ use native.Mathlib.Omega.{arith}
 use mathlib.Core.Bool.{true}
 use lib.ListN.{length}
 use mathlib.Core.List.{List}
-use Rattle.ttlv_types.specs.Types.{textString, text}
+use Rattle.utf8.specs.Text.{text}
+use Rattle.ttlv_types.specs.Types.{textString}
 use Rattle.ttlv.specs.Items.{nil}
 use Rattle.ttlv_put.specs.Write.{WroteValue}
 use Rattle.identifier.specs.Identifier.{identifier}
@@ -16,14 +17,10 @@ use Rattle.answer.specs.Respond.{named}
 use Rattle.named_write.specs.Puts.{Puts}
 use Rattle.named_write.proofs.Compose.{puts-value}
 
-identifier-is-text : (serial : ℕ) → text (identifier serial) ≡ true
-unfolding text
-identifier-is-text serial = identifier-text serial
-
 -- the text of a serial, which is text, was written
 pub wrote-named : (tag serial : ℕ) (v : List ℕ) {room after : List ℕ} {r : ℕ} → v ≡ identifier serial → WroteValue (text v) tag textString v room after r
     → WroteValue true tag textString (identifier serial) room after r
-wrote-named tag serial v e w = rw (e, identifier-is-text serial) at w
+wrote-named tag serial v e w = rw (e, identifier-text serial) at w
 
 -- in room for it, under a tag
 pub puts-named : (tag serial : ℕ) {room after : List ℕ} {r : ℕ} → tagOk tag ≡ true → WroteValue true tag textString (identifier serial) room after r → 16 ≤ length room

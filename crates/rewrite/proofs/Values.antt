@@ -15,7 +15,8 @@ use Rattle.octets.specs.Octets.{be, fromBe, Bytes}
 use Rattle.octets.proofs.If.{ifb-true, ifb-false, on-bool}
 use Rattle.octets.proofs.Numbers.{be-fromBe}
 use Rattle.tags.specs.Tags.{tagOk}
-use Rattle.ttlv_types.specs.Types.{structure, integer, longInteger, bigInteger, enumeration, boolean, textString, byteString, dateTime, interval, dateTimeExtended, padded, isWord, isLong, lengthOk, valueOk, text}
+use Rattle.ttlv_types.specs.Types.{structure, integer, longInteger, bigInteger, enumeration, boolean, textString, byteString, dateTime, interval, dateTimeExtended, padded, isWord, isLong, lengthOk, valueOk}
+use Rattle.utf8.specs.Text.{text}
 use Rattle.ttlv.specs.Items.{encode}
 use Rattle.ttlv_put.specs.Write.{item, spellable, fits, Wrote, WroteNumber, WroteValue}
 use Rattle.ttlv_numbers.specs.Bit.{bit}

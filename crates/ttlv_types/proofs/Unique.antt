@@ -2,12 +2,8 @@
 -- Assumes nothing.
 use mathlib.Core.Path.{sym, _∙_}
 use Rattle.outcomes.specs.Outcomes.{OneAnswer}
-use Rattle.ttlv_types.proofs.text_ok.Reads as text-ok-reads
 use Rattle.ttlv_types.proofs.length_ok.Reads as length-ok-reads
 use Rattle.ttlv_types.proofs.value_ok.Reads as value-ok-reads
-
-pub text-ok-unique : OneAnswer text-ok-reads.Post
-text-ok-unique κs a x y s t p q = p ∙ sym q
 
 pub length-ok-unique : OneAnswer length-ok-reads.Post
 length-ok-unique κs a x y s t p q = p ∙ sym q

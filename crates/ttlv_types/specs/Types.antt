@@ -5,7 +5,8 @@ use mathlib.Core.Bool.{Bool, true, _&&_, _||_}
 use mathlib.Core.List.{List}
 use lib.Dec.{leb, eqb}
 use Rattle.octets.specs.If.{ifb}
-use Rattle.octets.specs.Octets.{fromBe, all}
+use Rattle.octets.specs.Octets.{fromBe}
+use Rattle.utf8.specs.Text.{text}
 
 abbrev pub structure : ℕ
 structure = 0x01
@@ -61,14 +62,6 @@ lengthOk kind n =
     (ifb (eqb kind bigInteger) (leb 8 n && eqb (n % 8) 0)
     (eqb kind textString || eqb kind byteString))))
 
--- a byte of text: 20 to 7E hex
-abbrev pub isTextByte : ℕ → Bool
-isTextByte x = leb 0x20 x && leb x 0x7E
-
--- the bytes of a whole Text String
-unfoldable pub text : List ℕ → Bool
-text v = all isTextByte v
-
--- the values that a type allows: a Boolean is 0 or 1, a Text String is text
+-- the values that a type allows: a Boolean is 0 or 1, a Text String is text (of RFC 3629: 02, L5)
 unfoldable pub valueOk : ℕ → List ℕ → Bool
 valueOk kind v = ifb (eqb kind boolean) (leb (fromBe v) 1) (ifb (eqb kind textString) (text v) true)

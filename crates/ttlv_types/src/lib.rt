@@ -3,7 +3,7 @@
 ghost use mathlib.Core.Path.{_≡_};
 ghost use lib.Dec.{leb};
 ghost use Rattle.octets.specs.Octets.{fromBe};
-ghost use Rattle.ttlv_types.specs.Types.{isWord, isLong, text, lengthOk, valueOk};
+ghost use Rattle.ttlv_types.specs.Types.{isWord, isLong, lengthOk, valueOk};
 
 // The types.
 pub const STRUCTURE: u8 = 0x01;
@@ -27,24 +27,6 @@ pub const DATE_TIME: u8 = 0x09;
 pub const INTERVAL: u8 = 0x0A;
 
 pub const DATE_TIME_EXTENDED: u8 = 0x0B;
-
-// Whether the bytes of a whole Text String are text.
-pub fn text_ok(s: &[u8]) -> bool
-    ensures { λ r. ⌜ r ≡ text (now (s .entry)) ⌝ }
-{
-    let mut i: usize = 0;
-    while i < s.len() {
-        let b = s[i];
-        if b < 0x20 {
-            return false;
-        }
-        if 0x7E < b {
-            return false;
-        }
-        i += 1;
-    }
-    true
-}
 
 // Whether values of a type have 4 bytes.
 fn is_word(kind: u8) -> bool
@@ -101,7 +83,7 @@ pub fn value_ok(kind: u8, v: &[u8]) -> bool
         return at_most_one(v);
     }
     if kind == TEXT_STRING {
-        return text_ok(v);
+        return utf8::text_ok(v);
     }
     true
 }

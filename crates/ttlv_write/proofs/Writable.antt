@@ -14,7 +14,8 @@ use Rattle.octets.specs.If.{ifb}
 use Rattle.octets.specs.Octets.{be, fromBe, fromBeAfter}
 use Rattle.octets.proofs.If.{ifb-false, on-bool}
 use Rattle.octets.proofs.Numbers.{length-be}
-use Rattle.ttlv_types.specs.Types.{structure, integer, longInteger, bigInteger, enumeration, boolean, textString, byteString, dateTime, interval, dateTimeExtended, padded, lengthOk, valueOk, text}
+use Rattle.ttlv_types.specs.Types.{structure, integer, longInteger, bigInteger, enumeration, boolean, textString, byteString, dateTime, interval, dateTimeExtended, padded, lengthOk, valueOk}
+use Rattle.utf8.specs.Text.{text}
 use Rattle.ttlv.specs.Items.{Items, nil, group, encode, itemOk, wellFormed}
 use Rattle.tags.specs.Tags.{tagOk}
 use Rattle.ttlv.specs.Parse.{parse}

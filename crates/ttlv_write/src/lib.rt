@@ -3,7 +3,8 @@
 // writer answers the bytes written, or 0 with the room as it was; so it does where the tag is none.
 ghost use mathlib.Core.Bool.{true};
 ghost use lib.ListN.{length};
-ghost use Rattle.ttlv_types.specs.Types.{bigInteger, textString, byteString, lengthOk, text};
+ghost use Rattle.utf8.specs.Text.{text};
+ghost use Rattle.ttlv_types.specs.Types.{bigInteger, textString, byteString, lengthOk};
 ghost use Rattle.ttlv_put.specs.Write.{WroteValue};
 
 // Any bytes.
@@ -17,7 +18,7 @@ pub fn write_bytes(out: &mut [u8], tag: u32, s: &[u8]) -> usize
 pub fn write_text(out: &mut [u8], tag: u32, s: &[u8]) -> usize
     ensures { λ r. ⌜ WroteValue (text (now (s .entry))) tag textString (now (s .entry)) (now (out .entry)) (now (out .exit)) r ⌝ }
 {
-    if !ttlv_types::text_ok(s) {
+    if !utf8::text_ok(s) {
         return 0;
     }
     ttlv_put::spell_value(out, tag, ttlv_types::TEXT_STRING, s)
