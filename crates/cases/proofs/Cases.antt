@@ -1,7 +1,10 @@
--- 01's P cases, as one claim, and those of L3 and L4, by computation.
+-- 01's P cases, as one claim, by computation.
 -- Assumes nothing.
+use Prim.Native.Nat.{ℕ, zero, suc}
 use mathlib.Core.Path.{_≡_, refl}
-use mathlib.Core.Bool.{true}
+use mathlib.Core.Bool.{Bool, true, false}
+use mathlib.Core.List.{List, [], _∷_}
+use lib.ListN.{take, drop}
 use Rattle.octets.specs.If.{ifb}
 use Rattle.octets.specs.Maybe.{_>>=_, _>>_, isSome}
 use Rattle.octets.specs.Octets.{be, fromBeAfter, fromBe, all, same, countedFrom}
@@ -33,19 +36,30 @@ use Rattle.answer.specs.Read.{spelled, setDate, fixed, serialIn, limitsFirst, o
 use Rattle.answer.specs.Respond.{dateItems, limitItems, linkItems, attributeItems, outcomeItems, idItems, answerItems, batchItems, versionItems, headerItems, respond, materialOf, keyItems}
 use Rattle.engine.specs.Batch.{endsBatch, batch, running}
 use Rattle.engine.specs.Serving.{answered, earlyRefusal, carryOut, serving}
-use Rattle.cases.specs.Cards.{sameItems, isRead, integerRead, integerMalformed, booleanMalformed, textOfEight, textOfNine, nested, callAt, tableFrom, answers, refuses, stateLeft, countLeft, depthEight, depthNine, depthRead, depthRefused, grantRequest, grantResponse, grantsCounted, overRequest, overResponse, grantTooLarge, lifeRequest, lifeResponse, compromiseRequest, compromiseResponse, destroyedInTurn, rekeyRequest, rekeyResponse, rekeyedTwice, stopRequest, stopResponse, stopsThere, continueRequest, continueResponse, goesOn, lastRequest, lastResponse, lastSerialIssued, pCases, datedRequest, datedResponse, showRequest, shownStarted, shownStopped, datesAct, clocksTried, copyRequest, copyResponse, offsetRequest, offsetResponse, farRequest, farResponse, replacementsDated, datedCases, allHold}
+use Rattle.cases.specs.Cards.{sameItems, isRead, integerRead, integerMalformed, booleanMalformed, textOfEight, textOfNine, nested, callAt, tableFrom, answers, refuses, stateLeft, countLeft, depthEight, depthNine, depthRead, depthRefused, grantRequest, grantResponse, grantsCounted, overRequest, overResponse, grantTooLarge, lifeRequest, lifeResponse, compromiseRequest, compromiseResponse, destroyedInTurn, rekeyRequest, rekeyResponse, rekeyedTwice, stopRequest, stopResponse, stopsThere, continueRequest, continueResponse, goesOn, lastRequest, lastResponse, lastSerialIssued, pCases, allHold}
 
 -- the definitions that the cases compute with: who opens this opens them all
 unfoldable pub opened : Unit {0}
-unfolding wordsOf wordBytes wordsOk filled ifb _>>=_ _>>_ isSome be fromBeAfter fromBe all same startsWith ended bytesOf bodyOf numberOf optional encode itemOk wellFormed headed firstOf putValue putGroup more walk parse isOne message lengthOk text valueOk digits identifier fromDigitsAfter serialOf line body recordOf placeAt withPlace serialAt stateAt lastSerial withLast placesSaid latestClock withClock blank firstFrom isNothing orElse find freePlace destroyedPlace newPlace sizeRight countRight latestRight freeRight zerosRight distinctRight issuedRight stateRight bitsRight maskRight limitRight tailRight wipedRight replacedRight replacementRight datesRight orderRight startedRight ifStands linksRight breaksFree breaksStanding orLater faultFrom firstFault sound isFull bornAt withBorn withHeir materialFrom newRecord heirActivation heirDeactivation offsetWrong heirDated heirOf linkedTo inState withDates movedTo withCount ripened isRipe ripeAt ripeFrom countedClock began startedState stoppedState datedState canRevoke canDestroy activateTests revokeTests destroyTests moveTests revokedState destroyedState movedState nextUnless nextState grantTests leftUnless granting due versionIn headerIn idOk idBytes itemIn itemsIn frameIn optionOf framing framed limitIn limitFirst dateFirst orUnset datesIn wantedOf limitedIn maskedIn attributesIn createIn targetOf targetIn offsetOf rekeyIn aloneIn allocationIn revokeIn orInvalid command sought carried shownOf createPlan rekeyPlan allocationPlan activatePlan revokePlan destroyPlan showPlan keyOf getPlan onFound plan step isFailed spelled setDate fixed serialIn limitsFirst orNoLimits linkFirst orNoLink linkIn shownIn createdIn doneIn showedIn keyRead keyBlockIn keyIn gotIn payloadIn reasonAmong failureIn successIn outcomeIn answerIn answersOf headIn shownOk keyOk outcomeOk answerOk allowed ifAllowed answersIn dateItems limitItems linkItems attributeItems materialOf keyItems outcomeItems idItems answerItems batchItems versionItems headerItems respond endsBatch batch running answered earlyRefusal carryOut serving sameItems isRead integerRead integerMalformed booleanMalformed textOfEight textOfNine nested countedFrom callAt tableFrom answers refuses stateLeft countLeft depthEight depthNine depthRead depthRefused grantRequest grantResponse grantsCounted overRequest overResponse grantTooLarge lifeRequest lifeResponse compromiseRequest compromiseResponse destroyedInTurn rekeyRequest rekeyResponse rekeyedTwice stopRequest stopResponse stopsThere continueRequest continueResponse goesOn lastRequest lastResponse lastSerialIssued pCases datedRequest datedResponse showRequest shownStarted shownStopped datesAct clocksTried copyRequest copyResponse offsetRequest offsetResponse farRequest farResponse replacementsDated datedCases allHold
+unfolding wordsOf wordBytes wordsOk filled ifb _>>=_ _>>_ isSome be fromBeAfter fromBe all same startsWith ended bytesOf bodyOf numberOf optional encode itemOk wellFormed headed firstOf putValue putGroup more walk parse isOne message lengthOk text valueOk digits identifier fromDigitsAfter serialOf line body recordOf placeAt withPlace serialAt stateAt lastSerial withLast placesSaid latestClock withClock blank firstFrom isNothing orElse find freePlace destroyedPlace newPlace sizeRight countRight latestRight freeRight zerosRight distinctRight issuedRight stateRight bitsRight maskRight limitRight tailRight wipedRight replacedRight replacementRight datesRight orderRight startedRight ifStands linksRight breaksFree breaksStanding orLater faultFrom firstFault sound isFull bornAt withBorn withHeir materialFrom newRecord heirActivation heirDeactivation offsetWrong heirDated heirOf linkedTo inState withDates movedTo withCount ripened isRipe ripeAt ripeFrom countedClock began startedState stoppedState datedState canRevoke canDestroy activateTests revokeTests destroyTests moveTests revokedState destroyedState movedState nextUnless nextState grantTests leftUnless granting due versionIn headerIn idOk idBytes itemIn itemsIn frameIn optionOf framing framed limitIn limitFirst dateFirst orUnset datesIn wantedOf limitedIn maskedIn attributesIn createIn targetOf targetIn offsetOf rekeyIn aloneIn allocationIn revokeIn orInvalid command sought carried shownOf createPlan rekeyPlan allocationPlan activatePlan revokePlan destroyPlan showPlan keyOf getPlan onFound plan step isFailed spelled setDate fixed serialIn limitsFirst orNoLimits linkFirst orNoLink linkIn shownIn createdIn doneIn showedIn keyRead keyBlockIn keyIn gotIn payloadIn reasonAmong failureIn successIn outcomeIn answerIn answersOf headIn shownOk keyOk outcomeOk answerOk allowed ifAllowed answersIn dateItems limitItems linkItems attributeItems materialOf keyItems outcomeItems idItems answerItems batchItems versionItems headerItems respond endsBatch batch running answered earlyRefusal carryOut serving sameItems isRead integerRead integerMalformed booleanMalformed textOfEight textOfNine nested countedFrom callAt tableFrom answers refuses stateLeft countLeft depthEight depthNine depthRead depthRefused grantRequest grantResponse grantsCounted overRequest overResponse grantTooLarge lifeRequest lifeResponse compromiseRequest compromiseResponse destroyedInTurn rekeyRequest rekeyResponse rekeyedTwice stopRequest stopResponse stopsThere continueRequest continueResponse goesOn lastRequest lastResponse lastSerialIssued pCases allHold
 opened = tt
+
+-- a list holds if its first n do, and those behind them
+parts-hold : (n : ℕ) (bs : List Bool) → allHold (take n bs) ≡ true → allHold (drop n bs) ≡ true → allHold bs ≡ true
+unfolding allHold
+parts-hold zero bs first behind = behind
+parts-hold (suc n) [] first behind = refl
+parts-hold (suc n) (true ∷ bs) first behind = parts-hold n bs first behind
+parts-hold (suc n) (false ∷ bs) first behind = first
+
+-- the list in two parts, so that a check holds the calls of one of them at a time
+first-ten : allHold (take 10 pCases) ≡ true
+unfolding opened
+first-ten = refl
+
+behind-ten : allHold (drop 10 pCases) ≡ true
+unfolding opened
+behind-ten = refl
 
 -- every case of the list holds
 pub p-cases : allHold pCases ≡ true
-unfolding opened
-p-cases = refl
-
--- and every case of L3 and L4
-pub dated-cases : allHold datedCases ≡ true
-unfolding opened
-dated-cases = refl
+p-cases = parts-hold 10 pCases first-ten behind-ten

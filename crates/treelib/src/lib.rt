@@ -1,9 +1,11 @@
 // A TTLV message as text: a line for each item, indented by its depth, or the byte at which it is
 // malformed. Assumes nothing. Every function is proved safe and ends; where a message is malformed
-// is proved, what is printed is tested.
+// and which bytes of a text are escaped is proved, what is printed is tested.
 ghost use mathlib.Core.Path.{_≡_};
 ghost use Prim.Native.Nat.{_≤_, _+_};
+ghost use lib.ListN.{getD};
 ghost use Rattle.treelib.specs.Malformed.{malformedAt};
+ghost use Rattle.treelib.specs.Escapes.{isUpperControl, isControl};
 use ttlv::First;
 
 fn print_tag(tag: u32) {
@@ -78,10 +80,62 @@ fn print_number(kind: u8, bits: u64) {
     print_signed(bits, 0x8000000000000000);
 }
 
-// A value by its type: text as text, bytes in hex, numbers in decimal.
+// Whether two bytes spell one of the control characters U+0080 to U+009F.
+fn is_upper_control(first: u8, second: u8) -> bool
+    ensures { λ r. ⌜ r ≡ isUpperControl first second ⌝ }
+{
+    (first == 0xC2) & (0x80 <= second) & (second <= 0x9F)
+}
+
+// Whether a byte of a text is one of a control character, by itself or with the byte before it or
+// behind it.
+fn is_control(before: u8, b: u8, next: u8) -> bool
+    ensures { λ r. ⌜ r ≡ isControl before b next ⌝ }
+{
+    (b < 0x20) | (b == 0x7F) | is_upper_control(before, b) | is_upper_control(b, next)
+}
+
+// A byte of a text: \xHH for one of a control character, a backslash twice, any other as it is.
+fn print_text_byte(before: u8, b: u8, next: u8) {
+    if is_control(before, b, next) {
+        io::write_all(1, b"\\x");
+        printlib::byte(b);
+        return;
+    }
+    if b == b'\\' {
+        io::write_all(1, b"\\");
+    }
+    let alone = [b];
+    io::write_all(1, &alone);
+}
+
+// The byte at i, or 0 past the end.
+fn byte_at(v: &[u8], i: usize) -> u8
+    ensures { λ r. ⌜ r ≡ getD (now (v .entry)) i 0 ⌝ }
+{
+    if i < v.len() {
+        return v[i];
+    }
+    0
+}
+
+// A text, with its control characters escaped, so that it neither forges a line of the tree nor
+// drives a terminal.
+fn print_text(v: &[u8]) {
+    let mut before: u8 = 0;
+    let mut i = 0;
+    while i < v.len() {
+        let b = v[i];
+        print_text_byte(before, b, byte_at(v, i + 1));
+        before = b;
+        i += 1;
+    }
+}
+
+// A value by its type: text as text, escaped, bytes in hex, numbers in decimal.
 fn print_plain(kind: u8, v: &[u8]) {
     if kind == ttlv_types::TEXT_STRING {
-        io::write_all(1, v);
+        print_text(v);
         return;
     }
     if kind == ttlv_types::BYTE_STRING {

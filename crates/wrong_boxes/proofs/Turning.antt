@@ -29,8 +29,8 @@ use Rattle.demands.specs.Demand2.{Demand2, Answered, frameOf, ofFrame, refusalC
 use Rattle.demands.specs.Log.{Event, commandOf, heldAfter, paired, orNoItems, orNoAnswers, eventsOf, logged, issuedBy}
 use Rattle.demands.specs.Demand3.{Run, begins, calls, codeOf, takes, listed, listedBy, Tame, DueOnly, Path, arrived, went, Goes, Demand3}
 use Rattle.wrong_boxes.specs.Wrong.{withTable, stamping, ranUnder, Leaves, woken, StampsGiven, StoresGiven, Revives}
-use Rattle.cases.specs.Cards.{datedRequest, showRequest}
-use Rattle.cases.proofs.Cases.{opened}
+use Rattle.dated_cases.specs.Cards.{datedRequest, showRequest}
+use Rattle.dated_cases.proofs.Cases.{dated-opened}
 use Rattle.demands.proofs.Ladder.{served}
 use Rattle.demands.proofs.Follows.{opens-due}
 use Rattle.wrong_boxes.proofs.Calling.{isByte, bytes-test, calling, callingOn, lent-on, lent-blank, accepted-is}
@@ -42,11 +42,11 @@ abbrev earlier : Call
 earlier = callingOn (withClock (blank placeCount) 9) showRequest 5
 
 lent-earlier : Lent earlier
-unfolding opened isByte
+unfolding dated-opened isByte
 lent-earlier = lent-on (withClock (blank placeCount) 9) showRequest 5 (bytes-test (withClock (blank placeCount) 9) refl) refl (lit< tt)
 
 earlier-accepted : lowest 1 (refusalConditions earlier) ≡ 0
-unfolding opened frameOf ofFrame refusalConditions lowest
+unfolding dated-opened frameOf ofFrame refusalConditions lowest
 earlier-accepted = refl
 
 stamped : Effect
@@ -58,11 +58,11 @@ clockIn none = 0
 clockIn (some r) = r .clock
 
 stamped-clock : clockIn (message (take (stamped .length) (stamped .output)) >>= answersIn) ≡ 5
-unfolding opened stamped ranUnder frameOf clockIn
+unfolding dated-opened stamped ranUnder frameOf clockIn
 stamped-clock = refl
 
 counts-nine : counted earlier ≡ 9
-unfolding opened
+unfolding dated-opened
 counts-nine = refl
 
 pub stamps-given : Demand2 StampsGiven → ⊥
@@ -166,15 +166,15 @@ seenLeft latest state = record {
 }
 
 lent-first : Lent (calling datedRequest 1)
-unfolding opened isByte
+unfolding dated-opened isByte
 lent-first = lent-blank datedRequest 1 refl (lit< tt)
 
 first-accepted : lowest 1 (refusalConditions (calling datedRequest 1)) ≡ 0
-unfolding opened frameOf ofFrame refusalConditions lowest
+unfolding dated-opened frameOf ofFrame refusalConditions lowest
 first-accepted = refl
 
 show-bytes : all isByte showRequest ≡ true
-unfolding opened isByte
+unfolding dated-opened isByte
 show-bytes = refl
 
 -- what is Deactivated, no date changes
@@ -253,7 +253,7 @@ module _ (made : Call → List ℕ → List ℕ) (d : Demand3 (Leaves made)) {la
 -- ---- the boxes
 
 stores-seen : seen (λ c due. withClock due (c .clock)) ≡ seenLeft 5 3
-unfolding opened isByte seen firstCall secondCall thirdCall noEvent headOr isAlone withTable frameOf ofFrame refusalConditions lowest eventsOf paired heldAfter orNoItems orNoAnswers issuedBy
+unfolding dated-opened isByte seen firstCall secondCall thirdCall noEvent headOr isAlone withTable frameOf ofFrame refusalConditions lowest eventsOf paired heldAfter orNoItems orNoAnswers issuedBy
 stores-seen = refl
 
 pub stores-given : Demand3 StoresGiven → ⊥
@@ -263,7 +263,7 @@ abbrev reviving : Call → List ℕ → List ℕ
 reviving c due = ifb (eqb (stateAt due 0) 3 && ltb (c .clock) (recordIn due 0 .deactivation)) (woken due) due
 
 revives-seen : seen reviving ≡ seenLeft 9 2
-unfolding opened isByte seen firstCall secondCall thirdCall noEvent headOr isAlone withTable woken frameOf ofFrame refusalConditions lowest eventsOf paired heldAfter orNoItems orNoAnswers issuedBy
+unfolding dated-opened isByte seen firstCall secondCall thirdCall noEvent headOr isAlone withTable woken frameOf ofFrame refusalConditions lowest eventsOf paired heldAfter orNoItems orNoAnswers issuedBy
 revives-seen = refl
 
 pub revives : Demand3 Revives → ⊥

@@ -1,0 +1,3 @@
+-- The cases with dates hold.
+-- Assumes nothing.
+pub mod Cases
