@@ -180,6 +180,9 @@ fn tree_prints_where_a_message_is_malformed() {
         ("depth 12", 64, nested(12)),
         ("padding in the version", 0x18, changed(0x27, 1)),
         ("type 0C in the attributes", 0xA0, changed(0xA3, 0x0C)),
+        ("a surrogate", 0, unhex("42002007 00000003 EDA08000 00000000")),
+        ("a character that is cut", 8, unhex("42002001 00000010 42002007 00000001 C2000000 00000000")),
+        ("the number 128 as text", 0x90, changed(0x93, 0x07)),
     ];
     for (case, at, input) in cases {
         let expected = Ran { printed: format!("malformed at byte {at}\n"), taken: input.len() as u64 };
