@@ -4,7 +4,7 @@
 
 mod support;
 
-use junctionmoth::message::{byte_string, create, integer, item, request, request_with, structure, Header, Node};
+use junctionmoth::message::*;
 use junctionmoth::{blank_table, model, REQUEST};
 use std::fs::{self, File};
 use std::io::{Seek, Write};
@@ -146,7 +146,8 @@ fn bench_prints_every_refusal_that_a_request_can_have() {
 fn bench_prints_responses_in_hex() {
     let longest = request(Some(1), vec![create_item(); 16]);
     let failed = request(Some(1), vec![item(0x12, Some(&[7; 16]), vec![]); 16]);
-    for (case, message) in [("16 items", longest), ("16 items that fail", failed)] {
+    let foreign = request(None, vec![item(0x12, None, target(Some("ключ")))]);
+    for (case, message) in [("16 items", longest), ("16 items that fail", failed), ("other letters", foreign)] {
         let input = message.encode();
         let effect = Case::new(input.clone(), blank_table().to_vec()).run(model::serve);
         let response = hex(&effect.out[..effect.served.expect("an answer")]);

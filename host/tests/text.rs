@@ -4,7 +4,7 @@
 
 mod support;
 
-use junctionmoth::message::{item, raw_text, request, structure, target, Node};
+use junctionmoth::message::{allocation, item, raw_text, request, revocation, structure, target, Node};
 use junctionmoth::model::operations::Reason::{InvalidField, ObjectNotFound, OperationNotSupported};
 use junctionmoth::model::table::{Record, Table};
 use junctionmoth::model::ttlv::is_text;
@@ -243,16 +243,25 @@ fn what_is_no_text_is_malformed_wherever_it_stands() {
     }
 }
 
+/// An item of each operation that takes an identifier, with this one.
+fn every_operation_on(name: &str) -> Vec<Node> {
+    let alone = [0x04, 0x0A, 0x0B, 0x12, 0x14].map(|operation| item(operation, None, target(Some(name))));
+    let others = [item(0x11, None, allocation(Some(name), 1)), item(0x13, None, revocation(Some(name), 1))];
+    alone.into_iter().chain(others).collect()
+}
+
 /// Nothing but the reason: Stop ends the batch there, and Continue goes on.
 #[test]
 fn identifiers_in_other_letters_are_not_found_and_the_batch_goes_on() {
-    for name in
-        ["ключ", "κλειδί", "clé", "鍵", "🔑🔑", "０００００００１", "\u{FEFF}00000001", "00000001\0", "\n", "é\u{301}"]
-    {
-        for operation in [0x04, 0x0A, 0x0B, 0x12, 0x14] {
-            let items = || vec![item(operation, None, target(Some(name))), item(0x12, None, target(Some("00000001")))];
-            let under =
-                |option| answered(Case::new(request(option, items()).encode(), table()).run_all(&engines(), "text"));
+    let names =
+        ["ключ", "κλειδί", "clé", "鍵", "🔑🔑", "０００００００１", "\u{FEFF}00000001", "00000001\0", "\n", "é\u{301}"];
+    for name in names {
+        for lost in every_operation_on(name) {
+            let items = vec![lost, item(0x12, None, target(Some("00000001")))];
+            let under = |option| {
+                let request = request(option, items.clone()).encode();
+                answered(Case::new(request, table()).run_all(&engines(), "text"))
+            };
             assert_eq!(under(Some(1)), Ok(vec![NOT_FOUND, None]), "{name}");
             assert_eq!(under(Some(2)), Ok(vec![NOT_FOUND]), "{name}");
             assert_eq!(under(None), Ok(vec![NOT_FOUND]), "{name}");
