@@ -36,7 +36,8 @@ def boolean(tag, number):
 
 
 def text(tag, letters):
-    return ttlv(tag, 0x07, letters.encode("latin-1"))
+    """Letters in UTF-8, or bytes as they are, which need not be text."""
+    return ttlv(tag, 0x07, letters if isinstance(letters, bytes) else letters.encode("utf-8"))
 
 
 def byte_string(tag, value):
@@ -1763,6 +1764,180 @@ def cards_of_offset_shapes(s):
     )
 
 
+# ---- L5: text in the makers' languages
+
+# RFC 3629, section 4: the first and the last character of each form that it lists
+CHARACTERS = (
+    "00 7F  C280 DFBF  E0A080 E0BFBF  E18080 ECBFBF  ED8080 ED9FBF  EE8080 EFBFBF"
+    "  F0908080 F0BFBFBF  F1808080 F3BFBFBF  F4808080 F48FBFBF"
+).split()
+# what no character is, each kind at its edges
+NO_CHARACTERS = {
+    "a tail alone": "80 BF",
+    "overlong in two bytes": "C080 C1BF",
+    "overlong in three bytes": "E08080 E09FBF",
+    "overlong in four bytes": "F0808080 F08FBFBF",
+    "a surrogate": "EDA080 EDAFBF EDB080 EDBFBF EDA080EDB080",
+    "above 10FFFF": "F4908080 F4BFBFBF",
+    "above 10FFFF by its first byte": "F5808080 F7BFBFBF F888808080 FC8480808080 FE FF",
+    "a tail missing": "C241 C27F C2C0 C2C280 E2417F E28241 E282C0 F09F9841 F09F98C0 F09F4180",
+}
+# characters without their last bytes, which nothing follows
+CUT_CHARACTERS = "C2 DF E0 E0A0 E282 ED9F EF F0 F090 F09F98 F48F F48FBF".split()
+# words for a key, and letters of four bytes
+IN_OTHER_LETTERS = {
+    "with an accent": "clé",
+    "in Greek": "κλειδί",
+    "in Cyrillic, eight bytes": "ключ",
+    "in Chinese": "鑰匙",
+    "of a smiley": "🙂",
+    "of two smileys, eight bytes": "🙂🙂",
+}
+
+
+def cards_of_characters(s):
+    s.about(
+        "L5: Text Strings take every UTF-8 sequence of RFC 3629; an identifier in other letters is Object Not Found. The first and the last character of each",
+        "form, alone and with digits to make eight bytes; controls, NUL and DEL are text, and so are noncharacters. Key 1 is there to be activated.",
+    )
+    key_to_activate(s)
+    for digits in CHARACTERS:
+        character = unhex(digits)
+        eight = character + b"0" * (8 - len(character))
+        pairs = [(activate(letters), failed(ACTIVATE, OBJECT_NOT_FOUND)) for letters in (character, eight, b"0" * 8 + character)]
+        s.card(f"L5 identifier {digits}", *pairs, option=CONTINUE)
+    every = b"".join(unhex(digits) for digits in CHARACTERS)
+    s.fails("L5 identifier of all of them", activate(every), ACTIVATE, OBJECT_NOT_FOUND)
+    s.fails("L5 all of them in the payload of Ping", ask(0x3B, text(OTHER, every)), 0x3B, NOT_SUPPORTED)
+    for name, letters in [
+        ("a control character", "0000000\x1f"),
+        ("NUL", "0000000\0"),
+        ("DEL", "0000000\x7f"),
+        ("a line feed behind it", ONE + "\n"),
+        ("an escape before it", "\x1b" + ONE),
+        ("a byte order mark before it", "\ufeff" + ONE),
+        ("FFFE", "\ufffe"),
+        ("10FFFE", "\U0010fffe"),
+    ]:
+        s.fails(f"L5 identifier with {name}", activate(letters), ACTIVATE, OBJECT_NOT_FOUND)
+    s.about("L5: the empty text is text, and a Text String whose length was counted with its padding is one, too: zero bytes are text.")
+    s.fails("L5 identifier of no bytes", activate(""), ACTIVATE, OBJECT_NOT_FOUND)
+    s.fails("L5 identifier 00000001 and one zero byte", activate(ONE + "\0"), ACTIVATE, OBJECT_NOT_FOUND)
+    padded = activate(ONE + 8 * "\0")
+    assert padded[-24:] == unhex("42009407 00000010 30303030 30303031 00000000 00000000")
+    s.fails("L5 identifier 00000001 with its length counted to 16", padded, ACTIVATE, OBJECT_NOT_FOUND)
+    s.fails("L5 identifier of eight zero bytes", activate(8 * "\0"), ACTIVATE, OBJECT_NOT_FOUND)
+    s.table("L5 line after identifiers at the edges", line_at(0), line(1, 1))
+    s.card("L5 identifier 00000001 as before", (activate(ONE), named(ACTIVATE, ONE)))
+
+
+def cards_of_other_letters(s):
+    s.about("L5: an identifier in other letters is Object Not Found, under Stop and under Continue, for every operation.")
+    for name, letters in IN_OTHER_LETTERS.items():
+        assert len(letters.encode()) == 8 or "eight" not in name
+        key_to_activate(s)
+        lost = (activate(letters), failed(ACTIVATE, OBJECT_NOT_FOUND))
+        s.card(f"L5 identifier {name}, Stop", lost, (activate(ONE), None), option=STOP)
+        s.card(f"L5 identifier {name}, no option", lost, (activate(ONE), None))
+        s.card(f"L5 identifier {name}, Continue", lost, (activate(ONE), named(ACTIVATE, ONE)), option=CONTINUE)
+    s.blank()
+    letters = IN_OTHER_LETTERS["in Cyrillic, eight bytes"]
+    asked = [
+        (REKEY, rekey(letters)),
+        (REKEY, rekey(letters, offset(1))),
+        (GET, get(letters)),
+        (GET_ATTRIBUTES, attributes(letters)),
+        (ALLOCATE, allocate(letters, 1)),
+        (ACTIVATE, activate(letters)),
+        (REVOKE, revoke(letters, 1)),
+        (DESTROY, destroy(letters)),
+    ]
+    pairs = [(item, failed(operation, OBJECT_NOT_FOUND)) for operation, item in asked]
+    s.card("L5 every operation on an identifier in Cyrillic", (create(), created(ONE)), *pairs, option=CONTINUE)
+    s.card(
+        "L5 an identifier in Cyrillic empties the placeholder",
+        (create(), created(TWO)),
+        (activate(letters), failed(ACTIVATE, OBJECT_NOT_FOUND)),
+        (activate(), failed(ACTIVATE, OBJECT_NOT_FOUND)),
+        option=CONTINUE,
+    )
+    s.table("L5 lead and lines after identifiers in Cyrillic", 0, lead(2) + line(1, 1) + line(2, 1) + bytes(16))
+    s.about("L5: letters and digits that look like others, or that would be hex digits but for a bit, are others. Keys 0000000A and C1C1C1C1 stand.")
+    s.blank()
+    s.put(0, lead(0xC1C1C1C1)[:4])
+    s.key(0, line(10, 2), body())
+    s.key(1, line(0xC1C1C1C1, 2), body())
+    for name, letters in [
+        ("0000000A with a Cyrillic A", "0000000\u0410"),
+        ("000000A with a Cyrillic A, eight bytes", "000000\u0410"),
+        ("0000000A with an A in full width", "0000000\uff21"),
+        ("0000000A in full width", "\uff10" * 7 + "\uff21"),
+        ("0000000A and a mark over the A", "0000000A\u0301"),
+        ("C3B1 four times, C1C1C1C1 but for the highest bits", "ñ" * 4),
+    ]:
+        s.fails(f"L5 identifier {name}", attributes(letters), GET_ATTRIBUTES, OBJECT_NOT_FOUND)
+    s.card("L5 identifier 0000000A itself", (attributes("0000000A"), shown("0000000A", 2)))
+    s.card("L5 identifier C1C1C1C1 itself", (attributes("C1C1C1C1"), shown("C1C1C1C1", 2)))
+
+
+def cards_of_no_text(s):
+    s.about(
+        "L5: overlong forms, surrogates and values above 10FFFF are malformed, and so is whatever else is no UTF-8: refusal 5, as an identifier and in the",
+        "payload of an unsupported operation.",
+    )
+    key_to_activate(s)
+    for name, sequences in NO_CHARACTERS.items():
+        for digits in sequences.split():
+            s.refused(f"L5 {name}, {digits}", request(activate(unhex(digits))), 5)
+        s.refused(f"L5 {name}, {digits} in the payload of Ping", request(ask(0x3B, text(OTHER, b"key " + unhex(digits) + b" key"))), 5)
+    s.about("L5: a character cut by the item's length is malformed: what follows, zeros or not, does not belong to the text.")
+    for digits in CUT_CHARACTERS:
+        octets = unhex(digits)
+        s.refused(f"L5 cut, {digits} and zeros behind it", request(activate(octets)), 5)
+        s.refused(f"L5 cut, {digits} at the end of eight bytes", request(activate(b"0" * (8 - len(octets)) + octets)), 5)
+    for digits, length in [("C280", 1), ("E282AC", 1), ("E282AC", 2), ("F09F9982", 3)]:
+        cut = text(UNIQUE_IDENTIFIER, unhex(digits))
+        shorter = cut[:7] + bytes([length]) + cut[8:]
+        s.refused(f"L5 cut, {digits} after {length}, the rest in the padding", request(ask(ACTIVATE, shorter)), 5)
+    two = [text(OTHER, b"0000000\xc2"), text(OTHER, b"\x80")]
+    s.refused("L5 cut, C2 in one text and 80 in the next", request(ask(0x3B, *two)), 5)
+    s.table("L5 lead and line after what is no text", 0, lead(1, latest=0) + line(1, 1))
+
+
+def cards_of_texts_elsewhere(s):
+    s.about("L5: text anywhere in a request. Where it is UTF-8 the answer is what it was for other text; where not, nothing of the request is carried out.")
+    key_to_activate(s)
+    good, bad = "clé", b"cl\xe9"
+    deep = lambda letters: structure(OTHER, structure(OTHER, structure(OTHER, structure(OTHER, text(OTHER, letters)))))
+    named_so = lambda letters: structure(NAME, text(NAME_VALUE, letters), enumeration(NAME_TYPE, 1))
+    worn = lambda letters: structure(REVOCATION_REASON, enumeration(REVOCATION_REASON_CODE, 1), text(REVOCATION_MESSAGE, letters))
+    for name, operation, reason, payload in [
+        ("in the payload of Ping", 0x3B, NOT_SUPPORTED, lambda letters: [text(OTHER, letters)]),
+        ("at depth 8", 0x3B, NOT_SUPPORTED, lambda letters: [deep(letters)]),
+        ("as Name", CREATE, INVALID_FIELD, lambda letters: [symmetric_key(), wanted(named_so(letters))]),
+        ("as Revocation Message", REVOKE, INVALID_FIELD, lambda letters: [identifier(ONE), worn(letters)]),
+        ("behind an identifier", ACTIVATE, INVALID_FIELD, lambda letters: [identifier(ONE), identifier(letters)]),
+    ]:
+        s.fails(f"L5 text {name}", ask(operation, *payload(good)), operation, reason)
+        s.refused(f"L5 no text {name}", request(ask(operation, *payload(bad))), 5)
+    id_as_text = lambda letters: structure(
+        BATCH_ITEM, enumeration(OPERATION, ACTIVATE), text(UNIQUE_BATCH_ITEM_ID, letters), structure(REQUEST_PAYLOAD, identifier(ONE))
+    )
+    s.refused("L5 text as ID", request(id_as_text(good)), 6)
+    s.refused("L5 no text as ID", request(id_as_text(bad)), 5)
+    s.refused("L5 text as message", text(REQUEST_MESSAGE, good), 6)
+    s.refused("L5 no text as message", text(REQUEST_MESSAGE, bad), 5)
+    s.refused("L5 no text in the second item", request(activate(ONE), ask(0x3B, text(OTHER, bad)), option=CONTINUE), 5)
+    s.table("L5 line after no text in the second item", line_at(0), line(1, 1))
+    s.about("L5: of Byte Strings nothing is asked.")
+    s.fails("L5 C1BF as Byte String in the payload of Ping", ask(0x3B, byte_string(OTHER, b"\xc1\xbf")), 0x3B, NOT_SUPPORTED)
+    s.card("L5 C1BF as ID", (activate(ONE, id=b"\xc1\xbf"), named(ACTIVATE, ONE, id=b"\xc1\xbf")))
+    s.about("L5: a longer text, of two bytes a letter; then with its last letter cut.")
+    long = ("é" * 132).encode()
+    s.fails("L5 text of 264 bytes", ask(0x3B, text(OTHER, long)), 0x3B, NOT_SUPPORTED)
+    s.refused("L5 no text, cut after 263 bytes", request(ask(0x3B, text(OTHER, long[:-1]))), 5)
+
+
 # ---- refusals
 
 
@@ -1916,18 +2091,17 @@ def cards_of_malformed_requests(s):
     s.refused("refusal 5, padding of the Batch Count not zero", long_count, 5)
     for name, item in [
         ("Boolean 2", boolean(OTHER, 2)),
-        ("text with 1F", text(OTHER, "\x1f")),
-        ("text with 7F", text(OTHER, "\x7f")),
-        ("text with E9", text(OTHER, "\xe9")),
+        ("text with E9", text(OTHER, b"\xe9")),
         ("type 0C", ttlv(OTHER, 0x0C, bytes(8))),
         ("tag 540001", ttlv(0x540001, 0x02, bytes(4))),
         ("Integer of 8 bytes", ttlv(OTHER, 0x02, bytes(8))),
         ("Long Integer of 4 bytes", ttlv(OTHER, 0x03, bytes(4))),
         ("Big Integer of no bytes", ttlv(OTHER, 0x04, b"")),
-        ("padding of a text not zero", ttlv(OTHER, 0x08, b"abc")[:-1] + b"\1"),
+        ("padding of a text not zero", text(OTHER, "abc")[:-1] + b"\1"),
+        ("padding of a Byte String not zero", byte_string(OTHER, b"abc")[:-1] + b"\1"),
     ]:
         s.refused(f"refusal 5, {name} in a payload", request(ask(0x3B, item)), 5)
-    s.fails("text with 20 to 7E in a payload", ask(0x3B, text(OTHER, " ~")), 0x3B, NOT_SUPPORTED)
+    s.fails("text with 00 to 7F in a payload", ask(0x3B, text(OTHER, bytes(range(0x80)))), 0x3B, NOT_SUPPORTED)
     s.table("line after refusal 5", line_at(0), line(1, 1))
 
 
@@ -2141,6 +2315,10 @@ def all_cards():
         cards_of_offset_past_the_largest_date,
         cards_of_the_order_of_rekey,
         cards_of_offset_shapes,
+        cards_of_characters,
+        cards_of_other_letters,
+        cards_of_no_text,
+        cards_of_texts_elsewhere,
         cards_of_refusals_1_to_4,
         cards_of_unsound_tables,
         cards_of_sound_dates,

@@ -55,7 +55,12 @@ pub fn enumeration(tag: u32, number: u32) -> Node {
 }
 
 pub fn text(tag: u32, text: &str) -> Node {
-    Node { tag, kind: 0x07, body: Body::Bytes(text.as_bytes().to_vec()) }
+    raw_text(tag, text.as_bytes())
+}
+
+/// A Text String of any bytes, which need not be text.
+pub fn raw_text(tag: u32, bytes: &[u8]) -> Node {
+    Node { tag, kind: 0x07, body: Body::Bytes(bytes.to_vec()) }
 }
 
 pub fn byte_string(tag: u32, bytes: &[u8]) -> Node {

@@ -1,15 +1,18 @@
 //! The script of the program `cards` on every engine that is there: its stored answers were worked out from the
-//! papers, and each engine has to give them.
+//! papers, and each engine has to give them. And that of the program `cards_ttlv` on the model's TTLV.
 //! The commands are those of the crate `cardslib`, written down here once more.
 
 mod support;
 
+use junctionmoth::model::ttlv;
 use junctionmoth::{blank_table, Engine, ROOM, STRIP, TABLE};
 use support::coverage::Coverage;
 use support::{engines, hex, Case, Effect};
 
 const SCRIPT: &str = include_str!("../../crates/cards/stdin");
 const ANSWERS: &str = include_str!("../../crates/cards/stdout");
+const TTLV_SCRIPT: &str = include_str!("../../crates/cards_ttlv/stdin");
+const TTLV_ANSWERS: &str = include_str!("../../crates/cards_ttlv/stdout");
 
 /// Bytes of output that there are to lend.
 const ROOM_MOST: usize = 8192;
@@ -164,4 +167,21 @@ fn the_script_leaves_nothing_out() {
     }
     let missing = bench.coverage.report();
     assert!(missing.is_empty(), "{missing:#?}");
+}
+
+/// What a line of the TTLV script prints: whether its bytes are an item, which is written as the same bytes again.
+fn ttlv_line(line: &str) -> String {
+    let card = line.split_once(": ").and_then(|(name, digits)| Some((name, bytes(digits, REQUEST_MOST)?)));
+    match card.map(|(name, bytes)| (name, ttlv::read(&bytes).map(|item| ttlv::write(&item) == bytes))) {
+        Some((name, Some(true))) => format!("{name}: read, same"),
+        Some((name, Some(false))) => format!("{name}: read, not same"),
+        Some((name, None)) => format!("{name}: malformed"),
+        None => format!("bad line: {line}"),
+    }
+}
+
+#[test]
+fn the_model_gives_the_stored_answers_on_ttlv() {
+    let printed = TTLV_SCRIPT.lines().filter(|line| !line.starts_with('#')).map(ttlv_line);
+    assert_eq!(printed.collect::<Vec<_>>(), TTLV_ANSWERS.lines().collect::<Vec<_>>());
 }

@@ -4,7 +4,7 @@
 
 mod support;
 
-use junctionmoth::message::{byte_string, create, integer, item, request, request_with, structure, Header, Node};
+use junctionmoth::message::*;
 use junctionmoth::{blank_table, model, REQUEST};
 use std::fs::{self, File};
 use std::io::{Seek, Write};
@@ -146,7 +146,8 @@ fn bench_prints_every_refusal_that_a_request_can_have() {
 fn bench_prints_responses_in_hex() {
     let longest = request(Some(1), vec![create_item(); 16]);
     let failed = request(Some(1), vec![item(0x12, Some(&[7; 16]), vec![]); 16]);
-    for (case, message) in [("16 items", longest), ("16 items that fail", failed)] {
+    let foreign = request(None, vec![item(0x12, None, target(Some("ключ")))]);
+    for (case, message) in [("16 items", longest), ("16 items that fail", failed), ("other letters", foreign)] {
         let input = message.encode();
         let effect = Case::new(input.clone(), blank_table().to_vec()).run(model::serve);
         let response = hex(&effect.out[..effect.served.expect("an answer")]);
@@ -180,6 +181,9 @@ fn tree_prints_where_a_message_is_malformed() {
         ("depth 12", 64, nested(12)),
         ("padding in the version", 0x18, changed(0x27, 1)),
         ("type 0C in the attributes", 0xA0, changed(0xA3, 0x0C)),
+        ("a surrogate", 0, unhex("42002007 00000003 EDA08000 00000000")),
+        ("a character that is cut", 8, unhex("42002001 00000010 42002007 00000001 C2000000 00000000")),
+        ("the number 128 as text", 0x90, changed(0x93, 0x07)),
     ];
     for (case, at, input) in cases {
         let expected = Ran { printed: format!("malformed at byte {at}\n"), taken: input.len() as u64 };

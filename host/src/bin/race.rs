@@ -1,7 +1,7 @@
 //! The race: the proved engine, linked, against the ordinary one, in one run on one machine, which is an x86-64.
 //! Prints nanoseconds a call and their ratio. What is timed, and how buffers are restored, is said in its first lines.
 
-use junctionmoth::message::{allocation, create, item, request, target, Node};
+use junctionmoth::message::{allocation, byte_string, create, item, raw_text, request, target, Node};
 use junctionmoth::model::operations::identifier;
 use junctionmoth::model::table::{Record, Table};
 use junctionmoth::{ordinary, Engine, LINKED, ROOM, STRIP};
@@ -46,6 +46,13 @@ not read, eight zeros are read and not searched for, 00000001 is searched for. S
 digits, divided by 16; the search is the difference of 00000001 to eight zeros, and it is taken off where a text names a
 serial. All texts are made anew for each round, so that no engine meets one for the second time.";
 
+const TEXT: &str = "\
+Text: nanoseconds for seeing that one Text String is UTF-8, read off whole calls. A call is one item of an operation that
+is not supported, with as many Text Strings of one length in its payload as a request holds. The same bytes as Byte
+Strings are not looked at: the difference of the two calls, divided by the number of texts, is the reading. All texts are
+made anew for each round. The last column is the standard library's from_utf8 on the same texts by itself: it says how
+well the differences tell it, since the ordinary engine has nothing else for them.";
+
 const CONTROL: &str = "\
 Control: the ordinary engine in both columns, to show how far a ratio strays by chance.";
 
@@ -68,6 +75,7 @@ fn main() {
     dates(proved, restore);
     soundness(proved, restore);
     identifiers(proved);
+    texts(proved);
     control(restore);
 }
 
@@ -293,6 +301,83 @@ fn answering(engine: Engine, requests: &[Vec<u8>]) -> f64 {
         black_box(&mut lent.out);
     }
     start.elapsed().as_nanos() as f64 / requests.len() as f64
+}
+
+/// The bytes that the payload of a request's only item has room for.
+const PAYLOAD: usize = 3992;
+
+/// The lengths of Text Strings, in bytes; the last is the longest that a request holds.
+const LENGTHS: [usize; 4] = [8, 32, 256, PAYLOAD - 8];
+
+/// Their letters, by how many bytes one may have.
+const LETTERS: [(&str, &[usize]); 3] = [("ASCII", &[1]), ("two bytes a letter", &[2]), ("mixed", &[1, 2, 3, 4])];
+
+/// The requests of a round with Text Strings: few, so that they stay near the processor.
+const TEXT_REQUESTS: usize = 8;
+
+/// The reading of text, for both engines, a line for each length and kind of letters.
+fn texts(proved: Engine) {
+    println!("\n{TEXT}");
+    println!("{:44} {:>9} {:>9} {:>9}", "", "proved", "ordinary", "from_utf8");
+    let mut seed = 1;
+    for length in LENGTHS {
+        for (letters, sizes) in LETTERS {
+            let [proved, plain, alone] = reading(proved, length, sizes, &mut seed);
+            println!("{:44} {proved:>9.1} {plain:>9.1} {alone:>9.1}", format!("{length} bytes, {letters}"));
+        }
+    }
+}
+
+/// Nanoseconds for one such text: of the proved engine, of the ordinary one, and of from_utf8 by itself.
+fn reading(proved: Engine, length: usize, sizes: &[usize], seed: &mut u64) -> [f64; 3] {
+    let number = PAYLOAD / (8 + length);
+    let mut times = [[f64::INFINITY; 2]; 2];
+    let mut alone = f64::INFINITY;
+    for round in 0..ROUNDS {
+        let mut batch = || (0..number).map(|_| any_text(length, sizes, seed)).collect();
+        let texts: Vec<Vec<String>> = (0..TEXT_REQUESTS).map(|_| batch()).collect();
+        let kinds: [fn(u32, &[u8]) -> Node; 2] = [raw_text, byte_string];
+        for (kind, node) in kinds.into_iter().enumerate() {
+            let requests: Vec<Vec<u8>> = texts.iter().map(|texts| unsupported(node, texts)).collect();
+            if round == 0 {
+                let (name, request) = (format!("{length} bytes"), requests[0].clone());
+                let scene = Scene { name, request, table: Table::blank().encode(), clock: 1 };
+                assert_eq!(compare(proved, &scene), "0 of 1");
+            }
+            for (engine, times) in [proved, ordinary::serve].into_iter().zip(&mut times) {
+                times[kind] = times[kind].min(answering(engine, &requests));
+            }
+        }
+        alone = alone.min(checking_texts(&texts.concat()));
+    }
+    let [proved, plain] = times.map(|[text, bytes]| (text - bytes) / number as f64);
+    [proved, plain, alone]
+}
+
+/// A request of one item, whose operation is not supported, with these texts in its payload.
+fn unsupported(node: fn(u32, &[u8]) -> Node, texts: &[String]) -> Vec<u8> {
+    let payload = texts.iter().map(|text| node(0x420020, text.as_bytes())).collect();
+    request(None, vec![item(0x3B, None, payload)]).encode()
+}
+
+/// A text of this length, each letter of one of these sizes as far as there is room.
+fn any_text(length: usize, sizes: &[usize], seed: &mut u64) -> String {
+    let mut text = String::new();
+    while text.len() < length {
+        let size = sizes[random(seed) as usize % sizes.len()].min(length - text.len());
+        let (first, number) = [(0x20, 0x5F), (0x80, 0x780), (0x1000, 0xC000), (0x10000, 0x100000)][size - 1];
+        text.push(char::from_u32(first + random(seed) % number).expect("a letter"));
+    }
+    text
+}
+
+/// Nanoseconds for from_utf8 on one of these texts.
+fn checking_texts(texts: &[String]) -> f64 {
+    let start = Instant::now();
+    for text in texts {
+        let _ = black_box(std::str::from_utf8(black_box(text.as_bytes())));
+    }
+    start.elapsed().as_nanos() as f64 / texts.len() as f64
 }
 
 /// How far a ratio strays by chance: the ordinary engine against itself.

@@ -70,9 +70,8 @@ fn read_value(kind: u8, bytes: &[u8], depth: u32) -> Option<Value> {
         0x05 => Value::Enumeration(u32::from_be_bytes(bytes.try_into().ok()?)),
         0x06 if bytes == [0, 0, 0, 0, 0, 0, 0, 0] => Value::Boolean(false),
         0x06 if bytes == [0, 0, 0, 0, 0, 0, 0, 1] => Value::Boolean(true),
-        0x07 if bytes.iter().all(|byte| (0x20..=0x7E).contains(byte)) => {
-            Value::Text(bytes.iter().map(|&byte| byte as char).collect())
-        }
+        // of what is text nothing is lost
+        0x07 if is_text(bytes) => Value::Text(String::from_utf8_lossy(bytes).into_owned()),
         0x08 => Value::Bytes(bytes.to_vec()),
         0x09 => Value::DateTime(i64::from_be_bytes(bytes.try_into().ok()?)),
         0x0A => Value::Interval(u32::from_be_bytes(bytes.try_into().ok()?)),
@@ -80,6 +79,36 @@ fn read_value(kind: u8, bytes: &[u8], depth: u32) -> Option<Value> {
         _ => return None,
     };
     Some(value)
+}
+
+/// Whether bytes are text. RFC 3629, section 4: `UTF8-octets = *( UTF8-char )`.
+pub fn is_text(mut bytes: &[u8]) -> bool {
+    while !bytes.is_empty() {
+        let Some(rest) = after_character(bytes) else { return false };
+        bytes = rest;
+    }
+    true
+}
+
+/// What follows the character at the front; none if no character stands there.
+/// The lines are those of the RFC: `UTF8-char = UTF8-1 / UTF8-2 / UTF8-3 / UTF8-4`, `UTF8-tail = %x80-BF`.
+fn after_character(bytes: &[u8]) -> Option<&[u8]> {
+    match bytes {
+        [0x00..=0x7F, rest @ ..] => Some(rest),
+
+        [0xC2..=0xDF, 0x80..=0xBF, rest @ ..] => Some(rest),
+
+        [0xE0, 0xA0..=0xBF, 0x80..=0xBF, rest @ ..] => Some(rest),
+        [0xE1..=0xEC, 0x80..=0xBF, 0x80..=0xBF, rest @ ..] => Some(rest),
+        [0xED, 0x80..=0x9F, 0x80..=0xBF, rest @ ..] => Some(rest),
+        [0xEE..=0xEF, 0x80..=0xBF, 0x80..=0xBF, rest @ ..] => Some(rest),
+
+        [0xF0, 0x90..=0xBF, 0x80..=0xBF, 0x80..=0xBF, rest @ ..] => Some(rest),
+        [0xF1..=0xF3, 0x80..=0xBF, 0x80..=0xBF, 0x80..=0xBF, rest @ ..] => Some(rest),
+        [0xF4, 0x80..=0x8F, 0x80..=0xBF, 0x80..=0xBF, rest @ ..] => Some(rest),
+
+        _ => None,
+    }
 }
 
 /// The bytes of an item: header, value, padding.

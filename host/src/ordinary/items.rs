@@ -47,7 +47,7 @@ fn well_formed_value(field: Field, depth: u32) -> bool {
         0x03 | 0x09 | 0x0B => value.len() == 8,
         0x04 => !value.is_empty() && value.len().is_multiple_of(8),
         0x06 => matches!(value, [0, 0, 0, 0, 0, 0, 0, 0 | 1]),
-        0x07 => value.iter().all(|byte| (0x20..=0x7E).contains(byte)),
+        0x07 => std::str::from_utf8(value).is_ok(),
         0x08 => true,
         _ => false,
     }

@@ -1,6 +1,7 @@
 //! What occurred in a run: refusals, operation by result, rules of soundness broken alone, changes of state, dates.
 //! Everything is read off the calls' inputs and effects, not told by an engine.
 
+use super::texts::{self, Fault};
 use super::{Case, Effect};
 use junctionmoth::model::frame::{self, BatchItem};
 use junctionmoth::model::operations::identifier;
@@ -9,7 +10,7 @@ use junctionmoth::model::payload::{self, Action, Order, Target};
 use junctionmoth::model::soundness;
 use junctionmoth::model::table::{Record, Table};
 use junctionmoth::model::tags::*;
-use junctionmoth::model::ttlv::{self, Item};
+use junctionmoth::model::ttlv::{self, Item, Value};
 use junctionmoth::Refusal;
 use std::collections::BTreeMap;
 
@@ -37,7 +38,7 @@ const CHANGES: [(u8, u8); 9] = [(1, 2), (1, 4), (1, 5), (2, 3), (2, 4), (3, 4), 
 const DUE: [(u8, u8); 3] = [(1, 2), (2, 3), (1, 3)];
 
 /// Things that must occur beside those lists.
-const EVENTS: [&str; 55] = [
+const EVENTS: [&str; 60] = [
     "answered with fewer items than asked",
     "batch of 16 answered whole",
     "response of 5,336 bytes",
@@ -51,6 +52,11 @@ const EVENTS: [&str; 55] = [
     "placeholder emptied by a failure: Object Not Found",
     "identifier of a record in lower case: Object Not Found",
     "identifier of eight zeros: Object Not Found",
+    "identifier that is not ASCII: Object Not Found",
+    "identifier of eight bytes that is not ASCII: Object Not Found",
+    "identifier with a control character: Object Not Found",
+    "identifier of a record with zero bytes behind it: Object Not Found",
+    "text that is not ASCII: Operation Not Supported",
     "clock of 1 answered",
     "clock of 2^63 - 1 answered",
     "clock earlier than the latest answered",
@@ -105,6 +111,7 @@ pub struct Coverage {
     changes: BTreeMap<(u8, u8), u64>,
     due: BTreeMap<(u8, u8), u64>,
     events: BTreeMap<&'static str, u64>,
+    text_faults: BTreeMap<Fault, u64>,
     missing: Vec<String>,
 }
 
@@ -116,16 +123,20 @@ impl Coverage {
         }
         match effect.served {
             Ok(length) => self.count_answer(case, effect, length),
-            Err(refusal) => self.count_refusal(case.clock, refusal),
+            Err(refusal) => self.count_refusal(case, refusal),
         }
     }
 
-    fn count_refusal(&mut self, clock: i64, refusal: Refusal) {
+    fn count_refusal(&mut self, case: &Case, refusal: Refusal) {
         *self.refused.entry(refusal).or_default() += 1;
-        if clock < 1 {
+        if case.clock < 1 {
             *self.refused_below_1.entry(refusal).or_default() += 1;
         } else {
             assert_ne!(refusal, Refusal::Clock, "a clock from 1 up was refused");
+        }
+        let fault = (refusal == Refusal::Malformed).then(|| fault_of_text_alone(&case.request));
+        if let Some(fault) = fault.flatten() {
+            *self.text_faults.entry(fault).or_default() += 1;
         }
     }
 
@@ -202,15 +213,33 @@ impl Coverage {
                 Ok(Order::Target(Target::Identifier(text), action)) => {
                     let allocates = matches!(action, Action::GetUsageAllocation(_));
                     let lower = text.bytes().any(|byte| byte.is_ascii_lowercase())
-                        && table.standing().any(|record| identifier(record.serial) == text.to_uppercase());
+                        && table.standing().any(|record| identifier(record.serial) == text.to_ascii_uppercase());
                     self.note_if("identifier of a record in lower case: Object Not Found", not_found && lower);
                     self.note_if("identifier of eight zeros: Object Not Found", not_found && text == "00000000");
                     self.note_if("no usage limit: Invalid Field", invalid && allocates);
+                    self.count_other_letters(table, &text, not_found);
+                }
+                Err(OperationNotSupported) => {
+                    let foreign = item.payload.iter().any(has_foreign_text);
+                    self.note_if("text that is not ASCII: Operation Not Supported", foreign);
                 }
                 _ => {}
             }
             issued |= reason.is_none() && [CREATE, REKEY].contains(&operation);
         }
+    }
+
+    /// Counts an identifier that is not ASCII, or holds bytes that are not seen: it names no record.
+    fn count_other_letters(&mut self, table: &Table, text: &str, not_found: bool) {
+        let control = text.bytes().any(|byte| byte.is_ascii_control());
+        assert!(not_found || text.is_ascii() && !control, "{text:?} named a record");
+        self.note_if("identifier that is not ASCII: Object Not Found", !text.is_ascii());
+        let eight = !text.is_ascii() && text.len() == 8;
+        self.note_if("identifier of eight bytes that is not ASCII: Object Not Found", eight);
+        self.note_if("identifier with a control character: Object Not Found", control);
+        let digits = text.trim_end_matches('\0');
+        let padded = digits != text && table.standing().any(|record| identifier(record.serial) == digits);
+        self.note_if("identifier of a record with zero bytes behind it: Object Not Found", padded);
     }
 
     /// Counts an Activate, first in its batch, of a Pre-Active key: it fails if the deactivation date has come, and
@@ -391,6 +420,10 @@ impl Coverage {
             self.line(format!("unsound by this rule alone: {rule}"), count);
         }
         self.report_changes();
+        for fault in Fault::ALL {
+            let count = self.text_faults.get(&fault).copied();
+            self.line(format!("refusal 5 for one text alone: {fault:?}"), count);
+        }
         for event in EVENTS {
             let count = self.events.get(event).copied();
             self.line(event.to_string(), count);
@@ -454,6 +487,44 @@ fn result(item: &Item) -> (u32, Option<u32>) {
 fn items_asked(request: &[u8]) -> Vec<BatchItem> {
     let message = ttlv::read(request).expect("an answered request is one well-formed item");
     frame::read(&message).expect("an answered request has a frame").items
+}
+
+/// What is wrong with the one Text String of a request that is no text; none if nothing or more than that is malformed.
+fn fault_of_text_alone(request: &[u8]) -> Option<Fault> {
+    let mut mended = request.to_vec();
+    let mut faults = Vec::new();
+    mend_texts(&mut mended, &mut faults);
+    match faults[..] {
+        [fault] if ttlv::read(&mended).is_some() => Some(fault),
+        _ => None,
+    }
+}
+
+/// Puts blanks in the place of each Text String that is no text, and says what was wrong with it.
+fn mend_texts(mut items: &mut [u8], faults: &mut Vec<Fault>) {
+    while let Some((header, rest)) = items.split_at_mut_checked(8) {
+        let length = u32::from_be_bytes(header[4..].try_into().expect("4 bytes")) as usize;
+        let Some((value, rest)) = rest.split_at_mut_checked(length.next_multiple_of(8)) else { return };
+        let value = &mut value[..length];
+        match header[3] {
+            0x01 => mend_texts(value, faults),
+            0x07 if texts::fault(value).is_some() => {
+                faults.extend(texts::fault(value));
+                value.fill(b' ');
+            }
+            _ => {}
+        }
+        items = rest;
+    }
+}
+
+/// Whether an item is a text that is not ASCII, or has one in it.
+fn has_foreign_text(item: &Item) -> bool {
+    match &item.value {
+        Value::Text(text) => !text.is_ascii(),
+        Value::Structure(items) => items.iter().any(has_foreign_text),
+        _ => false,
+    }
 }
 
 /// Activation and deactivation date of a record.

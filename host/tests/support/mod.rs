@@ -6,6 +6,7 @@ pub mod coverage;
 pub mod requests;
 pub mod rng;
 pub mod tables;
+pub mod texts;
 
 use junctionmoth::model::table::Table;
 use junctionmoth::{model, ordinary, program, Engine, Served, LINKED, ROOM, STRIP};
@@ -134,7 +135,8 @@ pub fn any_clock(rng: &mut Rng, latest: i64) -> i64 {
 
 fn any_request(rng: &mut Rng, table: &Table) -> Vec<u8> {
     let mut bytes = match rng.below(100) {
-        0..=59 => requests::accepted(rng, table).encode(),
+        0..=56 => requests::accepted(rng, table).encode(),
+        57..=59 => requests::with_text(rng, table).encode(),
         60..=62 => requests::rekey(rng, table).encode(),
         63..=64 => requests::renewals(rng, table).encode(),
         65..=66 => requests::widest(rng, table).encode(),

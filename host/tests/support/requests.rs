@@ -1,6 +1,7 @@
 //! Requests: such as the box accepts, aimed at a table, and such as it turns away.
 
 use super::rng::Rng;
+use super::texts::{any_text, no_text};
 use junctionmoth::message::*;
 use junctionmoth::model::operations::identifier;
 use junctionmoth::model::table::{Record, Table};
@@ -195,7 +196,7 @@ fn wrong_text(rng: &mut Rng, table: &Table, serial: u32) -> String {
     let right = identifier(serial);
     let links = table.standing().flat_map(|record| [record.replaced, record.replacement]);
     let dangling = links.filter(|&named| named != 0 && table.find(named).is_none()).last();
-    match rng.below(12) {
+    match rng.below(16) {
         0 => right.to_lowercase(),
         1 => "00000000".into(),
         2 => right[1..].into(),
@@ -207,14 +208,41 @@ fn wrong_text(rng: &mut Rng, table: &Table, serial: u32) -> String {
         8 => format!("{serial}"),
         9 => identifier(rng.next() as u32),
         10 => right.repeat(2),
+        11 => other_letters(rng),
+        12 => any_text(rng, 8),
+        13 => in_full_width(rng, &right),
+        14 => right + &"\0".repeat(rng.pick(&[1, 8, 8])),
         _ => identifier(dangling.unwrap_or(0)),
     }
+}
+
+/// Text of 1 to 12 bytes, in any letters.
+fn other_letters(rng: &mut Rng) -> String {
+    let length = rng.between(1, 12) as usize;
+    any_text(rng, length)
+}
+
+/// Eight digits, some or all of them in full width, which are other characters.
+fn in_full_width(rng: &mut Rng, digits: &str) -> String {
+    let wide = |digit: char| char::from_u32(u32::from(digit) + 0xFEE0).expect("a digit in full width");
+    let (narrow, rest) = digits.split_at(rng.index(8));
+    narrow.chars().chain(rest.chars().map(wide)).collect()
 }
 
 /// A batch of Creates.
 pub fn creations(rng: &mut Rng, table: &Table) -> Node {
     let number = rng.between(1, 16);
     request(Some(1), (0..number).map(|_| item(0x01, None, creation(rng, table))).collect())
+}
+
+/// A request with a text in other letters in one of its payloads, or with something that is no text.
+pub fn with_text(rng: &mut Rng, table: &Table) -> Node {
+    let tag = rng.pick(&[0x420094, 0x420094, 0x420020, 0x420080]);
+    let text = if rng.one_in(4) { text(tag, &other_letters(rng)) } else { raw_text(tag, &no_text(rng)) };
+    let operation = rng.pick(&[0x12, 0x0B, 0x3B]);
+    let mut items: Vec<Node> = (0..rng.below(3)).map(|_| batch_item(rng, table)).collect();
+    items.insert(rng.index(items.len() + 1), item(operation, None, vec![text]));
+    request(rng.pick(&[None, Some(1)]), items)
 }
 
 /// A Re-key alone.
@@ -310,7 +338,10 @@ fn well_formed(rng: &mut Rng, tag: u32) -> Node {
         0x01 => return structure(tag, Vec::new()),
         0x02 | 0x05 | 0x0A => (rng.below(5) as u32).to_be_bytes().to_vec(),
         0x06 => rng.below(2).to_be_bytes().to_vec(),
-        0x07 => rng.pick(&["", "00000001", "a text of some length", "2"]).as_bytes().to_vec(),
+        0x07 => {
+            let other = other_letters(rng);
+            rng.pick(&["", "00000001", "a text of some length", "2", &other, &other]).as_bytes().to_vec()
+        }
         0x08 => rng.bytes(any),
         0x04 => rng.bytes(8 * (1 + any / 8)),
         _ => rng.below(5).to_be_bytes().to_vec(),
@@ -320,6 +351,9 @@ fn well_formed(rng: &mut Rng, tag: u32) -> Node {
 
 /// An item of some type whose length or value is just not allowed.
 fn ill_formed(rng: &mut Rng, tag: u32) -> Node {
+    if rng.one_in(4) {
+        return raw_text(tag, &no_text(rng));
+    }
     let (kind, bytes): (u8, &[u8]) = rng.pick(&[
         (0x01, b"\x42\x00\x20\x08"),
         (0x02, b""),
@@ -335,11 +369,6 @@ fn ill_formed(rng: &mut Rng, tag: u32) -> Node {
         (0x06, b"\0\0\0\x01"),
         (0x06, b"\0\0\0\0\0\0\0\x02"),
         (0x06, b"\x01\0\0\0\0\0\0\x01"),
-        (0x07, b"\x1F"),
-        (0x07, b"0000000\x7F"),
-        (0x07, b"\x8000000001"),
-        (0x07, b"\xC3\xA9"),
-        (0x07, b"00000001\0"),
     ]);
     Node { tag, kind, body: Body::Bytes(bytes.to_vec()) }
 }
@@ -349,7 +378,7 @@ fn edit_value(rng: &mut Rng, bytes: &mut Vec<u8>) {
     match rng.below(5) {
         0 => *bytes = any,
         1 => bytes.resize(rng.index(20), 0),
-        2 => bytes.push(rng.pick(&[0x00, 0x1F, 0x20, 0x7E, 0x7F, 0x80, 0xFF])),
+        2 => bytes.push(rng.pick(&[0x00, 0x1F, 0x20, 0x7E, 0x7F, 0x80, 0xC2, 0xFF])),
         3 => bytes.clear(),
         _ => {
             if let Some(last) = bytes.last_mut() {
@@ -416,7 +445,7 @@ pub fn many_items(rng: &mut Rng) -> Node {
 pub fn deep(rng: &mut Rng) -> Node {
     let depth = rng.between(7, 9);
     let tag = rng.pick(&[0x420001, 0x420125, 0x420094]);
-    let leaf = rng.pick(&[structure(tag, Vec::new()), integer(tag, 1), text(tag, "x")]);
+    let leaf = rng.pick(&[structure(tag, Vec::new()), integer(tag, 1), text(tag, "x"), text(tag, "é")]);
     let chain = (4..depth).fold(leaf, |inner, _| structure(tag, vec![inner]));
     let operation = rng.pick(&[0x01, 0x12, 0x13, 0x3B]);
     request(Some(1), vec![item(operation, None, vec![chain]), item(0x01, None, create(128, 4, None))])
