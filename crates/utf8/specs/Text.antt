@@ -1,5 +1,5 @@
 -- 02, L5: "Text Strings now take every UTF-8 sequence of that standard, and overlong forms, surrogates and values above 10FFFF hex are malformed": the grammar of RFC 3629, section 4.
--- Assumes nothing.
+-- Assumes nothing. Each definition opens what it computes with, so that a worked case has to name `text` alone.
 use Prim.Native.Nat.{ℕ}
 use mathlib.Core.Bool.{Bool, true, false, _&&_}
 use mathlib.Core.List.{List, [], _∷_}
