@@ -13,10 +13,10 @@
 #define JUNCTIONMOTH_PLACES 64
 
 /* Bytes of the stored table. */
-#define JUNCTIONMOTH_TABLE_SIZE 5648
+#define JUNCTIONMOTH_TABLE_SIZE 8208
 
 /* Bytes of output room that no response exceeds; a call with less is refused. */
-#define JUNCTIONMOTH_ROOM_LEAST 5336
+#define JUNCTIONMOTH_ROOM_LEAST 6360
 
 /* Bytes of the fresh strip. */
 #define JUNCTIONMOTH_STRIP_SIZE 512
@@ -68,8 +68,15 @@ static inline void junctionmoth_blank(uint8_t table[JUNCTIONMOTH_TABLE_SIZE])
  * table, table_len
  *     The stored table, JUNCTIONMOTH_TABLE_SIZE bytes. The host keeps it: whoever loses it loses the
  *     keys, and whoever brings an old one back brings back what was destroyed or granted since.
- *     Nobody else may write to it. A table of 4,624 bytes, without dates, is refused; the program
- *     widen turns it into one of today's size.
+ *     Nobody else may write to it. Tables of 4,624 bytes, without dates and names, and of 5,648 bytes,
+ *     without names, are refused; the program widen turns them into one of today's size.
+ *     A key can have a name of 1 to 32 bytes of UTF-8 text, given once, by Create; Re-key moves it to
+ *     the new key. No two keys of a table have the same one, and that of a destroyed key stays taken
+ *     until its place goes to another key. Names are compared byte for byte: a host that wants one
+ *     spelling of a text, or no control characters in it, sees to that before the call.
+ *     A name is no secret: it stands in the table as it is, Get Attributes shows it to whoever asks,
+ *     Locate answers the identifier of the key that has it, also of a destroyed one, and a Create
+ *     that fails tells that a name is taken. So nothing belongs into it that not every client may know.
  * strip, strip_len
  *     JUNCTIONMOTH_STRIP_SIZE bytes from a random source, new for every call; they become key
  *     material, so the host wipes them after the call. They are only read.

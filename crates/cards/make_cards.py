@@ -74,6 +74,7 @@ KEY_WRAP_TYPE = 0x4200F8
 LINK = 0x42004A
 LINK_TYPE = 0x42004B
 LINKED_OBJECT_IDENTIFIER = 0x42004C
+MAXIMUM_ITEMS = 0x42004F
 NAME = 0x420053
 NAME_TYPE = 0x420054
 NAME_VALUE = 0x420055
@@ -95,6 +96,7 @@ REVOCATION_MESSAGE = 0x420080
 REVOCATION_REASON = 0x420081
 REVOCATION_REASON_CODE = 0x420082
 STATE = 0x42008D
+STORAGE_STATUS_MASK = 0x42008E
 SYMMETRIC_KEY = 0x42008F
 TIME_STAMP = 0x420092
 UNIQUE_BATCH_ITEM_ID = 0x420093
@@ -110,6 +112,7 @@ OTHER = 0x420020  # a tag that no payload names
 
 CREATE = 0x01
 REKEY = 0x04
+LOCATE = 0x08
 GET = 0x0A
 GET_ATTRIBUTES = 0x0B
 ALLOCATE = 0x11
@@ -124,6 +127,7 @@ NOT_SUPPORTED = 0x05
 INVALID_FIELD = 0x07
 PERMISSION_DENIED = 0x0C
 USAGE_LIMIT_EXCEEDED = 0x1A
+NON_UNIQUE_NAME = 0x35
 OBJECT_DESTROYED = 0x36
 OBJECT_NOT_FOUND = 0x37
 SERVER_LIMIT_EXCEEDED = 0x3A
@@ -175,6 +179,11 @@ def ends(date):
     return date_time(DEACTIVATION_DATE, date)
 
 
+def called(letters, kind=1):
+    """A Name; type 1 is uninterpreted text."""
+    return structure(NAME, text(NAME_VALUE, letters), enumeration(NAME_TYPE, kind))
+
+
 def wanted(*more, algorithm=3, bits=128, mask=4):
     """The Attributes of a Create."""
     return structure(
@@ -222,6 +231,10 @@ def destroy(name=None, *more, id=None):
     return ask(DESTROY, *target(name), *more, id=id)
 
 
+def locate(letters, id=None):
+    return ask(LOCATE, structure(ATTRIBUTES, called(letters)), id=id)
+
+
 def get(name=None, *more, id=None):
     return ask(GET, *target(name), *more, id=id)
 
@@ -256,6 +269,16 @@ def named(operation, name, id=None):
     return done(operation, identifier(name), id=id)
 
 
+def found(name, id=None):
+    """Success of Locate: the key that has the name."""
+    return named(LOCATE, name, id=id)
+
+
+def found_none(id=None):
+    """Success of Locate where no key has it: an empty payload."""
+    return done(LOCATE, id=id)
+
+
 def handed(name, material, id=None):
     """Success of Get: the key in the format Raw; its length is that of its material."""
     block = structure(
@@ -272,8 +295,8 @@ def link(kind, name):
     return structure(LINK, enumeration(LINK_TYPE, kind), text(LINKED_OBJECT_IDENTIFIER, name))
 
 
-def shown(name, state, bits=128, mask=4, limit=None, replaced=None, replacement=None, activation=0, deactivation=0, id=None):
-    """Success of Get Attributes; limit is total, count and unit, and a date of 0 is not set."""
+def shown(name, state, bits=128, mask=4, limit=None, replaced=None, replacement=None, activation=0, deactivation=0, letters=None, id=None):
+    """Success of Get Attributes; limit is total, count and unit, a date of 0 is not set, and the letters are those of its Name."""
     fields = [
         enumeration(CRYPTOGRAPHIC_ALGORITHM, 3),
         integer(CRYPTOGRAPHIC_LENGTH, bits),
@@ -292,17 +315,20 @@ def shown(name, state, bits=128, mask=4, limit=None, replaced=None, replacement=
         fields.append(link(0x107, replaced))
     if replacement is not None:
         fields.append(link(0x106, replacement))
+    if letters is not None:
+        fields.append(called(letters))
     return done(GET_ATTRIBUTES, identifier(name), structure(ATTRIBUTES, *fields), id=id)
 
 
-# ---- the stored table: a lead of 16 bytes, 64 lines of 16, 64 bodies of 72
+# ---- the stored table: a lead of 16 bytes, 64 lines of 16, 64 bodies of 112
 
 PLACES = 64
-TABLE_SIZE = 5648
-BODY_SIZE = 72
+TABLE_SIZE = 8208
+BODY_SIZE = 112
 MATERIAL_IN = 24
 ACTIVATION_IN = 56
 DEACTIVATION_IN = 64
+NAME_IN = 72
 LATEST_CLOCK = 8
 
 
@@ -324,10 +350,17 @@ def line(serial, state, unit=0, bits=128, replaced=0, replacement=0):
     return b"".join(number.to_bytes(size, "big") for number, size in numbers)
 
 
-def body(total=0, count=0, mask=4, material=b"", activation=0, deactivation=0):
+def body(total=0, count=0, mask=4, material=b"", activation=0, deactivation=0, letters=""):
     numbers = [(total, 8), (count, 8), (mask, 4), (0, 4)]
     front = b"".join(number.to_bytes(size, "big") for number, size in numbers)
-    return front + material.ljust(32, b"\0") + activation.to_bytes(8, "big") + deactivation.to_bytes(8, "big")
+    dates = activation.to_bytes(8, "big") + deactivation.to_bytes(8, "big")
+    return front + material.ljust(32, b"\0") + dates + name_field(letters)
+
+
+def name_field(letters):
+    """A length byte (0 means no name), seven zeros and 32 name bytes, zero past the length."""
+    octets = letters if isinstance(letters, bytes) else letters.encode("utf-8")
+    return bytes([len(octets)]) + bytes(7) + octets.ljust(32, b"\0")
 
 
 def numbers(*values):
@@ -387,7 +420,7 @@ def check_builders():
     assert request(create()) == PRINTED_CREATE and len(PRINTED_CREATE) == 176
     assert response(created("00000001")) == PRINTED_CREATED and len(PRINTED_CREATED) == 168
     assert response(failed(CREATE, INVALID_FIELD), failed(ACTIVATE, OBJECT_NOT_FOUND)) == PRINTED_BAD_CREATE
-    assert structure(NAME, text(NAME_VALUE, "pump"), enumeration(NAME_TYPE, 1)) == PRINTED_NAME
+    assert called("pump") == PRINTED_NAME
     assert offset(864000) == PRINTED_OFFSET
     # sizes of answers with an ID of 16 bytes
     id = bytes(16)
@@ -396,8 +429,13 @@ def check_builders():
     assert len(failed(CREATE, INVALID_FIELD, id=id)) == 80
     assert len(named(ACTIVATE, "00000001", id=id)) == 88
     assert len(created("00000001", id=id)) == 104
-    assert len(full) == 296 and len(dated) == 328 and len(response(*[dated] * 16)) == 5336
+    assert len(full) == 296 and len(dated) == 328
+    assert len(found(ONE, id=id)) == 88 and len(found_none(id=id)) == 72 and len(response(found_none())) == 136
+    longest = dict(limit=(5, 5, 1), replaced="00000001", replacement="00000003", activation=8, deactivation=9, letters=32 * "x", id=id)
+    assert len(shown("00000002", 1, **longest)) == 392 and len(response(*[shown("00000002", 1, **longest)] * 16)) == 6360
     assert len(request(create(limit(1, 1), id=id))) == 72 + 168 and len(request(create(limit(1, 1), starts(1), ends(1), id=id))) == 72 + 200
+    everything = create(limit(1, 1), starts(1), ends(1), called(32 * "x"), id=id)
+    assert len(request(*[everything] * 15, option=CONTINUE)) == 88 + 15 * 264 == 4048 and len(request(*[everything] * 16, option=CONTINUE)) == 4312
     assert handed("00000001", bytes(range(16)))[-len(PRINTED_KEY) :] == PRINTED_KEY
     assert [len(handed("00000001", bytes(size), id=id)) for size in (16, 24, 32)] == [200, 208, 216]
     assert line_at(1) - line_at(0) == 16 and body_at(0) == 1040 and body_at(PLACES) == TABLE_SIZE
@@ -411,9 +449,9 @@ SCRIPT_ROOM = 524288  # a script has to stay below
 
 
 def grouped(octets):
-    """Hex in groups of eight digits; more than 256 bytes in one piece, which saves room."""
+    """Hex in groups of eight digits; more than 128 bytes in one piece, which saves room."""
     digits = octets.hex().upper()
-    group = 8 if len(octets) <= 256 else len(digits)
+    group = 8 if len(octets) <= 128 else len(digits)
     return " ".join(digits[at : at + group] for at in range(0, len(digits), group))
 
 
@@ -576,13 +614,13 @@ def cards_of_bad_create(s):
 
 
 def cards_of_room_and_batch(s):
-    s.about("01 with L3's bound: output 5,335 is refusal 1.")
+    s.about("01 with L6's bound: output 6,359 is refusal 1.")
     s.blank()
-    s.say("room 5335")
-    s.refused("01 output 5335", PRINTED_CREATE, 1)
-    s.table("01 lead after output 5335", 0, lead(0, latest=0))
-    s.say("room 5336")
-    s.answered("01 output 5336", PRINTED_CREATE, PRINTED_CREATED)
+    s.say("room 6359")
+    s.refused("01 output 6359", PRINTED_CREATE, 1)
+    s.table("01 lead after output 6359", 0, lead(0, latest=0))
+    s.say("room 6360")
+    s.answered("01 output 6360", PRINTED_CREATE, PRINTED_CREATED)
     s.about("01: a batch of 16 runs, one of 17 is refusal 8.")
     s.blank()
     s.refused("01 batch of 17", request(*[create()] * 17), 8)
@@ -708,7 +746,6 @@ def cards_of_create(s):
         ("unit before total", [key, wanted(structure(USAGE_LIMITS, unit, total))]),
         ("a count in the limits", [key, wanted(with_count)]),
         ("two limits", [key, wanted(limit(9, 1), limit(9, 1))]),
-        ("a name", [key, wanted(PRINTED_NAME)]),
     ]:
         s.fails(f"Create with {name}", ask(CREATE, *payload), CREATE, INVALID_FIELD)
     s.table("lead after Creates with invalid fields", 0, lead(0))
@@ -916,13 +953,20 @@ def cards_of_attributes(s):
     s.card("Get Attributes, limit, both links, ID of 16 bytes", (attributes(TWO, id=id), full))
     dangling = shown("00000007", 6, 128, 0, replaced=FIVE, replacement="00000008")
     s.card("Get Attributes, destroyed, both links gone", (attributes("00000007"), dangling))
-    s.about("L3: the longest response: sixteen such items, each with both dates: 328 bytes an item, 5,336 in all.")
-    s.put(body_at(1) + ACTIVATION_IN, numbers(1, 2**63 - 1))
+    s.about("L6: the longest response: sixteen such items, each with both dates and a name of 32 bytes: 392 bytes an item, 6,360 in all.")
+    letters = "station 12, row 3, step no. 0471"
+    s.put(body_at(1) + ACTIVATION_IN, numbers(1, 2**63 - 1) + name_field(letters))
     ids = [bytes(range(16 * n, 16 * n + 16)) for n in range(16)]
-    pairs = [(attributes(TWO, id=id), shown(TWO, 2, 192, 12, (1000, 999, 1), ONE, FOUR, 1, 2**63 - 1, id=id)) for id in ids]
-    assert len(pairs[0][1]) == 328 and len(response(*[answer for _, answer in pairs])) == 5336
-    s.card("response of 5336 bytes", *pairs, option=STOP)
-    s.output("output past the 5336 bytes as it was", 5336, b"\xFF" * 8)
+    pairs = [(attributes(TWO, id=id), shown(TWO, 2, 192, 12, (1000, 999, 1), ONE, FOUR, 1, 2**63 - 1, letters, id=id)) for id in ids]
+    assert len(pairs[0][1]) == 392 and len(response(*[answer for _, answer in pairs])) == 6360
+    s.card("L6 response of 6360 bytes", *pairs, option=STOP)
+    s.output("L6 output past the 6360 bytes as it was", 6360, b"\xFF" * 8)
+    s.about("L6: a name of 24 bytes makes it shorter by 8 bytes an item, and one of 25 does not.")
+    for length, size in [(24, 384), (25, 392)]:
+        s.put(body_at(1) + NAME_IN, name_field(letters[:length]))
+        full = shown(TWO, 2, 192, 12, (1000, 999, 1), ONE, FOUR, 1, 2**63 - 1, letters[:length], id=ids[0])
+        assert len(full) == size
+        s.card(f"L6 Get Attributes, everything, name of {length} bytes", (attributes(TWO, id=ids[0]), full))
 
 
 def cards_of_get(s):
@@ -1021,7 +1065,7 @@ def cards_of_get(s):
 def cards_of_other_operations(s):
     s.about("Operation Not Supported, whatever stands in the payload; the operation is echoed.")
     s.blank()
-    for name, operation in [("0", 0), ("Get Attribute List", 0x0C), ("Locate", 0x08), ("Ping", 0x3B), ("FFFFFFFF", 0xFFFFFFFF)]:
+    for name, operation in [("0", 0), ("Get Attribute List", 0x0C), ("Re-certify", 0x07), ("Check", 0x09), ("Ping", 0x3B), ("FFFFFFFF", 0xFFFFFFFF)]:
         s.fails(f"operation {name}", ask(operation), operation, NOT_SUPPORTED)
     s.fails("operation Get Attribute List with an identifier as Integer", ask(0x0C, integer(UNIQUE_IDENTIFIER, 1)), 0x0C, NOT_SUPPORTED)
 
@@ -1909,12 +1953,11 @@ def cards_of_texts_elsewhere(s):
     key_to_activate(s)
     good, bad = "clé", b"cl\xe9"
     deep = lambda letters: structure(OTHER, structure(OTHER, structure(OTHER, structure(OTHER, text(OTHER, letters)))))
-    named_so = lambda letters: structure(NAME, text(NAME_VALUE, letters), enumeration(NAME_TYPE, 1))
     worn = lambda letters: structure(REVOCATION_REASON, enumeration(REVOCATION_REASON_CODE, 1), text(REVOCATION_MESSAGE, letters))
     for name, operation, reason, payload in [
         ("in the payload of Ping", 0x3B, NOT_SUPPORTED, lambda letters: [text(OTHER, letters)]),
         ("at depth 8", 0x3B, NOT_SUPPORTED, lambda letters: [deep(letters)]),
-        ("as Name", CREATE, INVALID_FIELD, lambda letters: [symmetric_key(), wanted(named_so(letters))]),
+        ("as Name", ACTIVATE, INVALID_FIELD, lambda letters: [identifier(ONE), called(letters)]),
         ("as Revocation Message", REVOKE, INVALID_FIELD, lambda letters: [identifier(ONE), worn(letters)]),
         ("behind an identifier", ACTIVATE, INVALID_FIELD, lambda letters: [identifier(ONE), identifier(letters)]),
     ]:
@@ -1938,6 +1981,397 @@ def cards_of_texts_elsewhere(s):
     s.refused("L5 no text, cut after 263 bytes", request(ask(0x3B, text(OTHER, long[:-1]))), 5)
 
 
+# ---- L6: names and Locate
+
+LONG = "station 12, row 3, step no. 0471"  # 32 bytes
+# names that are allowed, each with how it is called in a card
+GOOD_NAMES = {
+    "of one byte": "p",
+    "of 8 bytes": "pump 001",
+    "of 31 bytes": LONG[:31],
+    "of 32 bytes": LONG,
+    "of 32 bytes in 16 letters": "é" * 16,
+    "of 32 bytes in 8 letters": "🙂" * 8,
+    "with a zero byte inside": "pump\x001",
+    "that ends with a zero byte": "pump\0",
+    "of one zero byte": "\0",
+    "of 32 zero bytes": "\0" * 32,
+    "that looks like an identifier": ONE,
+}
+
+
+def located(name, letters, *rest, **options):
+    """Create, Locate and Get Attributes of one name, in one batch."""
+    return [(create(*rest, called(letters)), created(name)), (locate(letters), found(name)), (attributes(), shown(name, 1, letters=letters, **options))]
+
+
+def cards_of_names(s):
+    s.about("L6: Create takes a Name as last attribute, Get Attributes shows it last. The Name is the one worked out beside the papers.")
+    s.blank()
+    s.card("L6 Create with the name pump", (create(PRINTED_NAME), created(ONE)))
+    s.table("L6 line of the key called pump", line_at(0), line(1, 1))
+    s.table("L6 body of the key called pump", body_at(0), body(0, 0, 4, fresh(0, 16), letters="pump"))
+    stored_name = unhex("04000000 00000000 70756D70") + bytes(28)
+    s.table("L6 name field of the key called pump", body_at(0) + NAME_IN, stored_name)
+    answer = shown(ONE, 1, letters="pump")
+    assert answer.endswith(PRINTED_NAME)
+    s.card("L6 Get Attributes of the key called pump", (attributes(ONE), answer))
+    s.card("L6 Create without a name beside it", (create(), created(TWO)), (attributes(), shown(TWO, 1)))
+    s.about("L6: 1 to 32 bytes of text, in whatever letters, and with zero bytes, which are text by L5.")
+    s.blank()
+    for serial, (what, letters) in enumerate(GOOD_NAMES.items(), 1):
+        s.card(f"L6 name {what}", *located(name_of(serial), letters))
+    bodies = b"".join(body(0, 0, 4, fresh(0, 16), letters=letters) for letters in GOOD_NAMES.values())
+    s.table("L6 bodies of keys with names", body_at(0), bodies)
+    s.about("L6: behind the limit and the dates, as far as they are there.")
+    s.blank()
+    given = [([limit(9, 1)], dict(limit=(9, 9, 1))), ([starts(5)], dict(activation=5)), ([ends(6)], dict(deactivation=6))]
+    given += [([limit(9, 1), starts(5), ends(6)], dict(limit=(9, 9, 1), activation=5, deactivation=6))]
+    for serial, (more, options) in enumerate(given, 1):
+        s.card(f"L6 name behind {len(more)} of limit and dates, {serial}", *located(name_of(serial), f"name {serial}", *more, **options))
+    s.about("L6: a name stays with its key through every change of state, and a destroyed key keeps it.")
+    s.blank()
+    s.card(
+        "L6 name through a life",
+        (create(limit(9, 1), called("pump")), created(ONE)),
+        (activate(), named(ACTIVATE, ONE)),
+        (allocate(None, 4), named(ALLOCATE, ONE)),
+        (get(), handed(ONE, fresh(0, 16))),
+        (revoke(None, 5), named(REVOKE, ONE)),
+        (destroy(), named(DESTROY, ONE)),
+        (attributes(), shown(ONE, 5, limit=(9, 5, 1), activation=1, deactivation=1, letters="pump")),
+        (revoke(None, 2), named(REVOKE, ONE)),
+        (attributes(), shown(ONE, 6, limit=(9, 5, 1), activation=1, deactivation=1, letters="pump")),
+    )
+    s.table("L6 body after a life with a name", body_at(0), body(9, 5, 4, b"", 1, 1, "pump"))
+
+
+def cards_of_wrong_names(s):
+    s.about("L6: what is no such name, or does not stand last and once, is Invalid Field: in Create, and in Locate.")
+    s.blank()
+    s.card("L6 wrong names, the key that has a right one", (create(called("pump")), created(ONE)))
+    value, kind = text(NAME_VALUE, "tap"), enumeration(NAME_TYPE, 1)
+    name = lambda *fields: structure(NAME, *fields)
+    wrong = {
+        "of no bytes": [called("")],
+        "of 33 bytes": [called(33 * "x")],
+        "of type 2, URI": [called("tap", 2)],
+        "without a type": [name(value)],
+        "with its fields exchanged": [name(kind, value)],
+        "and another": [called("tap"), called("valve")],
+        "and a deactivation date behind it": [called("tap"), ends(9)],
+    }
+    for what, fields in wrong.items():
+        s.fails(f"L6 Create with a name {what}", create(*fields), CREATE, INVALID_FIELD)
+    others = [
+        [called(16 * "é" + "x")],
+        [called(40 * "x")],
+        [called(257 * "x")],
+        [called("tap", 0)],
+        [called("tap", 0xFFFFFFFF)],
+        [name(kind)],
+        [name()],
+        [name(byte_string(NAME_VALUE, b"tap"), kind)],
+        [name(value, integer(NAME_TYPE, 1))],
+        [name(value, kind, value)],
+        [text(NAME, "tap")],
+        [called("tap"), called("tap")],
+        [called("tap"), enumeration(STATE, 1)],
+    ]
+    s.about(
+        "The same for 33 bytes in 17 letters, 40 and 257 bytes, types 0 and FFFFFFFF, no value, no fields, other item types, a third field, no structure,",
+        "the same name twice, and a State behind it.",
+    )
+    s.card("L6 Create with other names that are not allowed", *[(create(*fields), failed(CREATE, INVALID_FIELD)) for fields in others], option=CONTINUE)
+    located_so = lambda fields: (ask(LOCATE, structure(ATTRIBUTES, *fields)), failed(LOCATE, INVALID_FIELD))
+    s.card("L6 Locate with names that are not allowed", *[located_so(fields) for fields in wrong.values()], option=CONTINUE)
+    s.card("L6 Locate with other names that are not allowed", *[located_so(fields) for fields in others], option=CONTINUE)
+    aes, bits, mask = enumeration(CRYPTOGRAPHIC_ALGORITHM, 3), integer(CRYPTOGRAPHIC_LENGTH, 128), integer(CRYPTOGRAPHIC_USAGE_MASK, 4)
+    elsewhere = [
+        [symmetric_key(), wanted(called("tap"), limit(9, 1))],
+        [symmetric_key(), structure(ATTRIBUTES, aes, bits, called("tap"), mask)],
+        [symmetric_key(), wanted(), called("tap")],
+        [symmetric_key(), called("tap"), wanted()],
+    ]
+    pairs = [(ask(CREATE, *payload), failed(CREATE, INVALID_FIELD)) for payload in elsewhere]
+    s.card("L6 Create with a name before the limit, before the mask, behind the attributes and before them", *pairs, option=CONTINUE)
+    s.about("L6: Locate takes Attributes with the Name alone.")
+    pump = structure(ATTRIBUTES, called("pump"))
+    for what, payload in [
+        ("nothing", []),
+        ("empty attributes", [structure(ATTRIBUTES)]),
+        ("a name without attributes", [called("pump")]),
+        ("an identifier", [identifier(ONE)]),
+        ("an identifier before the attributes", [identifier(ONE), pump]),
+        ("an identifier behind the attributes", [pump, identifier(ONE)]),
+        ("Maximum Items", [integer(MAXIMUM_ITEMS, 1), pump]),
+        ("a Storage Status Mask", [integer(STORAGE_STATUS_MASK, 3), pump]),
+        ("another attribute before the name", [structure(ATTRIBUTES, enumeration(STATE, 1), called("pump"))]),
+        ("another attribute alone", [structure(ATTRIBUTES, enumeration(STATE, 1))]),
+        ("attributes twice", [pump, pump]),
+        ("attributes as Byte String", [byte_string(ATTRIBUTES, called("pump"))]),
+    ]:
+        s.fails(f"L6 Locate with {what}", ask(LOCATE, *payload), LOCATE, INVALID_FIELD)
+    s.about("L6: a Name in the payload of any other operation is Invalid Field, too.")
+    others = [
+        (rekey(ONE, called("tap")), REKEY),
+        (get(ONE, called("pump")), GET),
+        (attributes(ONE, called("pump")), GET_ATTRIBUTES),
+        (activate(ONE, called("pump")), ACTIVATE),
+        (ask(DESTROY, called("pump")), DESTROY),
+    ]
+    s.card("L6 a name in other operations", *[(asked, failed(operation, INVALID_FIELD)) for asked, operation in others], option=CONTINUE)
+    s.about("L6: a name that is no text makes the request malformed, as any text does.")
+    for digits in ["C1BF", "EDA080", "F4908080", "C2"]:
+        s.refused(f"L6 Locate with the name {digits}", request(locate(unhex(digits))), 5)
+    s.refused("L6 Create with the name C1BF", request(create(called(unhex("C1BF")))), 5)
+    s.table("L6 lead and lines after wrong names", 0, lead(1) + line(1, 1) + bytes(16))
+
+
+def cards_of_taken_names(s):
+    s.about("L6: a name that any record in the table has, destroyed ones included, fails with Non Unique Name Attribute.")
+    s.blank()
+    taken = (create(called("pump")), failed(CREATE, NON_UNIQUE_NAME))
+    s.card("L6 taken name, the first key", (create(called("pump")), created(ONE)))
+    s.fails("L6 name of a key", create(called("pump")), CREATE, NON_UNIQUE_NAME)
+    s.card("L6 name of a key, Stop", taken, (create(), None))
+    s.card("L6 name of a key, Continue", taken, (activate(), failed(ACTIVATE, OBJECT_NOT_FOUND)), (create(), created(TWO)), option=CONTINUE)
+    s.card("L6 name of a key that is destroyed", (destroy(ONE), named(DESTROY, ONE)), taken)
+    s.fails("L6 name of a destroyed key", create(called("pump")), CREATE, NON_UNIQUE_NAME)
+    s.card(
+        "L6 name of a key of the same batch",
+        (create(called("tap")), created(THREE)),
+        (create(called("tap")), failed(CREATE, NON_UNIQUE_NAME)),
+        (destroy(THREE), named(DESTROY, THREE)),
+        (create(called("tap")), failed(CREATE, NON_UNIQUE_NAME)),
+        option=CONTINUE,
+    )
+    s.table("L6 lead and lines after names were taken", 0, lead(3) + line(1, 5) + line(2, 1) + line(3, 5) + bytes(16))
+    s.about("L6: tested after Invalid Field, and before Server Limit Exceeded: 64 live keys, the last of them called pump; then the last serial.")
+    full_table(s)
+    s.put(body_at(63) + NAME_IN, name_field("pump"))
+    s.fails("L6 64 live keys, name taken", create(called("pump")), CREATE, NON_UNIQUE_NAME)
+    s.fails("L6 64 live keys, name not taken", create(called("tap")), CREATE, SERVER_LIMIT_EXCEEDED)
+    s.fails("L6 64 live keys, name taken, length 129", create(called("pump"), bits=129), CREATE, INVALID_FIELD)
+    s.fails("L6 64 live keys, name taken, activation 0", create(starts(0), called("pump")), CREATE, INVALID_FIELD)
+    s.fails("L6 64 live keys, name taken, of type 2", create(called("pump", 2)), CREATE, INVALID_FIELD)
+    s.put(0, lead(0xFFFFFFFF)[:4])
+    s.put(line_at(0), bytes(16))
+    s.fails("L6 last serial FFFFFFFF, name taken", create(called("pump")), CREATE, NON_UNIQUE_NAME)
+    s.fails("L6 last serial FFFFFFFF, name not taken", create(called("tap")), CREATE, SERVER_LIMIT_EXCEEDED)
+
+
+# names that are like "pump 001, left": with zero bytes or a blank behind it or before it, without its last letter, its first eight bytes, the
+# same in those alone, with another last letter, a capital letter, another byte in the middle
+PUMP = "pump 001, left"
+ALIKE = [PUMP + "\0", PUMP + "\0" * 18, PUMP + " ", " " + PUMP, PUMP[:-1], PUMP[:8]]
+ALIKE += ["pump 001; left", PUMP[:-1] + "s", "P" + PUMP[1:], PUMP.replace("0", "1")]
+
+
+def cards_of_names_alike(s):
+    s.about("L6: names are compared byte for byte, over their whole length: what is nearly a name is another. None of them is found, then each is given.")
+    s.blank()
+    s.card("L6 alike, the first key", (create(called(PUMP)), created(ONE)))
+    s.card("L6 alike, none is found", *[(locate(letters), found_none()) for letters in ALIKE])
+    s.card("L6 alike, each is given", *[(create(called(letters)), created(name_of(serial))) for serial, letters in enumerate(ALIKE, 2)])
+    s.card("L6 alike, each is found", *[(locate(letters), found(name_of(serial))) for serial, letters in enumerate([PUMP, *ALIKE], 1)])
+    again = [(create(called(letters)), failed(CREATE, NON_UNIQUE_NAME)) for letters in [PUMP, *ALIKE]]
+    s.card("L6 alike, each is taken", *again, option=CONTINUE)
+    s.about("L6: a and a with a zero byte, in the other order; 32 bytes that differ in the last; letters that look or count as the same elsewhere.")
+    s.blank()
+    names = ["a\0", "a", LONG, LONG[:31] + "2", LONG[:31], "é", "e\u0301", "É", "А", "A", "ß", "ss", "ﬀ", "ff"]
+    given = [(create(called(letters)), created(name_of(serial))) for serial, letters in enumerate(names, 1)]
+    s.card("L6 alike, given in one batch", given[0], (locate("a"), found_none()), *given[1:])
+    s.card("L6 alike, found in one batch", *[(locate(letters), found(name_of(serial))) for serial, letters in enumerate(names, 1)])
+
+
+def cards_of_locate(s):
+    s.about("L6: Locate answers the one identifier or an empty payload, and sets the placeholder or empties it. Keys: pump, destroyed tap, one without a name.")
+    s.blank()
+    s.card("L6 Locate on a blank table", (locate("pump"), found_none()))
+    assert response(found_none()).endswith(unhex("42007F05 00000004 00000000 00000000 42007C01 00000000"))
+    s.put(0, lead(3)[:4])
+    s.key(0, line(1, 1, 2), body(100, 100, 4, material(1), letters="pump"))
+    s.key(1, line(2, 5, 2), body(100, 50, 4, letters="tap"))
+    s.key(2, line(3, 1), body(0, 0, 4, material(3)))
+    before = lead(3) + line(1, 1, 2) + line(2, 5, 2) + line(3, 1) + bytes(16)
+    pump, tap = shown(ONE, 1, limit=(100, 100, 2), letters="pump"), shown(TWO, 5, limit=(100, 50, 2), letters="tap")
+    s.card("L6 Locate of pump", (locate("pump"), found(ONE)))
+    s.card("L6 Locate of tap, destroyed", (locate("tap"), found(TWO)))
+    s.card("L6 Locate of valve, none", (locate("valve"), found_none()))
+    s.card("L6 Locate with an ID", (locate("pump", id=b"one"), found(ONE, id=b"one")), (locate("valve", id=b"two"), found_none(id=b"two")))
+    s.card("L6 Locate of pump, then without identifier", (locate("pump"), found(ONE)), (attributes(), pump), (get(), handed(ONE, material(1))))
+    s.card(
+        "L6 Locate of tap, then without identifier",
+        (locate("tap"), found(TWO)),
+        (attributes(), tap),
+        (get(), failed(GET, OBJECT_DESTROYED)),
+        (attributes(), failed(GET_ATTRIBUTES, OBJECT_NOT_FOUND)),
+        option=CONTINUE,
+    )
+    s.card("L6 Locate of valve, then without identifier", (locate("valve"), found_none()), (attributes(), failed(GET_ATTRIBUTES, OBJECT_NOT_FOUND)))
+    s.card(
+        "L6 Locate sets the placeholder anew, and empties it",
+        (locate("tap"), found(TWO)),
+        (locate("pump"), found(ONE)),
+        (attributes(), pump),
+        (locate("valve"), found_none()),
+        (attributes(), failed(GET_ATTRIBUTES, OBJECT_NOT_FOUND)),
+        (locate("tap"), found(TWO)),
+        (attributes(), tap),
+        option=CONTINUE,
+    )
+    s.card("L6 Locate of none under Stop", (locate("valve"), found_none()), (locate("pump"), found(ONE)), (attributes(), pump), option=STOP)
+    s.card(
+        "L6 Locate that fails empties the placeholder",
+        (locate("pump"), found(ONE)),
+        (ask(LOCATE), failed(LOCATE, INVALID_FIELD)),
+        (attributes(), failed(GET_ATTRIBUTES, OBJECT_NOT_FOUND)),
+        option=CONTINUE,
+    )
+    s.table("L6 lead and lines after Locate, as they were", 0, before)
+    s.card(
+        "L6 Locate over the placeholder of a Create",
+        (create(), created(FOUR)),
+        (locate("pump"), found(ONE)),
+        (activate(), named(ACTIVATE, ONE)),
+        (allocate(None, 60), named(ALLOCATE, ONE)),
+        (create(), created(FIVE)),
+        (locate("valve"), found_none()),
+        (activate(), failed(ACTIVATE, OBJECT_NOT_FOUND)),
+        option=CONTINUE,
+    )
+    s.card(
+        "L6 Locate, then Revoke and Destroy without identifier",
+        (locate("pump"), found(ONE)),
+        (revoke(None, 1), named(REVOKE, ONE)),
+        (locate("pump"), found(ONE)),
+        (destroy(), named(DESTROY, ONE)),
+        (locate("pump"), found(ONE)),
+        (attributes(), shown(ONE, 5, limit=(100, 40, 2), activation=1, deactivation=1, letters="pump")),
+    )
+    s.card(
+        "L6 Locate in the batch of its Create",
+        (create(called("valve")), created(SIX)),
+        (create(), created(name_of(7))),
+        (locate("valve"), found(SIX)),
+        (activate(), named(ACTIVATE, SIX)),
+    )
+    s.about("L6: Locate finds the key at the last place of a full table, a destroyed one here, as well as that at the first.")
+    full_table(s)
+    s.put(line_at(63), line(64, 6))
+    s.put(body_at(63) + NAME_IN, name_field("last"))
+    s.put(body_at(0) + NAME_IN, name_field("first"))
+    s.card("L6 Locate at both ends of a full table", (locate("last"), found("00000040")), (locate("first"), found(ONE)), (locate("none"), found_none()))
+    s.about("L6: an accepted request with a Locate alone stores the clock, and what is due is done before it.")
+    dated_keys(s, 50, (1, 100))
+    s.put(body_at(0) + NAME_IN, name_field("pump"))
+    s.say("clock 100")
+    answer = shown(ONE, 2, limit=(100, 50, 2), activation=100, letters="pump")
+    s.card("L6 Locate at clock 100", (locate("pump"), found(ONE)), (attributes(), answer), clock=100)
+    s.table("L6 lead and line after Locate at clock 100", 0, lead(1, latest=100) + in_states(2))
+
+
+def cards_of_moved_names(s):
+    s.about("L6: Re-key moves the name from the old key to the new.")
+    s.blank()
+    s.card("L6 Re-key moves a name, Create", (create(limit(9, 1), called("pump")), created(ONE)))
+    s.card("L6 Re-key moves a name", (rekey(ONE), named(REKEY, TWO)))
+    s.table("L6 bodies after a name was moved", body_at(0), body(9, 9, 4, fresh(0, 16)) + body(9, 9, 4, fresh(0, 16), letters="pump"))
+    old, new = dict(limit=(9, 9, 1), replacement=TWO), dict(limit=(9, 9, 1), replaced=ONE)
+    s.card(
+        "L6 after a name was moved",
+        (attributes(ONE), shown(ONE, 1, **old)),
+        (attributes(TWO), shown(TWO, 1, letters="pump", **new)),
+        (locate("pump"), found(TWO)),
+        (get(), handed(TWO, fresh(0, 16))),
+        (create(called("pump")), failed(CREATE, NON_UNIQUE_NAME)),
+    )
+    s.about("L6: a Re-key that fails moves nothing: of a replaced key, of a destroyed one, with an Offset that does not fit, with nothing left to issue.")
+    s.fails("L6 Re-key of a key that was replaced", rekey(ONE), REKEY, PERMISSION_DENIED)
+    s.put(line_at(1), line(2, 1, 1, replaced=1, replacement=3))
+    s.put(0, lead(3)[:4])
+    s.fails("L6 Re-key of a key with a name and a replacement", rekey(TWO), REKEY, PERMISSION_DENIED)
+    s.card("L6 after a Re-key that was not permitted", (locate("pump"), found(TWO)), (destroy(), named(DESTROY, TWO)))
+    s.fails("L6 Re-key of a destroyed key with a name", rekey(TWO), REKEY, OBJECT_DESTROYED)
+    s.card("L6 after a Re-key of a destroyed key", (locate("pump"), found(TWO)))
+    s.card("L6 a key with a deactivation date alone", (create(ends(9), called("tap")), created(FOUR)))
+    s.fails("L6 Re-key with an Offset that does not fit", rekey(FOUR, offset(1)), REKEY, INVALID_FIELD)
+    s.put(0, lead(0xFFFFFFFF)[:4])
+    s.fails("L6 Re-key with nothing left to issue", rekey(FOUR), REKEY, SERVER_LIMIT_EXCEEDED)
+    s.card("L6 after Re-keys that failed", (locate("tap"), found(FOUR)), (attributes(), shown(FOUR, 1, deactivation=9, letters="tap")))
+    s.about("L6: of a key without a name nothing moves; and a name goes on with each Re-key, in one batch, by identifier and by placeholder, with an Offset.")
+    s.blank()
+    s.card(
+        "L6 Re-keys in one batch",
+        (create(called("pump")), created(ONE)),
+        (create(), created(TWO)),
+        (rekey(), named(REKEY, THREE)),
+        (attributes(), shown(THREE, 1, replaced=TWO)),
+        (locate("pump"), found(ONE)),
+        (rekey(), named(REKEY, FOUR)),
+        (attributes(ONE), shown(ONE, 1, replacement=FOUR)),
+        (locate("pump"), found(FOUR)),
+        (create(called("pump")), failed(CREATE, NON_UNIQUE_NAME)),
+        (rekey(FOUR, offset(9)), named(REKEY, FIVE)),
+        (locate("pump"), found(FIVE)),
+        (attributes(), shown(FIVE, 1, replaced=FOUR, activation=10, letters="pump")),
+        option=CONTINUE,
+    )
+    keys = [body(0, 0, 4, fresh(0, 16)), body(0, 0, 4, fresh(1, 16)), body(0, 0, 4, fresh(2, 16)), body(0, 0, 4, fresh(5, 16))]
+    s.table("L6 bodies after Re-keys in one batch", body_at(0), b"".join(keys) + body(0, 0, 4, fresh(9, 16), 10, letters="pump"))
+    s.about("L6: in every state that can be replaced, and the old key keeps all else.")
+    six_states(s)
+    for place in range(6):
+        s.put(body_at(place) + NAME_IN, name_field(f"key {place + 1}"))
+    results = ["00000007", "00000008", "00000009", "0000000A", OBJECT_DESTROYED, OBJECT_DESTROYED]
+    pairs = [(rekey(name_of(n)), named(REKEY, result) if isinstance(result, str) else failed(REKEY, result)) for n, result in enumerate(results, 1)]
+    s.card("L6 Re-key with names on states 1 to 6", *pairs, option=CONTINUE)
+    left = b"".join(stored(state) for state in range(1, 5)) + body(100, 50, 4, letters="key 5") + body(100, 50, 4, letters="key 6")
+    s.table("L6 old bodies after Re-key with names", body_at(0), left)
+    s.table("L6 new bodies after Re-key with names", body_at(6), b"".join(body(100, 100, 4, fresh(n, 16), letters=f"key {n + 1}") for n in range(4)))
+
+
+def cards_of_names_and_places(s):
+    s.about("L6: a full table, its destroyed keys at places 9, called pump, and 12, called tap. The name is tested before a place is chosen.")
+    full_table(s)
+    s.put(line_at(9), line(10, 5))
+    s.put(body_at(9) + NAME_IN, name_field("pump"))
+    s.put(line_at(12), line(13, 6))
+    s.put(body_at(12) + NAME_IN, name_field("tap"))
+    s.fails("L6 Create with the name of the key whose place it would take", create(called("pump")), CREATE, NON_UNIQUE_NAME)
+    s.fails("L6 Create with the name of the other destroyed key", create(called("tap")), CREATE, NON_UNIQUE_NAME)
+    s.table("L6 line of place 9, not taken", line_at(9), line(10, 5))
+    s.about("L6: a place that is taken over gives its name free, in the same batch already.")
+    s.card(
+        "L6 Creates in the places of keys with names",
+        (create(called("pump")), failed(CREATE, NON_UNIQUE_NAME)),
+        (create(), created("00000041")),
+        (locate("pump"), found_none()),
+        (attributes("0000000A"), failed(GET_ATTRIBUTES, OBJECT_NOT_FOUND)),
+        (create(called("pump")), created("00000042")),
+        (locate("tap"), found_none()),
+        (locate("pump"), found("00000042")),
+        (create(called("tap")), failed(CREATE, SERVER_LIMIT_EXCEEDED)),
+        option=CONTINUE,
+    )
+    s.table("L6 body of place 9 without a name", body_at(9), body(0, 0, 4, fresh(1, 16)))
+    s.table("L6 body of place 12 with the name pump", body_at(12), body(0, 0, 4, fresh(4, 16), letters="pump"))
+    s.about("L6: the same by Re-key, which takes its own name along; a shorter name leaves nothing of a longer one behind it.")
+    s.card("L6 place 12 destroyed", (destroy("00000042"), named(DESTROY, "00000042")))
+    s.put(body_at(12) + NAME_IN, name_field(LONG))
+    s.put(body_at(0) + NAME_IN, name_field("p"))
+    s.card(
+        "L6 Re-key in the place of a key with a name",
+        (locate(LONG), found("00000042")),
+        (rekey(ONE), named(REKEY, "00000043")),
+        (locate(LONG), found_none()),
+        (locate("p"), found("00000043")),
+    )
+    s.table("L6 body of place 12 with the name p", body_at(12), body(0, 0, 0, fresh(1, 16), letters="p"))
+    s.table("L6 name field of place 0, moved", body_at(0) + NAME_IN, bytes(40))
+
+
 # ---- refusals
 
 
@@ -1949,26 +2383,26 @@ def key_to_activate(s):
 
 
 def cards_of_refusals_1_to_4(s):
-    s.about("Refusals 1 and 2: output room below 5,336 bytes; strip not 512 bytes. The table shows that nothing was carried out.")
+    s.about("Refusals 1 and 2: output room below 6,360 bytes; strip not 512 bytes. The table shows that nothing was carried out.")
     key_to_activate(s)
     good = request(activate(ONE))
     s.say("room 0")
     s.refused("refusal 1, no room", good, 1)
-    for room in (4824, 5335):
+    for room in (4824, 5336, 6359):
         s.say(f"room {room}")
         s.refused(f"refusal 1, room {room}", good, 1)
     s.table("line after refusal 1", line_at(0), line(1, 1))
-    s.say("room 5336")
+    s.say("room 6360")
     for length in (0, 511, 513, 1024):
         s.say(f"strip {length}")
         s.refused(f"refusal 2, strip of {length}", good, 2)
     s.table("line after refusal 2", line_at(0), line(1, 1))
     s.say("strip 512")
-    s.about("Refusal 3: the table's size. That of 01, 4,624 bytes, is none any more.")
-    for length in (0, 15, 4624, 5647):
+    s.about("Refusal 3: the table's size. That of 01, 4,624 bytes, and that of L3, 5,648, are none any more.")
+    for length in (0, 15, 4624, 5648, 8192, 8207):
         s.say(f"size {length}")
         s.refused(f"refusal 3, table of {length} bytes", good, 3)
-    s.say("size 5648")
+    s.say("size 8208")
     s.table("line after refusal 3", line_at(0), line(1, 1))
     s.about("Refusal 4: request empty, or above 4,096 bytes; one of 4,096 is read.")
     s.refused("refusal 4, empty request", b"", 4)
@@ -1998,6 +2432,35 @@ def faults_of_dates():
         ("deactivation date before the activation date", (body_at(1) + ACTIVATION_IN, numbers(9, 8))),
         ("activation date of an Active key after the latest clock", (body_at(3) + ACTIVATION_IN, numbers(2))),
         ("activation date 1 of an Active key, latest clock 0", (body_at(3) + ACTIVATION_IN, numbers(1)), (LATEST_CLOCK, numbers(0))),
+    ]
+
+
+def faults_of_names():
+    """L6's, on the same table, whose keys have no names but these."""
+    at = lambda place: body_at(place) + NAME_IN
+    pump = name_field("pump")
+    return [
+        ("L6 unsound, a free body with a name", (at(5), name_field("p"))),
+        ("L6 unsound, a free body with the length of a name", (at(5), b"\1")),
+        ("L6 unsound, a free body with a name byte", (at(63) + 39, b"\1")),
+        ("L6 unsound, a name of 33 bytes", (at(3), b"\x21")),
+        ("L6 unsound, a name of 255 bytes", (at(2), b"\xff")),
+        ("L6 unsound, the first of a name's zeros", (at(3) + 1, b"\1")),
+        ("L6 unsound, the last of a name's zeros", (at(3), pump), (at(3) + 7, b"\x80")),
+        ("L6 unsound, a byte in the place of no name", (at(3) + 8, b"p")),
+        ("L6 unsound, a byte right behind a name", (at(3), pump), (at(3) + 12, b"\1")),
+        ("L6 unsound, a byte at the end behind a name", (at(2), name_field("x" * 31)), (at(2) + 39, b"x")),
+        ("L6 unsound, a name that is a tail alone", (at(3), name_field(b"\x80"))),
+        ("L6 unsound, a name that is overlong", (at(3), name_field(b"\xc1\xbf"))),
+        ("L6 unsound, a name with a surrogate", (at(2), name_field(b"pump \xed\xa0\x80"))),
+        ("L6 unsound, a name above 10FFFF", (at(3), name_field(b"\xf4\x90\x80\x80"))),
+        ("L6 unsound, a name cut by its length", (at(3), name_field(b"pump \xc3"))),
+        ("L6 unsound, a name cut by its length, the tail behind it", (at(3), name_field("pump é")), (at(3), b"\6")),
+        ("L6 unsound, a name cut by the end of its room", (at(3), name_field(b"x" * 30 + b"\xe2\x82"))),
+        ("L6 unsound, a name twice", (at(0), pump), (at(3), pump)),
+        ("L6 unsound, a name twice and another between", (at(0), pump), (at(1), name_field("tap")), (at(3), pump)),
+        ("L6 unsound, a name twice, one of a destroyed key", (at(2), pump), (at(3), pump)),
+        ("L6 unsound, a name of 32 bytes twice", (at(0), name_field(LONG)), (at(1), name_field(LONG))),
     ]
 
 
@@ -2056,11 +2519,12 @@ def cards_of_unsound_tables(s):
         ("old end of a link gone", (line_at(0) + 12, unhex("00000000"))),
         ("new end of a link gone", (line_at(1) + 8, unhex("00000000"))),
         *faults_of_dates(),
+        *faults_of_names(),
     ]:
         for at, octets in faults:
             s.put(at, octets)
-        s.refused(f"refusal 3, {name}", request(asked), 3)
-        for at, octets in faults:
+        s.refused(name if name.startswith("L6") else f"refusal 3, {name}", request(asked), 3)
+        for at, octets in reversed(faults):
             s.put(at, sound[at : at + len(octets)])
     s.table("table of four keys as it was", 0, sound[: line_at(5)])
     s.card("sound table of four keys again", (asked, shown(FOUR, 2, 192)))
@@ -2074,6 +2538,17 @@ def cards_of_sound_dates(s):
     s.about("L3, sound: dates that are the same, an Active key since the latest clock, a compromised and a destroyed key that would start later.")
     dated_keys(s, 1, (1, 9, 9), (2, 1), (4, 2**63 - 1), (5, 9, 2**63 - 1))
     s.card("sound table with dates at their edges", (attributes(TWO), shown(TWO, 2, limit=(100, 50, 2), activation=1)))
+
+
+def cards_of_sound_names(s):
+    s.about("L6, sound: names that differ in a zero byte at the end, in the last of 32 bytes, in their length alone; a destroyed key with a name, keys without.")
+    names = ["p", "p\0", LONG, LONG[:31] + "x", LONG[:31], "\0", "\0" * 32, "\U0010ffff", ""]
+    s.blank()
+    s.put(0, lead(9)[:4])
+    s.put(line_at(0), b"".join(line(serial, 5 if serial == 3 else 2) for serial in range(1, 10)))
+    s.put(body_at(0), b"".join(body(letters=letters) for letters in names))
+    pairs = [(locate(letters), found(name_of(serial))) for serial, letters in enumerate(names[:8], 1)]
+    s.card("L6 sound table with names", *pairs, (attributes("00000009"), shown("00000009", 2)))
 
 
 def cards_of_malformed_requests(s):
@@ -2179,10 +2654,10 @@ def cards_of_the_lowest_number(s):
     item = activate(ONE)
     s.put(7, b"\x3f")
     s.say("clock 0")
-    s.say("room 5335")
+    s.say("room 6359")
     s.say("strip 511")
     s.refused("lowest of 1, 2, 3, 4 and 10", b"", 1)
-    s.say("room 5336")
+    s.say("room 6360")
     s.refused("lowest of 2, 3, 4 and 10", b"", 2)
     s.say("strip 512")
     s.refused("lowest of 3, 4 and 10", b"", 3)
@@ -2218,8 +2693,8 @@ def cards_of_bad_lines(s):
         "put 4 0",
         "put 4 0G",
         "put 4 ff",
-        "put 5648 00",
-        "put 5647 0000",
+        "put 8208 00",
+        "put 8207 0000",
         "put 18446744073709551616 00",
         "clock",
         "clock x",
@@ -2230,7 +2705,7 @@ def cards_of_bad_lines(s):
         "clock 18446744073709551616",
         "room",
         "room -1",
-        "room 5336 ",
+        "room 6360 ",
         "strip 5x",
         "size",
         "request 42",
@@ -2240,14 +2715,14 @@ def cards_of_bad_lines(s):
         "table no numbers: ",
         "table one number: 4",
         "table three numbers: 4 4 4",
-        "table beyond: 5644 5",
+        "table beyond: 8204 5",
         "table far beyond: 18446744073709551609 18446744073709551609",
         "output beyond: 8192 1",
     ]:
         s.bad(line)
     s.table("table after bad lines", 0, lead(0, latest=0))
     s.about("More lent than there is.")
-    for verb, most in [("room", 8192), ("strip", 1024), ("size", 5648)]:
+    for verb, most in [("room", 8192), ("strip", 1024), ("size", 8208)]:
         s.blank()
         s.say(f"{verb} {most + 1}")
         s.name(f"{verb} {most + 1}")
@@ -2260,12 +2735,12 @@ def all_cards():
     s.say("# The bench cards of document 01, and one success and each failure of each operation, each refusal, and what the table holds after some of them.")
     s.say("# Written by make_cards.py, together with what is expected of it. The commands, one a line; numbers are decimal, and blanks between bytes are skipped:")
     for command in [
-        "blank                       a blank table, an output full of FF, clock 1, room 5336, strip 512 (the bytes 0 to 255 twice), size 5648",
+        "blank                       a blank table, an output full of FF, clock 1, room 6360, strip 512 (the bytes 0 to 255 twice), size 8208",
         "put OFFSET HEX              lays bytes over the table",
         "clock NUMBER                the clock from here on, from -2^63 to 2^63 - 1",
         "room NUMBER                 how many bytes of output are lent from here on, at most 8192",
         "strip NUMBER                how many bytes of the strip, at most 1024",
-        "size NUMBER                 how many bytes of the table, at most 5648",
+        "size NUMBER                 how many bytes of the table, at most 8208",
         "request NAME: HEX           serves a request of at most 8192 bytes, and prints NAME and the response, or the refusal",
         "table NAME: OFFSET LENGTH   prints NAME and bytes of the table",
         "output NAME: OFFSET LENGTH  prints NAME and bytes of the output",
@@ -2319,9 +2794,17 @@ def all_cards():
         cards_of_other_letters,
         cards_of_no_text,
         cards_of_texts_elsewhere,
+        cards_of_names,
+        cards_of_wrong_names,
+        cards_of_taken_names,
+        cards_of_names_alike,
+        cards_of_locate,
+        cards_of_moved_names,
+        cards_of_names_and_places,
         cards_of_refusals_1_to_4,
         cards_of_unsound_tables,
         cards_of_sound_dates,
+        cards_of_sound_names,
         cards_of_malformed_requests,
         cards_of_wrong_frames,
         cards_of_refusals_7_to_9,

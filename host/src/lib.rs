@@ -14,11 +14,11 @@ pub mod program;
 pub use archive::serve;
 
 /// Bytes of output room that no response exceeds; a call with less is refused.
-pub const ROOM: usize = 5336;
+pub const ROOM: usize = 6360;
 /// Bytes of the fresh strip.
 pub const STRIP: usize = 512;
 /// Bytes of the stored table.
-pub const TABLE: usize = 5648;
+pub const TABLE: usize = 8208;
 /// Bytes of the longest request that is read.
 pub const REQUEST: usize = 4096;
 

@@ -108,7 +108,7 @@ pub fn item(operation: u32, id: Option<&[u8]>, payload: Vec<Node>) -> Node {
     structure(0x42000F, fields)
 }
 
-/// The payload of a Create: AES of this length and mask, a limit of (total, unit) if any, and no dates.
+/// The payload of a Create: AES of this length and mask, a limit of (total, unit) if any, no dates and no name.
 pub fn create(length: i32, mask: i32, limit: Option<(i64, u32)>) -> Vec<Node> {
     create_dated(length, mask, limit, (None, None))
 }
@@ -128,6 +128,24 @@ pub fn create_dated(
     attributes.extend(activation.map(|date| date_time(0x420001, date)));
     attributes.extend(deactivation.map(|date| date_time(0x42002F, date)));
     vec![enumeration(0x420057, 2), structure(0x420125, attributes)]
+}
+
+/// The payload of a Create with one attribute more, behind the others: its name, mostly.
+pub fn create_with(mut payload: Vec<Node>, attribute: Node) -> Vec<Node> {
+    if let Some(Node { body: Body::Nodes(attributes), .. }) = payload.last_mut() {
+        attributes.push(attribute);
+    }
+    payload
+}
+
+/// A Name of this text, which is uninterpreted.
+pub fn name(value: &str) -> Node {
+    structure(0x420053, vec![text(0x420055, value), enumeration(0x420054, 1)])
+}
+
+/// The payload of Locate.
+pub fn location(value: &str) -> Vec<Node> {
+    vec![structure(0x420125, vec![name(value)])]
 }
 
 /// The payload of Re-key without Offset, Activate, Destroy, Get and Get Attributes: the identifier, or nothing.

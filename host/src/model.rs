@@ -33,7 +33,7 @@ pub fn serve(request: &[u8], table: &mut [u8], fresh: &[u8], clock: i64, out: &m
 
 /// The request as it is read, or the lowest refusal that applies.
 fn accept(request: &[u8], table: &[u8], fresh: &[u8], clock: i64, room: usize) -> Result<Request, Refusal> {
-    refuse_if(room < 5336, Refusal::Room)?;
+    refuse_if(room < 6360, Refusal::Room)?;
     refuse_if(fresh.len() != 512, Refusal::Strip)?;
     refuse_if(!soundness::broken(table).is_empty(), Refusal::Table)?;
     refuse_if(request.is_empty() || request.len() > 4096, Refusal::Size)?;

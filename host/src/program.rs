@@ -50,7 +50,7 @@ fn watch() {
     }
 }
 
-/// Serves one request, as the engine does, on buffers that the program can hold: at most 8,192 bytes, the strip 1,024.
+/// Serves one request, as the engine does, on buffers that the program can hold: docs/CONTRACTS.md says how large.
 pub fn serve(request: &[u8], table: &mut [u8], fresh: &[u8], clock: i64, out: &mut [u8]) -> Served {
     let mut pipes = PIPES.lock().expect("no call of the program failed before");
     let case = case(request, table, fresh, clock, out);

@@ -4,7 +4,7 @@
 mod support;
 
 use junctionmoth::message::*;
-use junctionmoth::model::table::{Record, Table};
+use junctionmoth::model::table::{Name, Record, Table};
 use junctionmoth::model::ttlv::{self, Item, Value};
 use junctionmoth::{blank_table, Refusal, Served};
 use support::coverage::results;
@@ -12,6 +12,7 @@ use support::{engines, unhex, Case, Effect};
 
 const CREATE: u32 = 0x01;
 const REKEY: u32 = 0x04;
+const LOCATE: u32 = 0x08;
 const ALLOCATE: u32 = 0x11;
 const ACTIVATE: u32 = 0x12;
 const REVOKE: u32 = 0x13;
@@ -21,6 +22,7 @@ const ATTRIBUTES: u32 = 0x0B;
 const INVALID_FIELD: Option<u32> = Some(0x07);
 const PERMISSION_DENIED: Option<u32> = Some(0x0C);
 const USAGE_LIMIT_EXCEEDED: Option<u32> = Some(0x1A);
+const NON_UNIQUE_NAME: Option<u32> = Some(0x35);
 const OBJECT_DESTROYED: Option<u32> = Some(0x36);
 const OBJECT_NOT_FOUND: Option<u32> = Some(0x37);
 const SERVER_LIMIT_EXCEEDED: Option<u32> = Some(0x3A);
@@ -47,6 +49,14 @@ fn refusal(bytes: &str) -> Served {
 
 fn new_key(limit: Option<(i64, u32)>) -> Node {
     item(CREATE, None, create(128, 4, limit))
+}
+
+fn new_key_named(text: &str) -> Node {
+    item(CREATE, None, create_with(create(128, 4, None), name(text)))
+}
+
+fn locate(text: &str) -> Node {
+    item(LOCATE, None, location(text))
 }
 
 fn on(operation: u32, name: Option<&str>) -> Node {
@@ -275,11 +285,11 @@ fn a_bad_create_stops_the_batch_or_empties_the_placeholder() {
 }
 
 #[test]
-fn output_of_5335_is_too_small() {
+fn output_of_6359_is_too_small() {
     let mut case = Case::new(batch(None, vec![new_key(None)]), blank_table().to_vec());
-    case.room = 5335;
+    case.room = 6359;
     assert_eq!(case.run_all(&engines(), "card").served, Err(Refusal::Room));
-    case.room = 5336;
+    case.room = 6360;
     assert_eq!(case.run_all(&engines(), "card").served, Ok(168));
 }
 
@@ -366,19 +376,90 @@ fn create_is_written_and_answered_with_the_printed_bytes() {
     assert_eq!((key.state, key.length, key.mask, key.material[16..].to_vec()), (1, 128, 4, vec![0; 16]));
 }
 
-/// Sizes of answers: Get Attributes at its fullest, with both dates, sixteen times makes 5,336 bytes.
+/// The name "pump" as the papers have it, written and shown; behind everything else that is optional.
 #[test]
-fn the_longest_response_has_5336_bytes() {
-    let first = item(CREATE, None, create_dated(128, 4, Some((5, 1)), (Some(8), Some(9))));
-    let setup = vec![first, on(REKEY, None), on(REKEY, None)];
-    let table = call(batch(None, setup), &blank_table()).table;
-    let items = (0..16).map(|_| item(ATTRIBUTES, Some(&[7; 16]), target(Some("00000002")))).collect();
-    assert_eq!(call(batch(Some(2), items), &table).served, Ok(5336));
+fn the_printed_name_is_written_and_shown_last() {
+    let printed = "42005301 00000020 42005507 00000004 70756D70 00000000 42005405 00000004 00000001 00000000";
+    assert_eq!(name("pump").encode(), unhex(printed));
+    let full = create_with(create_dated(128, 4, Some((5, 1)), (Some(8), Some(9))), name("pump"));
+    let setup = vec![item(CREATE, None, full), on(REKEY, None), on(ATTRIBUTES, None)];
+    let effect = call(batch(None, setup), &blank_table());
+    assert_eq!(reasons(&effect), [None; 3]);
+    assert!(response(&effect).ends_with(&unhex(printed)), "behind the link");
+    assert_eq!((record(&effect, 0).name.text(), record(&effect, 1).name.text()), (None, Some(&b"pump"[..])));
+    let body = 16 + 64 * 16 + 112 + 72;
+    assert_eq!(effect.table[body..body + 40], unhex(&format!("04 00000000000000 70756D70 {}", "00".repeat(28))));
+}
+
+#[test]
+fn a_name_is_given_once() {
+    let one = Some("00000001");
+    let items = vec![new_key_named("pump"), new_key_named("pump"), on(ACTIVATE, None), new_key_named("pump 2")];
+    let effect = call(batch(Some(1), items), &blank_table());
+    assert_eq!(reasons(&effect), [None, NON_UNIQUE_NAME, OBJECT_NOT_FOUND, None]);
+    let destroyed = call(batch(None, vec![on(DESTROY, one), new_key_named("pump")]), &effect.table);
+    assert_eq!(reasons(&destroyed), [None, NON_UNIQUE_NAME]);
+    assert_eq!(record(&destroyed, 0).name.text(), Some(&b"pump"[..]));
+}
+
+/// Locate answers one identifier, 16 bytes, or an empty payload.
+#[test]
+fn locate_sets_the_placeholder_or_empties_it() {
+    let table = call(batch(None, vec![new_key_named("pump"), new_key(None)]), &blank_table()).table;
+    let found = call(batch(None, vec![locate("pump"), on(ATTRIBUTES, None)]), &table);
+    assert_eq!(reasons(&found), [None; 2]);
+    let head = "42000F01 00000038 42005C05 00000004 00000008 00000000 42007F05 00000004 00000000 00000000 42007C01 \
+        00000010 42009407 00000008 30303030 30303031";
+    assert_eq!(response(&found)[88..152], unhex(head));
+    let lost = call(batch(None, vec![new_key(None), locate("Pump"), on(ATTRIBUTES, None)]), &table);
+    assert_eq!(reasons(&lost), [None, None, OBJECT_NOT_FOUND]);
+    let head = "42000F01 00000028 42005C05 00000004 00000008 00000000 42007F05 00000004 00000000 00000000 42007C01 \
+        00000000 42000F01";
+    assert_eq!(response(&lost)[168..220], unhex(head));
+}
+
+/// A name counts until the place of its destroyed key is taken over; the name is tested before the place is chosen.
+#[test]
+fn a_taken_place_frees_its_name() {
+    let mut table = full_table();
+    table.places[9].state = 5;
+    table.places[9].name = Name::of(b"pump");
+    let items = vec![new_key_named("pump"), locate("pump"), new_key(None), locate("pump"), new_key_named("pump")];
+    let effect = call(batch(Some(1), items), &table.encode());
+    assert_eq!(reasons(&effect), [NON_UNIQUE_NAME, None, None, None, SERVER_LIMIT_EXCEEDED]);
+    assert_eq!((record(&effect, 9).serial, record(&effect, 9).name), (65, Name::default()));
+    table.places[3].name = Name::of(b"valve");
+    table.places[9].state = 4;
+    let full = call(batch(Some(1), vec![new_key_named("valve"), new_key_named("tap")]), &table.encode());
+    assert_eq!(reasons(&full), [NON_UNIQUE_NAME, SERVER_LIMIT_EXCEEDED]);
+}
+
+/// Sizes of answers: Get Attributes at its fullest, with both dates and a name of 32 bytes, sixteen times makes 6,360 bytes.
+#[test]
+fn the_longest_response_has_6360_bytes() {
+    let first = create_with(create_dated(128, 4, Some((5, 1)), (Some(8), Some(9))), name(&"é".repeat(16)));
+    let setup = vec![item(CREATE, None, first), on(REKEY, None), on(REKEY, None)];
+    let mut table = Table::decode(&call(batch(None, setup), &blank_table()).table);
+    let items = || (0..16).map(|_| item(ATTRIBUTES, Some(&[7; 16]), target(Some("00000002")))).collect();
+    assert_eq!(call(batch(Some(2), items()), &table.encode()).served, Ok(5336), "the name has been moved on");
+    table.places[1].name = Name::of(&[b'x'; 32]);
+    assert_eq!(call(batch(Some(2), items()), &table.encode()).served, Ok(6360));
+}
+
+/// Fifteen Creates with everything and IDs of 16 bytes fit into a request, sixteen do not.
+#[test]
+fn fifteen_full_creates_are_a_request() {
+    let full =
+        |at: usize| create_with(create_dated(256, 4, Some((5, 1)), (Some(8), Some(9))), name(&format!("{at:032}")));
+    let creates = |number| batch(Some(1), (0..number).map(|at| item(CREATE, Some(&[7; 16]), full(at))).collect());
+    assert_eq!((creates(15).len(), creates(16).len()), (4048, 4312));
+    assert_eq!(reasons(&call(creates(15), &blank_table())), [None; 15]);
+    assert_eq!(call(creates(16), &blank_table()).served, Err(Refusal::Size));
 }
 
 #[test]
 fn the_model_loses_no_byte_of_a_table() {
     let mut rng = support::rng::Rng::new(1);
-    let bytes = rng.bytes(5648);
+    let bytes = rng.bytes(8208);
     assert_eq!(Table::decode(&bytes).encode(), bytes);
 }

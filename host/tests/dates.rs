@@ -4,9 +4,9 @@
 
 mod support;
 
-use junctionmoth::message::{allocation, create_dated, item, replacement, request, revocation, target, Node};
+use junctionmoth::message::{allocation, create_dated, item, location, replacement, request, revocation, target, Node};
 use junctionmoth::model::soundness;
-use junctionmoth::model::table::{Record, Table};
+use junctionmoth::model::table::{Name, Record, Table};
 use junctionmoth::Refusal;
 use support::coverage::results;
 use support::coverage::Coverage;
@@ -19,7 +19,7 @@ const DATES: [i64; 5] = [0, NOW - 1, NOW, NOW + 1, -1];
 /// Clocks: the one given and the latest seen.
 const CLOCKS: [(i64, i64); 6] = [(NOW, 0), (NOW, NOW), (NOW - 5, NOW), (1, NOW), (0, NOW), (NOW, -1)];
 
-/// A table with one key.
+/// A table with one key, called pump.
 fn table_of(state: u8, activation: i64, deactivation: i64, latest: i64) -> Vec<u8> {
     let mut table = Table::blank();
     (table.last, table.latest) = (1, latest);
@@ -35,6 +35,7 @@ fn table_of(state: u8, activation: i64, deactivation: i64, latest: i64) -> Vec<u
         material,
         activation,
         deactivation,
+        name: Name::of(b"pump"),
         ..Record::default()
     };
     table.encode()
@@ -49,6 +50,7 @@ fn items(activation: i64, deactivation: i64) -> Vec<Node> {
     items.extend([0, 1, u32::MAX].map(|offset| item(0x04, None, replacement(name, offset))));
     items.push(item(0x11, None, allocation(name, 50)));
     items.extend([1, 2].map(|code| item(0x13, None, revocation(name, code))));
+    items.push(item(0x08, None, location("pump")));
     items.push(item(0x01, None, create_dated(128, 4, None, (set(activation), set(deactivation)))));
     items
 }

@@ -1,9 +1,9 @@
-//! Runs of requests on one table from blank on: the third demand, and the clock, kept by a ledger beside the box.
+//! Runs of requests on one table from blank on: the third demand, the clock, and names, kept by a ledger beside the box.
 //! The ledger reads requests and responses only; the table is looked at to compare.
 
 mod support;
 
-use junctionmoth::message::{item, request, target, Node};
+use junctionmoth::message::{item, location, request, target, Node};
 use junctionmoth::model::frame::{self, BatchItem};
 use junctionmoth::model::operations::identifier;
 use junctionmoth::model::payload::{self, Action, Order, Target};
@@ -12,6 +12,8 @@ use junctionmoth::model::table::Table;
 use junctionmoth::model::tags::*;
 use junctionmoth::model::ttlv::{self, Item};
 use std::collections::{BTreeMap, BTreeSet};
+use support::holders::Holders;
+use support::names::near;
 use support::rng::Rng;
 use support::{engines, requests, Case, Effect};
 
@@ -48,6 +50,12 @@ struct Ledger {
     went_back: u64,
     /// Items that asked for the key of a destroyed identifier; each failed.
     asked_dead: u64,
+    /// Who has which name.
+    holders: Holders,
+    /// Every name that a record ever had.
+    names: BTreeSet<String>,
+    /// What occurred with names, and how often.
+    events: BTreeMap<&'static str, u64>,
     /// Replacements by Re-key with an Offset, those that had begun at once, and those that had ended at once.
     moved: u64,
     begun: u64,
@@ -58,6 +66,9 @@ impl Ledger {
     /// Enters the clock and the successful items of an answered request.
     fn enter(&mut self, clock: i64, request: &[u8], response: &[u8]) {
         self.largest_clock = self.largest_clock.max(clock);
+        for event in self.holders.follow(request, response).events {
+            *self.events.entry(event).or_default() += 1;
+        }
         let asked = frame::read(&ttlv::read(request).expect("read")).expect("framed");
         let message = ttlv::read(response).expect("one well-formed item");
         let answers = &message.structure(RESPONSE_MESSAGE).expect("a Response Message")[1..];
@@ -70,7 +81,11 @@ impl Ledger {
                 continue;
             };
             let order = payload::read(item.operation, &item.payload).expect("a successful item has an order");
-            self.enter_success(&order, named(payload), &mut placeholder);
+            if let Order::Locate(_) = order {
+                placeholder = named(payload);
+                continue;
+            }
+            self.enter_success(&order, named(payload).expect("an identifier"), &mut placeholder);
         }
     }
 
@@ -93,6 +108,7 @@ impl Ledger {
                 let new = Issued { total, granted: 0, activation, deactivation, replaces: false };
                 return self.issue(answered, new);
             }
+            Order::Locate(_) => return,
             Order::Target(Target::Placeholder, action) => (placeholder.expect("the placeholder is set"), action),
             Order::Target(Target::Identifier(text), action) => (serial(text), action),
         };
@@ -155,9 +171,14 @@ impl Ledger {
 
     /// For every record that stands, granted and left make the total, and the dates are those that were set; one that
     /// was Deactivated is neither Pre-Active nor Active again. The stored clock is the largest that was accepted. An
-    /// Active key has begun and a Deactivated one has ended; a replacement is never behind its dates.
+    /// Active key has begun and a Deactivated one has ended; a replacement is never behind its dates. Names stand where they
+    /// were given or moved to, and no two are the same.
     fn compare(&mut self, table: &Table) {
         assert_eq!(table.latest, self.largest_clock);
+        assert!(self.holders == Holders::of(table), "names are not where the ledger has them");
+        let names: Vec<&[u8]> = table.standing().filter_map(|record| record.name.text()).collect();
+        assert_eq!(names.iter().collect::<BTreeSet<_>>().len(), names.len(), "two records have the same name");
+        self.names.extend(names.into_iter().map(|name| String::from_utf8(name.to_vec()).expect("text")));
         for record in table.standing() {
             let issued = self.issued.get(&record.serial).expect("every record was issued");
             assert_eq!(issued.granted + record.count, issued.total, "serial {}", record.serial);
@@ -177,10 +198,9 @@ impl Ledger {
     }
 }
 
-/// The serial that an answer names.
-fn named(payload: &[Item]) -> u32 {
-    let text = payload.iter().find_map(|field| field.text(UNIQUE_IDENTIFIER)).expect("an identifier");
-    u32::from_str_radix(text, 16).expect("hex digits")
+/// The serial that an answer names, if it names one.
+fn named(payload: &[Item]) -> Option<u32> {
+    payload.iter().find_map(|field| field.text(UNIQUE_IDENTIFIER)).map(serial)
 }
 
 fn serial(text: &str) -> u32 {
@@ -218,14 +238,31 @@ fn gets_of_destroyed(table: &Table) -> Node {
     request(Some(1), gets.collect())
 }
 
+/// Locates by names that records have or had, or nearly such, each followed by a Get Attributes without identifier.
+fn locates(rng: &mut Rng, names: &BTreeSet<String>) -> Node {
+    let names: Vec<&String> = names.iter().collect();
+    let mut items = Vec::new();
+    for _ in 0..8 {
+        let Some(&name) = (!names.is_empty()).then(|| rng.pick(&names)).as_ref() else { break };
+        let name = if rng.one_in(4) { near(rng, name) } else { name.clone() };
+        items.extend([item(LOCATE, None, location(&name)), item(GET_ATTRIBUTES, None, target(None))]);
+    }
+    if items.is_empty() {
+        items.push(item(LOCATE, None, location("pump")));
+    }
+    request(Some(1), items)
+}
+
 /// A request on the table of now: spoilt sometimes, accepted mostly.
-fn next_request(rng: &mut Rng, table: &Table) -> Vec<u8> {
-    let mut bytes = match rng.below(20) {
+fn next_request(rng: &mut Rng, table: &Table, names: &BTreeSet<String>) -> Vec<u8> {
+    let mut bytes = match rng.below(24) {
         0..=1 => requests::edited(rng, table).encode(),
         2..=3 => requests::wrong_numbers(rng, table).encode(),
         4..=5 => requests::creations(rng, table).encode(),
         6 => requests::renewals(rng, table).encode(),
         7 => gets_of_destroyed(table).encode(),
+        8..=9 => locates(rng, names).encode(),
+        10..=11 => requests::about_a_name(rng, table).encode(),
         _ => requests::accepted(rng, table).encode(),
     };
     if rng.one_in(20) {
@@ -245,7 +282,7 @@ fn next_clock(rng: &mut Rng, latest: i64) -> i64 {
 }
 
 fn step(rng: &mut Rng, table: &Table, ledger: &mut Ledger) -> Effect {
-    let mut case = Case::new(next_request(rng, table), table.encode());
+    let mut case = Case::new(next_request(rng, table, &ledger.names), table.encode());
     case.fresh = rng.bytes(512);
     case.clock = next_clock(rng, table.latest);
     let effect = case.run_all(&engines(), "history");
@@ -261,12 +298,30 @@ fn step(rng: &mut Rng, table: &Table, ledger: &mut Ledger) -> Effect {
     effect
 }
 
+/// What must have occurred with names, and how often over all runs.
+const NAMES: [(&str, u64); 12] = [
+    ("Create with a name that a key has: Non Unique Name Attribute", 100),
+    ("Create with a name that a destroyed key has: Non Unique Name Attribute", 100),
+    ("Create with a name that a key of the same batch has: Non Unique Name Attribute", 100),
+    ("Create with the name of the key whose place it would take: Non Unique Name Attribute", 5),
+    ("Create in the place of a key with a name", 100),
+    ("Re-key of a key with a name", 100),
+    ("Re-key of a key that got its name by Re-key in the same batch", 5),
+    ("Re-key that fails, of a key with a name", 100),
+    ("Locate of a key", 100),
+    ("Locate of a destroyed key", 100),
+    ("Locate of none", 100),
+    ("placeholder of a Locate that found a destroyed record used", 100),
+];
+
 #[test]
-fn grants_are_counted_and_destroyed_keys_stay_so() {
+fn grants_are_counted_destroyed_keys_stay_so_and_names_stand_once() {
     let (mut grants, mut full, mut taken_over) = (0, 0, 0);
     let (mut handed_out, mut asked_dead) = (0, 0);
     let (mut went_back, mut stopped) = (0, 0);
     let (mut moved, mut begun, mut ended) = (0, 0, 0);
+    let mut events: BTreeMap<&str, u64> = BTreeMap::new();
+    let (mut given, mut gone) = (0, 0);
     for seed in 0..200 {
         let mut rng = Rng::new(seed);
         let mut table = Table::blank();
@@ -281,6 +336,11 @@ fn grants_are_counted_and_destroyed_keys_stay_so() {
         went_back += ledger.went_back;
         stopped += ledger.stopped.len();
         (moved, begun, ended) = (moved + ledger.moved, begun + ledger.begun, ended + ledger.ended);
+        for (event, times) in ledger.events {
+            *events.entry(event).or_default() += times;
+        }
+        given += ledger.names.len();
+        gone += ledger.names.iter().filter(|name| ledger.holders.holder(name.as_bytes()).is_none()).count();
         full += u32::from(table.standing().count() == 64);
         taken_over += u32::from(ledger.issued.len() > 64);
     }
@@ -292,4 +352,11 @@ fn grants_are_counted_and_destroyed_keys_stay_so() {
     assert!(handed_out > 100 && asked_dead > 100);
     assert!(went_back > 100 && stopped > 100);
     assert!(moved > 100 && begun > 100 && ended > 100);
+    println!("{given} names were given, of which {gone} were free again at the end");
+    assert!(given > 100 && gone > 100);
+    for (event, least) in NAMES {
+        let times = events.get(event).copied().unwrap_or(0);
+        println!("{times:>10}  {event}");
+        assert!(times >= least, "too seldom: {event}");
+    }
 }

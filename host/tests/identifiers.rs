@@ -4,9 +4,9 @@
 
 mod support;
 
-use junctionmoth::message::{item, raw_text, request};
+use junctionmoth::message::{item, location, raw_text, request};
 use junctionmoth::model::operations::{identifier, Reason};
-use junctionmoth::model::table::{Record, Table};
+use junctionmoth::model::table::{Name, Record, Table};
 use junctionmoth::Refusal;
 use std::collections::BTreeSet;
 use support::coverage::results;
@@ -177,4 +177,28 @@ fn texts_of(digits: &str, length: usize) -> Vec<Vec<u8>> {
         }
     }
     texts
+}
+
+/// Names that are the texts of serials, of a key or of none, and identifiers that are names.
+#[test]
+fn a_name_is_no_identifier_and_an_identifier_no_name() {
+    let engines = engines();
+    let mut table = Table::decode(&table_of(&BTreeSet::from([1, 2, 3, 5])));
+    for (place, name) in ["", "00000001", "00000004", "pump"].into_iter().enumerate() {
+        table.places[place].name = Name::of(name.as_bytes());
+    }
+    let table = table.encode();
+    for (text, serial, named) in [
+        ("00000001", Some(1), Some(2)),
+        ("00000002", Some(2), None),
+        ("00000004", None, Some(3)),
+        ("pump", None, Some(5)),
+    ] {
+        let digits = |serial: Option<u32>| serial.map(|serial| identifier(serial).into_bytes());
+        let effect = asked(&[text], &table).run_all(&engines, "identifiers");
+        assert_eq!(shown(&effect), digits(serial), "{text} as an identifier");
+        let locate = request(None, vec![item(0x08, None, location(text))]).encode();
+        let effect = Case::new(locate, table.clone()).run_all(&engines, "identifiers");
+        assert_eq!(shown(&effect), digits(named), "{text} as a name");
+    }
 }

@@ -147,7 +147,12 @@ fn bench_prints_responses_in_hex() {
     let longest = request(Some(1), vec![create_item(); 16]);
     let failed = request(Some(1), vec![item(0x12, Some(&[7; 16]), vec![]); 16]);
     let foreign = request(None, vec![item(0x12, None, target(Some("ключ")))]);
-    for (case, message) in [("16 items", longest), ("16 items that fail", failed), ("other letters", foreign)] {
+    let named = || item(0x01, None, create_with(create(128, 4, None), name("Förderband")));
+    let named =
+        request(Some(1), vec![named(), named(), item(0x08, None, location("Förderband")), item(0x0B, None, vec![])]);
+    for (case, message) in
+        [("16 items", longest), ("16 items that fail", failed), ("other letters", foreign), ("a name", named)]
+    {
         let input = message.encode();
         let effect = Case::new(input.clone(), blank_table().to_vec()).run(model::serve);
         let response = hex(&effect.out[..effect.served.expect("an answer")]);

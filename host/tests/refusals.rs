@@ -46,7 +46,7 @@ impl Faults {
         let mut case = Case::new(request, blank_table().to_vec());
         case.table[7] = if self.has(Refusal::Table) { 63 } else { 64 };
         case.fresh.truncate(if self.has(Refusal::Strip) { 511 } else { 512 });
-        case.room = if self.has(Refusal::Room) { 5335 } else { 5336 };
+        case.room = if self.has(Refusal::Room) { 6359 } else { 6360 };
         case.clock = if self.has(Refusal::Clock) { 0 } else { 1 };
         case
     }

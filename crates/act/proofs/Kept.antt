@@ -27,9 +27,9 @@ use Rattle.changes.proofs.Material.{bytes-material}
 use Rattle.octets.proofs.Zeros.{bytes-zeros}
 use Rattle.batch_item.specs.Item.{Asked}
 use Rattle.payload.specs.declared.Command.{Command}
-use Rattle.payload.specs.declared.Command.the-variants.{Unsupported, Invalid, Create, Rekey, GetUsageAllocation, Activate, Revoke, Destroy, GetAttributes, Get}
+use Rattle.payload.specs.declared.Command.the-variants.{Unsupported, Invalid, Create, Rekey, GetUsageAllocation, Activate, Revoke, Destroy, GetAttributes, Get, Locate}
 use Rattle.payload.specs.Payload.{command}
-use Rattle.plans.specs.Plans.{Env, Did, Plan, carried, createPlan, rekeyPlan, allocationPlan, activatePlan, revokePlan, destroyPlan, showPlan, getPlan, inPlaces}
+use Rattle.plans.specs.Plans.{Env, Did, Plan, carried, createPlan, rekeyPlan, allocationPlan, activatePlan, revokePlan, destroyPlan, showPlan, getPlan, locatePlan, inPlaces}
 use Rattle.act.specs.Act.{sought, onFound, plan, step, performing}
 
 -- bytes, as many as before
@@ -83,7 +83,7 @@ module _ (env : Env) (holder : ℕ) (t : List ℕ) (h : Bytes t) (g : Bytes (env
 
   -- what a plan does keeps the table one of bytes, as many as before
   pub plan-kept : (c : Command) → Kept t (plan env holder t c .did .table)
-  unfolding plan createPlan rekeyPlan allocationPlan activatePlan revokePlan destroyPlan showPlan getPlan withBorn newRecord withCount
+  unfolding plan createPlan rekeyPlan allocationPlan activatePlan revokePlan destroyPlan showPlan getPlan locatePlan withBorn newRecord withCount
   plan-kept Unsupported = kept-same t h
   plan-kept Invalid = kept-same t h
   plan-kept (Create wanted) = kept-born (env .places) t h _ (bytes-material (wanted .bits) (env .fresh) g) (newPlace (env .places) t)
@@ -95,6 +95,7 @@ module _ (env : Env) (holder : ℕ) (t : List ℕ) (h : Bytes t) (g : Bytes (env
   plan-kept (Destroy target) = kept-found (destroyPlan env holder t) (λ i. kept-moved destroy 0 i) (find (env .places) t (sought holder target))
   plan-kept (GetAttributes target) = kept-found (showPlan env holder t) (λ i. kept-same t h) (find (env .places) t (sought holder target))
   plan-kept (Get target) = kept-found (getPlan env holder t) (λ i. kept-same t h) (find (env .places) t (sought holder target))
+  plan-kept (Locate name) = kept-same t h
 
   -- and so does a failure, which changes nothing
   carried-kept : (did : Did) → Kept t (did .table) → (d : Option Reason) → Kept t (carried t did d .table)

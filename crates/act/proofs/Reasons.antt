@@ -8,7 +8,7 @@ use Rattle.octets.proofs.Maybe.{not-some, some-is}
 use Rattle.rules.specs.declared.Reason.{Reason}
 use Rattle.payload.specs.Reasons.{reasonOf}
 use Rattle.payload.specs.declared.Command.{Command}
-use Rattle.payload.specs.declared.Command.the-variants.{Unsupported, Invalid, Create, Rekey, GetUsageAllocation, Activate, Revoke, Destroy, GetAttributes, Get}
+use Rattle.payload.specs.declared.Command.the-variants.{Unsupported, Invalid, Create, Rekey, GetUsageAllocation, Activate, Revoke, Destroy, GetAttributes, Get, Locate}
 use Rattle.plans.specs.Plans.{Env, refusal}
 use Rattle.act.specs.Act.{plan}
 
@@ -24,3 +24,4 @@ plan-reason env holder t (Revoke target code) h = absurd (not-some h)
 plan-reason env holder t (Destroy target) h = absurd (not-some h)
 plan-reason env holder t (GetAttributes target) h = absurd (not-some h)
 plan-reason env holder t (Get target) h = absurd (not-some h)
+plan-reason env holder t (Locate name) h = absurd (not-some h)

@@ -17,8 +17,11 @@ use Rattle.rules.specs.declared.Offset.{Offset}
 use Rattle.rules.specs.Numbers.{activate, revoke, destroy}
 use Rattle.rules.specs.States.{moveTests}
 use Rattle.target_read.specs.declared.Target.{Target}
+use Rattle.names.specs.declared.Name.{Name}
+use Rattle.locate.specs.Locate.{locating}
+use Rattle.locate.proofs.Meets.{locate-meets}
 use Rattle.payload.specs.declared.Command.{Command}
-use Rattle.payload.specs.declared.Command.the-variants.{Unsupported, Invalid, Create, Rekey, GetUsageAllocation, Activate, Revoke, Destroy, GetAttributes, Get}
+use Rattle.payload.specs.declared.Command.the-variants.{Unsupported, Invalid, Create, Rekey, GetUsageAllocation, Activate, Revoke, Destroy, GetAttributes, Get, Locate}
 use Rattle.plans.specs.declared.Performed.{Performed}
 use Rattle.deeds.specs.declared.Deed.{Deed}
 use Rattle.deeds.specs.declared.Deed.the-variants.{Replace, Allocate, Move, Show, Give}
@@ -75,6 +78,10 @@ module _ (n : ℕ) (fresh : List ℕ) (holder : ℕ) (t : List ℕ) (command : C
     pub performs-invalid : command ≡ Invalid → r ≡ failed InvalidField → leaves r t ≡ performed command
     unfolding performing plan
     performs-invalid c e = fails t e ∙ sym (ap performed c ∙ refused t InvalidField)
+
+    pub performs-locate : (name : Name) → command ≡ Locate name → r ≡ locating n t name → leaves r t ≡ performed command
+    unfolding performing plan
+    performs-locate name c e = locate-meets n fresh t holder name r e ∙ sym (ap performed c)
 
   module _ (done : Did) where
     pub performs-create : (wanted : Attributes) → command ≡ Create wanted → done ≡ carriedOut t (createPlan (inPlaces n fresh) emptyHolder t wanted) → done ≡ performed command

@@ -13,8 +13,10 @@ use Rattle.search.specs.declared.Found.{Found}
 use Rattle.search.specs.declared.Found.the-variants.{At, Nothing}
 use Rattle.table.specs.Records.{placeAt, latestClock}
 use Rattle.search.specs.Search.{find, isDestroyed}
+use Rattle.names.specs.declared.Name.{Name}
+use Rattle.name_search.specs.Names.{isTaken}
 use Rattle.rules.specs.declared.Reason.{Reason}
-use Rattle.rules.specs.declared.Reason.the-variants.{OperationNotSupported, InvalidField, ObjectNotFound, ObjectDestroyed, PermissionDenied, ServerLimitExceeded, WrongKeyLifecycleState}
+use Rattle.rules.specs.declared.Reason.the-variants.{OperationNotSupported, InvalidField, ObjectNotFound, ObjectDestroyed, PermissionDenied, ServerLimitExceeded, WrongKeyLifecycleState, NonUniqueName}
 use Rattle.rules.specs.declared.Attributes.{Attributes}
 use Rattle.rules.specs.declared.Offset.{Offset}
 use Rattle.rules.specs.declared.Next.the-variants.{To}
@@ -28,10 +30,10 @@ use Rattle.changes.specs.Changes.{isFull}
 use Rattle.batch_item.specs.Item.{Asked}
 use Rattle.target_read.specs.declared.Target.{Target}
 use Rattle.payload.specs.declared.Command.{Command}
-use Rattle.payload.specs.declared.Command.the-variants.{Unsupported, Invalid, Create, Rekey, GetUsageAllocation, Activate, Revoke, Destroy, GetAttributes, Get}
+use Rattle.payload.specs.declared.Command.the-variants.{Unsupported, Invalid, Create, Rekey, GetUsageAllocation, Activate, Revoke, Destroy, GetAttributes, Get, Locate}
 use Rattle.payload.specs.Payload.{command}
 use Rattle.plans.specs.declared.Outcome.the-variants.{Showed, Got}
-use Rattle.plans.specs.Plans.{Env, Did, Plan, failing, carried, createPlan, rekeyPlan, changed, allocationPlan, activatePlan, revokePlan, destroyPlan, shownOf, keyOf, showPlan, getPlan}
+use Rattle.plans.specs.Plans.{Env, Did, Plan, failing, carried, createPlan, rekeyPlan, changed, allocationPlan, activatePlan, revokePlan, destroyPlan, shownOf, keyOf, showPlan, getPlan, locatePlan}
 use Rattle.act.specs.Act.{sought, onFound, plan, step}
 
 -- a command that moves a state: its operation, its revocation code, its target
@@ -47,7 +49,7 @@ module _ (env : Env) (holder : ℕ) (t : List ℕ) where
   -- what became of a command, with what held when it was carried out
   pub data Kind : Command → Did → Type 0 where
     fails : {c : Command} (reason : Reason) → Kind c (failing t reason)
-    creates : (wanted : Attributes) → isFull (env .places) t ≡ false → Kind (Create wanted) (createPlan env holder t wanted .did)
+    creates : (wanted : Attributes) → isTaken (env .places) t (wanted .name) ≡ false → isFull (env .places) t ≡ false → Kind (Create wanted) (createPlan env holder t wanted .did)
     rekeys : (target : Target) (offset : Offset) (i : ℕ) → find (env .places) t (sought holder target) ≡ At i → isDestroyed (placeAt (env .places) t i .state) ≡ false
         → placeAt (env .places) t i .replacement ≡ 0 → offsetWrong (latestClock t) offset (placeAt (env .places) t i) ≡ false → isFull (env .places) t ≡ false
         → Kind (Rekey target offset) (rekeyPlan env holder t offset i (placeAt (env .places) t i) .did)
@@ -61,6 +63,7 @@ module _ (env : Env) (holder : ℕ) (t : List ℕ) where
         → Kind (GetAttributes target) (record { outcome = Showed (shownOf (placeAt (env .places) t i)); table = t; holder = holder })
     gets : (target : Target) (i : ℕ) → find (env .places) t (sought holder target) ≡ At i → isDestroyed (placeAt (env .places) t i .state) ≡ false
         → Kind (Get target) (record { outcome = Got (keyOf (placeAt (env .places) t i)); table = t; holder = holder })
+    locates : (name : Name) → Kind (Locate name) (locatePlan env holder t name .did)
 
   -- a plan as its tests decide
   abbrev decided : Plan → Did
@@ -68,7 +71,10 @@ module _ (env : Env) (holder : ℕ) (t : List ℕ) where
 
   by-create : (wanted : Attributes) → Kind (Create wanted) (decided (createPlan env holder t wanted))
   unfolding createPlan due carried
-  by-create wanted = on-if (λ (o : Option Reason). Kind (Create wanted) (carried t (createPlan env holder t wanted .did) o)) (λ e. fails ServerLimitExceeded) (λ e. creates wanted e)
+  by-create wanted = on-if Went (λ u. fails NonUniqueName) (λ u. on-if Went (λ e. fails ServerLimitExceeded) (λ e. creates wanted u e))
+    where
+      Went : Option Reason → Type 0
+      Went o = Kind (Create wanted) (carried t (createPlan env holder t wanted .did) o)
 
   by-rekey : (target : Target) (offset : Offset) (i : ℕ) → find n t (sought holder target) ≡ At i → Kind (Rekey target offset) (decided (rekeyPlan env holder t offset i (placeAt n t i)))
   unfolding rekeyPlan due carried
@@ -116,6 +122,10 @@ module _ (env : Env) (holder : ℕ) (t : List ℕ) where
   unfolding getPlan due carried
   by-get target i e = on-if (λ (o : Option Reason). Kind (Get target) (carried t (getPlan env holder t i (placeAt n t i) .did) o)) (λ d. fails ObjectDestroyed) (λ d. gets target i e d)
 
+  by-locate : (name : Name) → Kind (Locate name) (decided (locatePlan env holder t name))
+  unfolding locatePlan due carried
+  by-locate name = locates name
+
   -- the plan of a target operation, by where its record is
   by-found : {c : Command} (own : ℕ → Record → Plan) (target : Target) → ((i : ℕ) → find n t (sought holder target) ≡ At i → Kind c (decided (own i (placeAt n t i))))
       → (f : Found) → find n t (sought holder target) ≡ f → Kind c (decided (onFound env holder t own f))
@@ -135,6 +145,7 @@ module _ (env : Env) (holder : ℕ) (t : List ℕ) where
   kind (Destroy target) = by-found (destroyPlan env holder t) target (λ i e. by-move destroying i e refl (due (destroyTests (placeAt n t i .state))) refl) (find n t (sought holder target)) refl
   kind (GetAttributes target) = by-found (showPlan env holder t) target (λ i e. shows target i e) (find n t (sought holder target)) refl
   kind (Get target) = by-found (getPlan env holder t) target (by-get target) (find n t (sought holder target)) refl
+  kind (Locate name) = by-locate name
 
   -- how a step went
   pub step-kind : (asked : Asked) → Kind (command (asked .operation) (asked .payload)) (step env holder t asked)

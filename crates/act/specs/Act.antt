@@ -12,9 +12,9 @@ use Rattle.batch_item.specs.Item.{Asked}
 use Rattle.target_read.specs.declared.Target.{Target}
 use Rattle.target_read.specs.declared.Target.the-variants.{Placeholder, Serial}
 use Rattle.payload.specs.declared.Command.{Command}
-use Rattle.payload.specs.declared.Command.the-variants.{Unsupported, Invalid, Create, Rekey, GetUsageAllocation, Activate, Revoke, Destroy, GetAttributes, Get}
+use Rattle.payload.specs.declared.Command.the-variants.{Unsupported, Invalid, Create, Rekey, GetUsageAllocation, Activate, Revoke, Destroy, GetAttributes, Get, Locate}
 use Rattle.payload.specs.Payload.{command}
-use Rattle.plans.specs.Plans.{Env, Did, Plan, refusal, carriedOut, createPlan, rekeyPlan, allocationPlan, activatePlan, revokePlan, destroyPlan, showPlan, getPlan, inPlaces}
+use Rattle.plans.specs.Plans.{Env, Did, Plan, refusal, carriedOut, createPlan, rekeyPlan, allocationPlan, activatePlan, revokePlan, destroyPlan, showPlan, getPlan, locatePlan, inPlaces}
 
 -- the serial that an item is about: the one that it names, or the placeholder's; 0 is none
 unfoldable pub sought : ℕ → Target → ℕ
@@ -43,6 +43,7 @@ module _ (env : Env) (holder : ℕ) (t : List ℕ) where
   plan (Destroy target) = targeted (destroyPlan env holder t) target
   plan (GetAttributes target) = targeted (showPlan env holder t) target
   plan (Get target) = targeted (getPlan env holder t) target
+  plan (Locate name) = locatePlan env holder t name
 
   -- one item carried out
   unfoldable pub step : Asked → Did

@@ -73,5 +73,6 @@ pub fn perform(t: &mut [u8], n: usize, holder: u32, command: Command, fresh: &[u
         ),
         Command::GetAttributes { target } => act_on(t, n, holder, target, Deed::Show, fresh),
         Command::Get { target } => act_on(t, n, holder, target, Deed::Give, fresh),
+        Command::Locate { name } => locate::locate(t, n, name),
     }
 }

@@ -5,6 +5,7 @@ pub mod Tests
 pub mod Fields
 pub mod Links
 pub mod Dates
+pub mod Names
 pub mod Limits
 pub mod Payloads
 pub mod Keys

@@ -42,6 +42,13 @@ link-first-spells kind t h =
     let p = serial-in-spells linkedObjectIdentifier r i in
     rw (body-spells link t e, fixed-spells linkType enumeration kind (b .0) f, p .0, ended-is (s .1) o, ← (some-is w)) (refl, p .1)))))
 
+-- a serial of a link that is there is one that a record may have
+pub serial-linked : (serial : ℕ) → eqb serial 0 ≡ false → linkOk serial ≡ true → serialOk serial ≡ true
+serial-linked serial e h =
+    let p = eqb-false serial 0 e in
+    let q : 1 ≤ serial = omega arith in
+    and-i (leb 1 serial) (leb serial serialMost) (le-leb 1 serial q) h
+
 pub link-in-back : (kind serial : ℕ) (rest : Items) → kind < 256 ^ 4 → linkOk serial ≡ true → linkFirst kind rest ≡ none
     → linkIn kind (linkItems kind serial rest) ≡ some (serial, rest)
 unfolding linkIn orNoLink linkItems
@@ -51,11 +58,7 @@ link-in-back kind serial rest k h n = on-bool (eqb serial 0) zeroed there
     zeroed e = rw (ifb-true (eqb serial 0) rest (linked kind serial rest) e, n, eqb-true serial 0 e)
 
     there : eqb serial 0 ≡ false → linkIn kind (linkItems kind serial rest) ≡ some (serial, rest)
-    there e =
-        let p = eqb-false serial 0 e in
-        let q : 1 ≤ serial = omega arith in
-        let ok : serialOk serial ≡ true = and-i (leb 1 serial) (leb serial serialMost) (le-leb 1 serial q) h in
-        rw (ifb-false (eqb serial 0) rest (linked kind serial rest) e, link-first-back kind serial rest k ok)
+    there e = rw (ifb-false (eqb serial 0) rest (linked kind serial rest) e, link-first-back kind serial rest k (serial-linked serial e h))
 
 pub link-in-spells : (kind : ℕ) (t : Items) {a : ℕ × Items} → linkIn kind t ≡ some a → t ≡ linkItems kind (a .0) (a .1)
 unfolding linkIn linkItems
@@ -69,12 +72,12 @@ link-in-spells kind t {a} h = go (linkFirst kind t) refl h
         rw (← (some-is g)) (p .0 ∙ sym (ifb-false _ _ _ (p .1)))
 
 -- a link of the one type is none of the other
-pub not-replaced : (serial : ℕ) → linkFirst replacedObjectLink (linkItems replacementObjectLink serial nil) ≡ none
+pub not-replaced : (serial : ℕ) (rest : Items) → linkFirst replacedObjectLink rest ≡ none → linkFirst replacedObjectLink (linkItems replacementObjectLink serial rest) ≡ none
 unfolding linkItems
-not-replaced serial =
+not-replaced serial rest n =
     on-if (λ (t : Items). linkFirst replacedObjectLink t ≡ none) {b = eqb serial 0}
-    (λ e. unfold linkFirst bodyOf _>>=_ in refl)
-    (λ e. link-first-other replacedObjectLink replacementObjectLink serial nil (omega arith) refl)
+    (λ e. n)
+    (λ e. link-first-other replacedObjectLink replacementObjectLink serial rest (omega arith) refl)
 
 -- a field of another tag does not stand in front of a link
 pub no-link-first : (tag kind serial : ℕ) (rest : Items) → eqb link tag ≡ false → startsWith tag rest ≡ false → startsWith tag (linkItems kind serial rest) ≡ false

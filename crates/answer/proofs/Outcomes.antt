@@ -17,15 +17,15 @@ use Rattle.fields.specs.Fields.{bodyOf}
 use Rattle.octets.proofs.Bools.{both}
 use Rattle.tags.specs.Tags.{responsePayload, resultReason, resultStatus}
 use Rattle.rules.specs.declared.Reason.{Reason}
-use Rattle.rules.specs.declared.Reason.the-variants.{OperationNotSupported, InvalidField, ObjectNotFound, ObjectDestroyed, PermissionDenied, WrongKeyLifecycleState, UsageLimitExceeded, ServerLimitExceeded}
-use Rattle.rules.specs.Numbers.{reasonNumber, create, get, getAttributes, success, operationFailed}
+use Rattle.rules.specs.declared.Reason.the-variants.{OperationNotSupported, InvalidField, ObjectNotFound, ObjectDestroyed, PermissionDenied, WrongKeyLifecycleState, UsageLimitExceeded, ServerLimitExceeded, NonUniqueName}
+use Rattle.rules.specs.Numbers.{reasonNumber, create, locate, get, getAttributes, success, operationFailed}
 use Rattle.plans.specs.declared.Outcome.{Outcome}
-use Rattle.plans.specs.declared.Outcome.the-variants.{Failed, Created, Done, Showed, Got}
+use Rattle.plans.specs.declared.Outcome.the-variants.{Failed, Created, Done, Showed, Got, Located}
 use Rattle.answer.specs.Respond.{word, succeeded, outcomeItems}
-use Rattle.answer.specs.Read.{doneIn, showedIn, gotIn, answersDone, payloadIn, reasons, reasonAmong, failureIn, successIn, outcomeIn, serialOk, shownOk, keyOk, outcomeOk}
+use Rattle.answer.specs.Read.{doneIn, showedIn, gotIn, locatedIn, answersDone, payloadIn, reasons, reasonAmong, failureIn, successIn, outcomeIn, serialOk, linkOk, shownOk, keyOk, outcomeOk}
 use Rattle.octets.proofs.Maybe.{not-some, some-is, on-bind, on-test}
 use Rattle.answer.proofs.Fields.{ended-is, body-spells, spelled-back, spelled-spells}
-use Rattle.answer.proofs.Payloads.{created-back, created-spells, done-back, done-spells, showed-back, showed-spells}
+use Rattle.answer.proofs.Payloads.{created-back, created-spells, done-back, done-spells, showed-back, showed-spells, located-back, located-spells}
 use Rattle.answer.proofs.Keys.{got-back, got-spells}
 
 -- ---- reasons
@@ -39,6 +39,7 @@ reason-short PermissionDenied = omega arith
 reason-short WrongKeyLifecycleState = omega arith
 reason-short UsageLimitExceeded = omega arith
 reason-short ServerLimitExceeded = omega arith
+reason-short NonUniqueName = omega arith
 
 -- each reason is the one that has its number
 pub reason-back : (r : Reason) → reasonAmong (reasonNumber r) reasons ≡ some r
@@ -51,6 +52,7 @@ reason-back PermissionDenied = refl
 reason-back WrongKeyLifecycleState = refl
 reason-back UsageLimitExceeded = refl
 reason-back ServerLimitExceeded = refl
+reason-back NonUniqueName = refl
 
 pub reason-spells : (n : ℕ) (rs : List Reason) {r : Reason} → reasonAmong n rs ≡ some r → n ≡ reasonNumber r
 unfolding reasonAmong
@@ -98,6 +100,10 @@ outcome-back operation (Got key) h =
     let p = both (eqb operation get) (keyOk key) h in
     let e = eqb-true operation get (p .0) in
     succeeded-back operation _ ∙ rw e (unfold ifb in got-back key (p .1))
+outcome-back operation (Located serial) h =
+    let p = both (eqb operation locate) (linkOk serial) h in
+    let e = eqb-true operation locate (p .0) in
+    succeeded-back operation _ ∙ rw e (unfold ifb in located-back serial (p .1))
 
 -- what is read as a success's payload was written as one
 payload-spells : (operation : ℕ) (t : Items) {o : Outcome} → payloadIn operation t ≡ some o → succeeded t ≡ outcomeItems o
@@ -107,13 +113,16 @@ payload-spells operation t {o} h = create-first h
     Spelled : Option Outcome → Type 0
     Spelled q = q ≡ some o → succeeded t ≡ outcomeItems o
 
-    last : Spelled (ifb (eqb operation get) (gotIn t) none)
-    last = on-if Spelled (λ e g. let p = got-spells t g in ap succeeded (p .2) ∙ sym (ap outcomeItems (p .1))) (λ e g. absurd (not-some g))
+    last : Spelled (ifb (eqb operation locate) (locatedIn t) none)
+    last = on-if Spelled (λ e g. let p = located-spells t g in ap succeeded (p .2) ∙ sym (ap outcomeItems (p .1))) (λ e g. absurd (not-some g))
 
-    showed-next : Spelled (ifb (eqb operation getAttributes) (showedIn t) (ifb (eqb operation get) (gotIn t) none))
-    showed-next = on-if Spelled (λ e g. let p = showed-spells t g in ap succeeded (p .2) ∙ sym (ap outcomeItems (p .1))) (λ e. last)
+    got-next : Spelled (ifb (eqb operation get) (gotIn t) (ifb (eqb operation locate) (locatedIn t) none))
+    got-next = on-if Spelled (λ e g. let p = got-spells t g in ap succeeded (p .2) ∙ sym (ap outcomeItems (p .1))) (λ e. last)
 
-    done-next : Spelled (ifb (answersDone operation) (doneIn t) (ifb (eqb operation getAttributes) (showedIn t) (ifb (eqb operation get) (gotIn t) none)))
+    showed-next : Spelled (ifb (eqb operation getAttributes) (showedIn t) (ifb (eqb operation get) (gotIn t) (ifb (eqb operation locate) (locatedIn t) none)))
+    showed-next = on-if Spelled (λ e g. let p = showed-spells t g in ap succeeded (p .2) ∙ sym (ap outcomeItems (p .1))) (λ e. got-next)
+
+    done-next : Spelled (ifb (answersDone operation) (doneIn t) (ifb (eqb operation getAttributes) (showedIn t) (ifb (eqb operation get) (gotIn t) (ifb (eqb operation locate) (locatedIn t) none))))
     done-next = on-if Spelled (λ e g. let p = done-spells t g in ap succeeded (p .2) ∙ sym (ap outcomeItems (p .1))) (λ e. showed-next)
 
     create-first : Spelled (payloadIn operation t)

@@ -10,20 +10,24 @@ use lib.Dec.{eqb}
 use Rattle.octets.specs.Octets.{be, all}
 use Rattle.octets.proofs.If.{on-if}
 use Rattle.octets.proofs.Numbers.{length-be}
-use Rattle.ttlv_types.specs.Types.{byteString}
+use Rattle.ttlv_types.specs.Types.{enumeration, textString, byteString}
 use Rattle.ttlv.specs.Items.{Items, nil, value, group, encode}
 use Rattle.ttlv.proofs.Sizes.{size, size-nil, size-value, size-group}
 use Rattle.octets.proofs.Bools.{both}
 use Rattle.identifier.specs.Identifier.{identifier}
 use Rattle.identifier.proofs.Texts.{length-identifier}
-use Rattle.tags.specs.Tags.{activationDate, batchItem, deactivationDate, keyMaterial}
+use Rattle.tags.specs.Tags.{activationDate, batchItem, deactivationDate, keyMaterial, nameType, nameValue}
 use Rattle.batch_item.specs.Item.{idMost}
 use Rattle.words.proofs.Laws.{length-words}
+use Rattle.names.specs.declared.Name.{Name}
+use Rattle.names.specs.Names.{nameText}
+use Rattle.names.proofs.Texts.{length-text}
+use Rattle.name_read.specs.Name.{uninterpretedText}
 use Rattle.plans.specs.declared.Shown.{Shown}
 use Rattle.plans.specs.declared.Key.{Key}
 use Rattle.plans.specs.declared.Outcome.{Outcome}
-use Rattle.plans.specs.declared.Outcome.the-variants.{Failed, Created, Done, Showed, Got}
-use Rattle.answer.specs.Respond.{Answer, word, long, named, dateItems, limitItems, linkItems, attributeItems, materialOf, keyBlockItems, keyItems, outcomeItems, idItems, answerItems, batchItems, replacedObjectLink, replacementObjectLink}
+use Rattle.plans.specs.declared.Outcome.the-variants.{Failed, Created, Done, Showed, Got, Located}
+use Rattle.answer.specs.Respond.{Answer, word, long, named, dateItems, limitItems, linkItems, nameItems, attributeItems, locatedItems, materialOf, keyBlockItems, keyItems, outcomeItems, idItems, answerItems, batchItems, replacedObjectLink, replacementObjectLink}
 use Rattle.answer.specs.Read.{answerOk}
 use Rattle.answer.specs.Front.{longestItem}
 use Rattle.answer.proofs.Answers.{answer-facts}
@@ -59,14 +63,28 @@ unfolding limitItems
 limit-size s rest =
     on-if (λ (t : Items). size t ≤ 56 + size rest) {b = eqb (s .unit) 0} (λ e. omega arith) (λ e. simp sizes (omega arith))
 
-pub attributes-size : (s : Shown) → size (attributeItems s) ≤ 232
+-- a name with its type; its text has at most 32 bytes
+pub name-body-size : (m : Name) → size (value nameValue textString (nameText m) (word nameType enumeration uninterpretedText nil)) ≤ 56
+name-body-size m =
+    let few = length-text m in
+    let kind = size-word nameType enumeration uninterpretedText nil in
+    omega (arith, size-value nameValue textString (nameText m) (word nameType enumeration uninterpretedText nil), kind, size-nil)
+
+name-size : (m : Name) (rest : Items) → size (nameItems m rest) ≤ 64 + size rest
+unfolding nameItems
+name-size m rest =
+    on-if (λ (t : Items). size t ≤ 64 + size rest) {b = eqb (m .len) 0}
+    (λ e. omega arith) (λ e. rw size-group (omega (arith, name-body-size m)))
+
+pub attributes-size : (s : Shown) → size (attributeItems s) ≤ 296
 unfolding attributeItems
 attributes-size s =
-    let second = linkItems replacementObjectLink (s .replacement) nil in
+    let last = nameItems (s .name) nil in
+    let second = linkItems replacementObjectLink (s .replacement) last in
     let first = linkItems replacedObjectLink (s .replaced) second in
     let limit = limitItems s first in
     let stop = dateItems deactivationDate (s .deactivation) limit in
-    simp sizes (omega (arith, date-size activationDate (s .activation) stop, date-size deactivationDate (s .deactivation) limit, limit-size s first, link-size replacedObjectLink (s .replaced) second, link-size replacementObjectLink (s .replacement) nil, size-nil))
+    simp sizes (omega (arith, date-size activationDate (s .activation) stop, date-size deactivationDate (s .deactivation) limit, limit-size s first, link-size replacedObjectLink (s .replaced) second, link-size replacementObjectLink (s .replacement) last, name-size (s .name) nil, size-nil))
 
 pub material-length : (k : Key) → length (materialOf k) ≤ 32
 unfolding materialOf
@@ -83,20 +101,25 @@ pub key-size : (k : Key) → size (keyItems k) ≤ 112
 unfolding keyItems
 key-size k = simp (size-group, size-nil) (omega (arith, block-size k))
 
-pub outcome-size : (o : Outcome) → size (outcomeItems o) ≤ 280
+pub located-size : (serial : ℕ) → size (locatedItems serial) ≤ 16
+unfolding locatedItems
+located-size serial = on-if (λ (t : Items). size t ≤ 16) {b = eqb serial 0} (λ e. simp sizes (omega arith)) (λ e. simp sizes (omega arith))
+
+pub outcome-size : (o : Outcome) → size (outcomeItems o) ≤ 344
 unfolding outcomeItems
 outcome-size (Failed reason) = simp sizes (omega arith)
 outcome-size (Created serial) = simp sizes (omega arith)
 outcome-size (Done serial) = simp sizes (omega arith)
 outcome-size (Showed shown) = simp sizes (omega (arith, attributes-size shown))
 outcome-size (Got key) = simp sizes (omega (arith, key-size key))
+outcome-size (Located serial) = simp sizes (omega (arith, located-size serial))
 
 pub id-size : (id : List ℕ) (rest : Items) → length id ≤ idMost → size (idItems id rest) ≤ 24 + size rest
 unfolding idItems
 id-size [] rest h = omega arith
 id-size (x ∷ id) rest h = rw size-value (omega arith)
 
-pub answer-items-size : (a : Answer) → length (a .id) ≤ idMost → size (answerItems a) ≤ 320
+pub answer-items-size : (a : Answer) → length (a .id) ≤ idMost → size (answerItems a) ≤ 384
 unfolding answerItems
 answer-items-size a h = rw size-word (omega (arith, id-size (a .id) (outcomeItems (a .outcome)) h, outcome-size (a .outcome)))
 

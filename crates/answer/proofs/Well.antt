@@ -1,6 +1,6 @@
 -- The items of a response are well-formed: within the depth that is read, every length short, every value of its type.
 -- Assumes nothing.
-use mathlib.Core.Path.{_≡_, refl}
+use mathlib.Core.Path.{_≡_, refl, ap}
 use Prim.Native.Nat.{ℕ, suc, _+_, _-_, _/_, _^_, _≤_, _<_}
 use native.Mathlib.Omega.{arith}
 use mathlib.Core.Bool.{Bool, true, not, _&&_}
@@ -13,8 +13,12 @@ use Rattle.octets.specs.Octets.{be, all}
 use Rattle.octets.proofs.If.{on-if}
 use Rattle.octets.proofs.Numbers.{length-be}
 use Rattle.ttlv_types.specs.Types.{structure, integer, longInteger, enumeration, textString, byteString, dateTime, lengthOk, valueOk}
-use Rattle.tags.specs.Tags.{tagLead, tagOk, activationDate, batchCount, batchItem, operationTag, protocolVersion, protocolVersionMajor, protocolVersionMinor, uniqueBatchItemId, attributes, cryptographicAlgorithm, cryptographicLength, cryptographicUsageMask, deactivationDate, keyBlock, keyFormatType, keyMaterial, keyValue, objectType, uniqueIdentifier, usageLimits, usageLimitsCount, usageLimitsTotal, usageLimitsUnit, link, linkType, linkedObjectIdentifier, responseHeader, responseMessage, responsePayload, resultReason, resultStatus, stateTag, symmetricKeyTag, timeStamp}
+use Rattle.tags.specs.Tags.{tagLead, tagOk, activationDate, batchCount, batchItem, operationTag, protocolVersion, protocolVersionMajor, protocolVersionMinor, uniqueBatchItemId, attributes, cryptographicAlgorithm, cryptographicLength, cryptographicUsageMask, deactivationDate, keyBlock, keyFormatType, keyMaterial, keyValue, nameTag, nameType, nameValue, objectType, uniqueIdentifier, usageLimits, usageLimitsCount, usageLimitsTotal, usageLimitsUnit, link, linkType, linkedObjectIdentifier, responseHeader, responseMessage, responsePayload, resultReason, resultStatus, stateTag, symmetricKeyTag, timeStamp}
+use Rattle.names.specs.declared.Name.{Name}
+use Rattle.names.specs.Names.{nameText}
+use Rattle.names.proofs.Texts.{length-text, fits}
 use Rattle.attributes_read.specs.Attributes.{aes}
+use Rattle.name_read.specs.Name.{uninterpretedText}
 use Rattle.payload.specs.Payload.{symmetricKey}
 use Rattle.ttlv.specs.Items.{Items, nil, value, group, itemOk, wellFormed}
 use Rattle.ttlv.specs.Parse.{depthMost}
@@ -23,19 +27,21 @@ use Rattle.ttlv.proofs.Fine.{group-well}
 use Rattle.identifier.specs.Identifier.{identifier}
 use Rattle.identifier.proofs.Texts.{length-identifier, identifier-text}
 use Rattle.batch_item.specs.Item.{idMost}
-use Rattle.rules.specs.Numbers.{reasonNumber, success, operationFailed}
+use Rattle.rules.specs.Numbers.{reasonNumber, getAttributes, success, operationFailed}
 use Rattle.plans.specs.declared.Shown.{Shown}
 use Rattle.plans.specs.declared.Key.{Key}
 use Rattle.plans.specs.declared.Outcome.{Outcome}
-use Rattle.plans.specs.declared.Outcome.the-variants.{Failed, Created, Done, Showed, Got}
-use Rattle.answer.specs.Respond.{Answer, Response, word, long, named, dateItems, limitItems, linkItems, attributeItems, raw, materialOf, keyValueItems, keyItems, succeeded, outcomeItems, idItems, answerItems, batchItems, versionItems, headerItems, respond, replacedObjectLink, replacementObjectLink}
-use Rattle.answer.specs.Read.{Limits, answerOk, allowed}
+use Rattle.plans.specs.declared.Outcome.the-variants.{Failed, Created, Done, Showed, Got, Located}
+use Rattle.answer.specs.Respond.{Answer, Response, word, long, named, dateItems, limitItems, linkItems, nameItems, attributeItems, locatedItems, raw, materialOf, keyValueItems, keyItems, succeeded, outcomeItems, idItems, answerItems, batchItems, versionItems, headerItems, respond, replacedObjectLink, replacementObjectLink}
+use Rattle.answer.specs.Read.{Limits, shownOk, outcomeOk, answerOk, allowed}
 use Rattle.answer.specs.Front.{responseMost}
 use Rattle.answer.proofs.Links.{linked}
 use Rattle.answer.proofs.Limits.{limited, limitsOf}
 use Rattle.answer.proofs.Answers.{answer-facts, allowed-facts}
+use Rattle.answer.proofs.Names.{NameFacts}
+use Rattle.answer.proofs.Payloads.{shown-facts}
 use Rattle.ttlv.proofs.Sizes.{size, size-nil, size-group}
-use Rattle.answer.proofs.Sizes.{sizes, attributes-size, material-length, material-size, block-size, key-size, answer-items-size, batch-size}
+use Rattle.answer.proofs.Sizes.{sizes, attributes-size, material-length, material-size, block-size, key-size, name-body-size, located-size, answer-items-size, batch-size}
 use Rattle.answer.proofs.Front.{header-size}
 
 -- a run that is well-formed with structures at most d deep
@@ -106,9 +112,21 @@ date-well : (tag date : ℕ) (rest : Items) → shapeOk tag dateTime 8 ≡ true 
 unfolding dateItems valueOk ifb
 date-well tag date rest h w = on-if (Well 4) {b = eqb date 0} (λ e. w) (λ e. long-well 3 tag dateTime date rest h refl w)
 
-attributes-well : (s : Shown) → Well 4 (attributeItems s)
+name-well : (m : Name) (rest : Items) → NameFacts m → Well 4 rest → Well 4 (nameItems m rest)
+unfolding nameItems lengthOk valueOk ifb
+name-well m rest f w =
+    on-if (Well 4) {b = eqb (m .len) 0}
+    (λ e. w)
+    (λ e.
+    let few = length-text m in
+    body-well 3 nameTag _ rest refl (omega (arith, name-body-size m))
+    (field-well 2 nameValue textString (length (nameText m)) (nameText m) _ refl (lt-ltb (length (nameText m)) (256 ^ 4) (omega arith)) (fits (nameText m) (f .text-ok (ap not e)) .is)
+    (word-well 2 nameType enumeration uninterpretedText nil refl refl (nil-well 3)))
+    w)
+
+attributes-well : (s : Shown) → NameFacts (s .name) → Well 4 (attributeItems s)
 unfolding attributeItems lengthOk valueOk ifb
-attributes-well s =
+attributes-well s f =
     word-well 3 cryptographicAlgorithm enumeration aes _ refl refl
     (word-well 3 cryptographicLength integer (s .bits) _ refl refl
     (word-well 3 cryptographicUsageMask integer (s .mask) _ refl refl
@@ -117,7 +135,8 @@ attributes-well s =
     (date-well deactivationDate (s .deactivation) _ refl
     (limit-well s _
     (link-well replacedObjectLink (s .replaced) _
-    (link-well replacementObjectLink (s .replacement) nil (nil-well 4)))))))))
+    (link-well replacementObjectLink (s .replacement) _
+    (name-well (s .name) nil f (nil-well 4))))))))))
 
 -- the fields of a Symmetric Key are at 4, those of its Key Block at 3, those of the Key Value at 2
 value-well : (k : Key) (rest : Items) → Well 3 rest → Well 3 (keyValueItems (materialOf k) rest)
@@ -147,25 +166,31 @@ unfolding lengthOk valueOk ifb
 succeeded-well payload h w =
     word-well 5 resultStatus enumeration success _ refl refl (body-well 5 responsePayload payload nil refl h w (nil-well 6))
 
-outcome-well : (o : Outcome) → Well 6 (outcomeItems o)
-unfolding outcomeItems lengthOk valueOk ifb
-outcome-well (Failed reason) =
+located-well : (serial : ℕ) → Well 5 (locatedItems serial)
+unfolding locatedItems
+located-well serial = on-if (Well 5) {b = eqb serial 0} (λ e. nil-well 5) (λ e. named-well 4 uniqueIdentifier serial nil (unfold lengthOk ifb in refl) (nil-well 5))
+
+outcome-well : (operation : ℕ) (o : Outcome) → outcomeOk operation o ≡ true → Well 6 (outcomeItems o)
+unfolding outcomeItems outcomeOk lengthOk valueOk ifb
+outcome-well operation (Failed reason) ok =
     word-well 5 resultStatus enumeration operationFailed _ refl refl
     (word-well 5 resultReason enumeration (reasonNumber reason) nil refl refl (nil-well 6))
-outcome-well (Created serial) =
+outcome-well operation (Created serial) ok =
     succeeded-well _ (simp sizes (omega arith))
     (word-well 4 objectType enumeration symmetricKey _ refl refl
     (named-well 4 uniqueIdentifier serial nil refl (nil-well 5)))
-outcome-well (Done serial) =
+outcome-well operation (Done serial) ok =
     succeeded-well _ (simp sizes (omega arith)) (named-well 4 uniqueIdentifier serial nil refl (nil-well 5))
-outcome-well (Showed shown) =
+outcome-well operation (Showed shown) ok =
+    let f = shown-facts shown (both (eqb operation getAttributes) (shownOk shown) ok .1) in
     succeeded-well _ (simp sizes (omega (arith, attributes-size shown)))
     (named-well 4 uniqueIdentifier (shown .serial) _ refl
-    (body-well 4 attributes (attributeItems shown) nil refl (omega (arith, attributes-size shown)) (attributes-well shown) (nil-well 5)))
-outcome-well (Got key) =
+    (body-well 4 attributes (attributeItems shown) nil refl (omega (arith, attributes-size shown)) (attributes-well shown (f .name-ok)) (nil-well 5)))
+outcome-well operation (Got key) ok =
     succeeded-well _ (simp sizes (omega (arith, key-size key)))
     (word-well 4 objectType enumeration symmetricKey _ refl refl
     (named-well 4 uniqueIdentifier (key .serial) _ refl (key-well key)))
+outcome-well operation (Located serial) ok = succeeded-well _ (omega (arith, located-size serial)) (located-well serial)
 
 id-well : (id : List ℕ) (rest : Items) → length id ≤ idMost → Well 6 rest → Well 6 (idItems id rest)
 unfolding idItems lengthOk valueOk ifb
@@ -173,19 +198,19 @@ id-well [] rest h w = w
 id-well (x ∷ id) rest h w =
     field-well 5 uniqueBatchItemId byteString (length (x ∷ id)) (x ∷ id) rest refl (lt-ltb (suc (length id)) (256 ^ 4) (omega arith)) refl w
 
-answer-well : (a : Answer) → length (a .id) ≤ idMost → Well 6 (answerItems a)
+answer-well : (a : Answer) → length (a .id) ≤ idMost → outcomeOk (a .operation) (a .outcome) ≡ true → Well 6 (answerItems a)
 unfolding answerItems lengthOk valueOk ifb
-answer-well a h =
+answer-well a h ok =
     word-well 5 operationTag enumeration (a .operation) _ refl refl
-    (id-well (a .id) (outcomeItems (a .outcome)) h (outcome-well (a .outcome)))
+    (id-well (a .id) (outcomeItems (a .outcome)) h (outcome-well (a .operation) (a .outcome) ok))
 
 batch-well : (answers : List Answer) → all answerOk answers ≡ true → Well 7 (batchItems answers)
 unfolding batchItems all
 batch-well [] h = nil-well 7
 batch-well (a ∷ answers) h =
     let p = both (answerOk a) (all answerOk answers) h in
-    let i = answer-facts a (p .0) .id-short in
-    body-well 6 batchItem (answerItems a) (batchItems answers) refl (omega (arith, answer-items-size a i)) (answer-well a i) (batch-well answers (p .1))
+    let f = answer-facts a (p .0) in
+    body-well 6 batchItem (answerItems a) (batchItems answers) refl (omega (arith, answer-items-size a (f .id-short))) (answer-well a (f .id-short) (f .outcome-ok)) (batch-well answers (p .1))
 
 -- ---- the message
 

@@ -9,8 +9,11 @@ use lib.ListN.{length, replicate}
 use Rattle.hex.specs.Texts.{hex}
 use Rattle.words.specs.Words.{wordsOf, wordBytes, wordsOk, filled}
 use Rattle.rules.specs.declared.Reason.the-variants.{OperationNotSupported}
-use Rattle.plans.specs.declared.Outcome.the-variants.{Failed, Done, Showed, Got}
-use Rattle.answer.specs.Respond.{Answer, Response, dateItems, limitItems, linkItems, attributeItems, materialOf, keyItems, outcomeItems, idItems, answerItems, batchItems, versionItems, headerItems, respond}
+use Rattle.plans.specs.declared.Outcome.the-variants.{Failed, Done, Showed, Got, Located}
+use Rattle.names.specs.declared.Name.{Name}
+use Rattle.names.specs.Names.{nameText, nameOf, nameOk, sameName}
+use Rattle.name_read.specs.Name.{orNoName}
+use Rattle.answer.specs.Respond.{Answer, Response, dateItems, limitItems, linkItems, nameItems, locatedItems, attributeItems, materialOf, keyItems, outcomeItems, idItems, answerItems, batchItems, versionItems, headerItems, respond}
 use Rattle.octets.specs.If.{ifb}
 use Rattle.octets.specs.Maybe.{_>>=_, _>>_, isSome}
 use Rattle.octets.specs.Octets.{be, fromBeAfter, fromBe, all, same}
@@ -24,7 +27,7 @@ use Rattle.identifier.specs.Identifier.{digits, identifier, fromDigitsAfter, se
 use Rattle.attributes_read.specs.Attributes.{orUnset}
 use Rattle.frame.specs.Frame.{versionIn, headerIn, frameIn, optionOf, framing, framed}
 use Rattle.batch_item.specs.Item.{idOk, idBytes, itemIn, itemsIn}
-use Rattle.answer.specs.Read.{spelled, fixed, serialIn, setDate, limitsFirst, orNoLimits, linkFirst, orNoLink, linkIn, shownIn, createdIn, doneIn, showedIn, keyRead, keyBlockIn, keyIn, gotIn, payloadIn, reasonAmong, failureIn, successIn, outcomeIn, answerIn, answersOf, headIn, shownOk, keyOk, outcomeOk, answerOk, allowed, ifAllowed, answersIn}
+use Rattle.answer.specs.Read.{spelled, fixed, serialIn, setDate, limitsFirst, orNoLimits, linkFirst, orNoLink, linkIn, nameShown, locatedIn, nameShownOk, shownIn, createdIn, doneIn, showedIn, keyRead, keyBlockIn, keyIn, gotIn, payloadIn, reasonAmong, failureIn, successIn, outcomeIn, answerIn, answersOf, headIn, shownOk, keyOk, outcomeOk, answerOk, allowed, ifAllowed, answersIn}
 
 -- 01's card, at L3's clock 1: "Activate of the Pre-Active "00000001", alone, no Unique Batch Item ID, .., whole response of 152 bytes"
 abbrev activated : Response
@@ -32,7 +35,7 @@ activated = record { clock = 1; answers = record { operation = 0x12; id = []; ou
 
 -- the definitions that the cases compute with: who opens this opens them all
 opened : Unit {0}
-unfolding wordsOf wordBytes wordsOk filled ifb _>>=_ _>>_ isSome be fromBeAfter fromBe all same lengthOk text valueOk encode itemOk wellFormed headed firstOf putValue putGroup more walk parse isOne message startsWith ended bytesOf bodyOf numberOf optional digits identifier fromDigitsAfter serialOf versionIn headerIn idOk idBytes itemIn itemsIn frameIn optionOf framing framed dateItems limitItems linkItems attributeItems materialOf keyItems outcomeItems idItems answerItems batchItems versionItems headerItems respond spelled fixed serialIn setDate orUnset limitsFirst orNoLimits linkFirst orNoLink linkIn shownIn createdIn doneIn showedIn keyRead keyBlockIn keyIn gotIn payloadIn reasonAmong failureIn successIn outcomeIn answerIn answersOf headIn shownOk keyOk outcomeOk answerOk allowed ifAllowed answersIn
+unfolding wordsOf wordBytes wordsOk filled ifb _>>=_ _>>_ isSome be fromBeAfter fromBe all same lengthOk text valueOk encode itemOk wellFormed headed firstOf putValue putGroup more walk parse isOne message startsWith ended bytesOf bodyOf numberOf optional digits identifier fromDigitsAfter serialOf versionIn headerIn idOk idBytes itemIn itemsIn frameIn optionOf framing framed dateItems limitItems linkItems nameItems locatedItems attributeItems materialOf keyItems outcomeItems idItems answerItems batchItems versionItems headerItems respond spelled fixed serialIn setDate orUnset limitsFirst orNoLimits linkFirst orNoLink linkIn nameShown locatedIn nameShownOk nameText nameOf nameOk sameName orNoName shownIn createdIn doneIn showedIn keyRead keyBlockIn keyIn gotIn payloadIn reasonAmong failureIn successIn outcomeIn answerIn answersOf headIn shownOk keyOk outcomeOk answerOk allowed ifAllowed answersIn
 opened = tt
 
 activated-written : encode (respond activated) ≡ hex "42007B01 00000090 42007A01 00000048 42006901 00000020 42006A02 00000004 00000002 00000000 42006B02 00000004 00000001 00000000 42009209 00000008 00000000 00000001 42000D02 00000004 00000001 00000000 42000F01 00000038 42005C05 00000004 00000012 00000000 42007F05 00000004 00000000 00000000 42007C01 00000010 42009407 00000008 30303030 30303031"
@@ -43,19 +46,23 @@ activated-read : answersIn (respond activated) ≡ some activated
 unfolding opened
 activated-read = refl
 
--- the longest answer: both dates, a usage limit, both links, an ID of 16 bytes
+-- a name of 32 bytes
+abbrev full : Name
+full = record { len = 32; zeros = 0; words = record { a = 0x4142434445464748; b = 0x494A4B4C4D4E4F50; c = 0x5152535455565758; d = 0x595A5B5C5D5E5F60 } }
+
+-- the longest answer: both dates, a usage limit, both links, a name of 32 bytes, an ID of 16 bytes
 abbrev longest : Answer
 longest = record {
   operation = 0x0B;
   id = hex "000102030405060708090A0B0C0D0E0F";
-  outcome = Showed (record { serial = 2; bits = 256; mask = 4; state = 2; activation = 5; deactivation = 9; unit = 1; total = 100; count = 40; replaced = 1; replacement = 3 });
+  outcome = Showed (record { serial = 2; bits = 256; mask = 4; state = 2; activation = 5; deactivation = 9; unit = 1; total = 100; count = 40; replaced = 1; replacement = 3; name = full });
 }
 
 -- with the latest clock that there is, and a failure of an operation that there is not
 abbrev mixed : Response
 mixed = record { clock = 0x7FFFFFFFFFFFFFFF; answers = longest ∷ record { operation = 0x99; id = 1 ∷ []; outcome = Failed OperationNotSupported } ∷ [] }
 
-mixed-written : encode (respond mixed) ≡ hex "42007B01 000001E0 42007A01 00000048 42006901 00000020 42006A02 00000004 00000002 00000000 42006B02 00000004 00000001 00000000 42009209 00000008 7FFFFFFF FFFFFFFF 42000D02 00000004 00000002 00000000 42000F01 00000140 42005C05 00000004 0000000B 00000000 42009308 00000010 00010203 04050607 08090A0B 0C0D0E0F 42007F05 00000004 00000000 00000000 42007C01 00000100 42009407 00000008 30303030 30303032 42012501 000000E8 42002805 00000004 00000003 00000000 42002A02 00000004 00000100 00000000 42002C02 00000004 00000004 00000000 42008D05 00000004 00000002 00000000 42000109 00000008 00000000 00000005 42002F09 00000008 00000000 00000009 42009501 00000030 42009703 00000008 00000000 00000064 42009603 00000008 00000000 00000028 42009805 00000004 00000001 00000000 42004A01 00000020 42004B05 00000004 00000107 00000000 42004C07 00000008 30303030 30303031 42004A01 00000020 42004B05 00000004 00000106 00000000 42004C07 00000008 30303030 30303033 42000F01 00000040 42005C05 00000004 00000099 00000000 42009308 00000001 01000000 00000000 42007F05 00000004 00000001 00000000 42007E05 00000004 00000005 00000000"
+mixed-written : encode (respond mixed) ≡ hex "42007B01 00000220 42007A01 00000048 42006901 00000020 42006A02 00000004 00000002 00000000 42006B02 00000004 00000001 00000000 42009209 00000008 7FFFFFFF FFFFFFFF 42000D02 00000004 00000002 00000000 42000F01 00000180 42005C05 00000004 0000000B 00000000 42009308 00000010 00010203 04050607 08090A0B 0C0D0E0F 42007F05 00000004 00000000 00000000 42007C01 00000140 42009407 00000008 30303030 30303032 42012501 00000128 42002805 00000004 00000003 00000000 42002A02 00000004 00000100 00000000 42002C02 00000004 00000004 00000000 42008D05 00000004 00000002 00000000 42000109 00000008 00000000 00000005 42002F09 00000008 00000000 00000009 42009501 00000030 42009703 00000008 00000000 00000064 42009603 00000008 00000000 00000028 42009805 00000004 00000001 00000000 42004A01 00000020 42004B05 00000004 00000107 00000000 42004C07 00000008 30303030 30303031 42004A01 00000020 42004B05 00000004 00000106 00000000 42004C07 00000008 30303030 30303033 42005301 00000038 42005507 00000020 41424344 45464748 494A4B4C 4D4E4F50 51525354 55565758 595A5B5C 5D5E5F60 42005405 00000004 00000001 00000000 42000F01 00000040 42005C05 00000004 00000099 00000000 42009308 00000001 01000000 00000000 42007F05 00000004 00000001 00000000 42007E05 00000004 00000005 00000000"
 unfolding opened
 mixed-written = refl
 
@@ -105,3 +112,15 @@ handed-sizes : length (encode (group batchItem (answerItems (handing 128 [] (rep
     ≡ 200 ∷ 208 ∷ 216 ∷ []
 unfolding opened handing
 handed-sizes = refl
+
+-- Locate that found one, and one that found nothing, whose payload is empty
+abbrev sought : Response
+sought = record { clock = 1; answers = record { operation = 0x08; id = []; outcome = Located 2 } ∷ record { operation = 0x08; id = []; outcome = Located 0 } ∷ [] }
+
+sought-written : encode (respond sought) ≡ hex "42007B01 000000C0 42007A01 00000048 42006901 00000020 42006A02 00000004 00000002 00000000 42006B02 00000004 00000001 00000000 42009209 00000008 00000000 00000001 42000D02 00000004 00000002 00000000 42000F01 00000038 42005C05 00000004 00000008 00000000 42007F05 00000004 00000000 00000000 42007C01 00000010 42009407 00000008 30303030 30303032 42000F01 00000028 42005C05 00000004 00000008 00000000 42007F05 00000004 00000000 00000000 42007C01 00000000"
+unfolding opened
+sought-written = refl
+
+sought-read : answersIn (respond sought) ≡ some sought
+unfolding opened
+sought-read = refl

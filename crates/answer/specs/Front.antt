@@ -16,9 +16,9 @@ headerSize = 80
 abbrev pub frameSize : ℕ
 frameSize = 8 + headerSize
 
--- the longest answer: Get Attributes with both dates, a usage limit, both links and a 16-byte ID
+-- the longest answer: Get Attributes with both dates, a usage limit, both links, a name of 32 bytes and a 16-byte ID
 abbrev pub longestItem : ℕ
-longestItem = 328
+longestItem = 392
 
 -- the longest response
 abbrev pub responseMost : ℕ

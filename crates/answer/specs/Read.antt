@@ -12,20 +12,23 @@ use Rattle.octets.specs.Octets.{be, fromBe, same, all, allZero}
 use Rattle.ttlv_types.specs.Types.{integer, longInteger, enumeration, textString, byteString, dateTime}
 use Rattle.ttlv.specs.Items.{Items, nil, value, group, ended}
 use Rattle.fields.specs.Fields.{bytesOf, bodyOf, optional}
-use Rattle.tags.specs.Tags.{activationDate, batchCount, batchItem, operationTag, protocolVersion, protocolVersionMajor, protocolVersionMinor, uniqueBatchItemId, attributes, cryptographicAlgorithm, cryptographicLength, cryptographicUsageMask, deactivationDate, keyBlock, keyFormatType, keyMaterial, keyValue, objectType, uniqueIdentifier, usageLimits, usageLimitsCount, usageLimitsTotal, usageLimitsUnit, link, linkType, linkedObjectIdentifier, responseHeader, responseMessage, responsePayload, resultReason, resultStatus, stateTag, symmetricKeyTag, timeStamp}
+use Rattle.tags.specs.Tags.{activationDate, batchCount, batchItem, operationTag, protocolVersion, protocolVersionMajor, protocolVersionMinor, uniqueBatchItemId, attributes, cryptographicAlgorithm, cryptographicLength, cryptographicUsageMask, deactivationDate, keyBlock, keyFormatType, keyMaterial, keyValue, nameTag, nameType, nameValue, objectType, uniqueIdentifier, usageLimits, usageLimitsCount, usageLimitsTotal, usageLimitsUnit, link, linkType, linkedObjectIdentifier, responseHeader, responseMessage, responsePayload, resultReason, resultStatus, stateTag, symmetricKeyTag, timeStamp}
+use Rattle.names.specs.declared.Name.{Name}
+use Rattle.names.specs.Names.{noName, isNamed, nameText, nameOf, nameOk, sameName}
 use Rattle.attributes_read.specs.Attributes.{aes, orUnset}
+use Rattle.name_read.specs.Name.{uninterpretedText, orNoName}
 use Rattle.payload.specs.Payload.{symmetricKey}
 use Rattle.identifier.specs.Identifier.{serialOf}
 use Rattle.values.specs.Values.{bitsOk, maskOk, unitOk, totalOk, notNegative, aboveZero, inOrder}
 use Rattle.rules.specs.declared.Reason.{Reason}
-use Rattle.rules.specs.declared.Reason.the-variants.{OperationNotSupported, InvalidField, ObjectNotFound, ObjectDestroyed, PermissionDenied, WrongKeyLifecycleState, UsageLimitExceeded, ServerLimitExceeded}
-use Rattle.rules.specs.Numbers.{reasonNumber, create, rekey, get, getAttributes, getUsageAllocation, activate, revoke, destroy, success, operationFailed}
+use Rattle.rules.specs.declared.Reason.the-variants.{OperationNotSupported, InvalidField, ObjectNotFound, ObjectDestroyed, PermissionDenied, WrongKeyLifecycleState, UsageLimitExceeded, ServerLimitExceeded, NonUniqueName}
+use Rattle.rules.specs.Numbers.{reasonNumber, create, rekey, locate, get, getAttributes, getUsageAllocation, activate, revoke, destroy, success, operationFailed}
 use Rattle.changes.specs.Changes.{serialMost}
 use Rattle.words.specs.Words.{wordsOf, wordBytes, wordsOk, filled}
 use Rattle.plans.specs.declared.Shown.{Shown}
 use Rattle.plans.specs.declared.Key.{Key}
 use Rattle.plans.specs.declared.Outcome.{Outcome}
-use Rattle.plans.specs.declared.Outcome.the-variants.{Failed, Created, Done, Showed, Got}
+use Rattle.plans.specs.declared.Outcome.the-variants.{Failed, Created, Done, Showed, Got, Located}
 use Rattle.batch_item.specs.Item.{idMost, idOk, idBytes}
 use Rattle.frame.specs.Frame.{batchMost}
 use Rattle.answer.specs.Respond.{Answer, Response, raw, materialOf, replacedObjectLink, replacementObjectLink}
@@ -99,6 +102,16 @@ orNoLink t (some found) = some found
 unfoldable pub linkIn : ℕ → Items → Option (ℕ × Items)
 linkIn kind t = orNoLink t (linkFirst kind t)
 
+-- a Name in front, in its one spelling
+unfoldable pub nameShown : Items → Option (Name × Items)
+nameShown t = do
+  (body, rest) ← bodyOf nameTag t
+  (v, r) ← bytesOf nameValue textString body
+  nameOk v
+  s ← fixed nameType enumeration uninterpretedText r
+  ended s
+  some (nameOf v, rest)
+
 unfoldable pub shownIn : ℕ → Items → Option Shown
 shownIn serial t = do
   r ← fixed cryptographicAlgorithm enumeration aes t
@@ -109,7 +122,8 @@ shownIn serial t = do
   (deactivation, x) ← optional deactivationDate (setDate deactivationDate) w
   (given, y) ← optional usageLimits limitsFirst x
   (replaced, z) ← linkIn replacedObjectLink y
-  (replacement, after) ← linkIn replacementObjectLink z
+  (replacement, last) ← linkIn replacementObjectLink z
+  (name, after) ← optional nameTag nameShown last
   ended after
   some (record {
     serial = serial;
@@ -123,6 +137,7 @@ shownIn serial t = do
     count = orNoLimits given .count;
     replaced = replaced;
     replacement = replacement;
+    name = orNoName name;
   })
 
 unfoldable pub createdIn : Items → Option Outcome
@@ -180,6 +195,12 @@ gotIn t = do
   key ← keyIn serial s
   some (Got key)
 
+unfoldable pub locatedIn : Items → Option Outcome
+locatedIn t = do
+  (serial, rest) ← optional uniqueIdentifier (serialIn uniqueIdentifier) t
+  ended rest
+  some (Located (orUnset serial))
+
 -- Re-key, Get Usage Allocation, Activate, Revoke, Destroy: the operations that answer an identifier alone
 abbrev pub answersDone : ℕ → Bool
 answersDone operation = eqb operation rekey || eqb operation getUsageAllocation || eqb operation activate || eqb operation revoke || eqb operation destroy
@@ -191,13 +212,14 @@ payloadIn operation t =
     (ifb (answersDone operation) (doneIn t)
     (ifb (eqb operation getAttributes) (showedIn t)
     (ifb (eqb operation get) (gotIn t)
-    none)))
+    (ifb (eqb operation locate) (locatedIn t)
+    none))))
 
 -- ---- outcomes
 
 -- the reasons that a failure may have
 abbrev pub reasons : List Reason
-reasons = OperationNotSupported ∷ InvalidField ∷ PermissionDenied ∷ UsageLimitExceeded ∷ ObjectDestroyed ∷ ObjectNotFound ∷ ServerLimitExceeded ∷ WrongKeyLifecycleState ∷ []
+reasons = OperationNotSupported ∷ InvalidField ∷ PermissionDenied ∷ UsageLimitExceeded ∷ ObjectDestroyed ∷ ObjectNotFound ∷ ServerLimitExceeded ∷ WrongKeyLifecycleState ∷ NonUniqueName ∷ []
 
 -- the one of some reasons that has a number
 unfoldable pub reasonAmong : ℕ → List Reason → Option Reason
@@ -263,7 +285,11 @@ serialOk serial = leb 1 serial && leb serial serialMost
 abbrev pub linkOk : ℕ → Bool
 linkOk serial = leb serial serialMost
 
--- "each success has its operation's payload with values in 01's ranges"; dates as a sound table has them
+-- no name, or one that its own text makes
+unfoldable pub nameShownOk : Name → Bool
+nameShownOk m = ifb (isNamed m) (nameOk (nameText m) && sameName (nameOf (nameText m)) m) (sameName noName m)
+
+-- "each success has its operation's payload with values in 01's ranges"; dates and name as a sound table has them
 unfoldable pub shownOk : Shown → Bool
 shownOk s =
     serialOk (s .serial)
@@ -276,6 +302,7 @@ shownOk s =
     && ifb (eqb (s .unit) 0) (eqb (s .total) 0 && eqb (s .count) 0) (unitOk (s .unit) && totalOk (s .total) && leb (s .count) (s .total))
     && linkOk (s .replaced)
     && linkOk (s .replacement)
+    && nameShownOk (s .name)
 
 -- a key as a sound table has it: zero past its length
 unfoldable pub keyOk : Key → Bool
@@ -288,6 +315,7 @@ outcomeOk operation (Created serial) = eqb operation create && serialOk serial
 outcomeOk operation (Done serial) = answersDone operation && serialOk serial
 outcomeOk operation (Showed shown) = eqb operation getAttributes && shownOk shown
 outcomeOk operation (Got key) = eqb operation get && keyOk key
+outcomeOk operation (Located serial) = eqb operation locate && linkOk serial
 
 unfoldable pub answerOk : Answer → Bool
 answerOk a = ltb (a .operation) (2 ^ 32) && leb (length (a .id)) idMost && outcomeOk (a .operation) (a .outcome)

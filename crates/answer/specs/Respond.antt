@@ -1,4 +1,4 @@
--- 01, "Response Message", and 02, L1 and L3: the answers to a request as items. With `encode` it is the one spelling of a response.
+-- 01, "Response Message", and 02, L1, L3 and L6: the answers to a request as items. With `encode` it is the one spelling of a response.
 -- Assumes nothing.
 use Prim.Native.Nat.{ℕ, _/_}
 use mathlib.Core.List.{List, [], _∷_}
@@ -8,8 +8,11 @@ use Rattle.octets.specs.If.{ifb}
 use Rattle.octets.specs.Octets.{be}
 use Rattle.ttlv_types.specs.Types.{integer, longInteger, enumeration, textString, byteString, dateTime}
 use Rattle.ttlv.specs.Items.{Items, nil, value, group}
-use Rattle.tags.specs.Tags.{activationDate, batchCount, batchItem, operationTag, protocolVersion, protocolVersionMajor, protocolVersionMinor, uniqueBatchItemId, attributes, cryptographicAlgorithm, cryptographicLength, cryptographicUsageMask, deactivationDate, keyBlock, keyFormatType, keyMaterial, keyValue, objectType, uniqueIdentifier, usageLimits, usageLimitsCount, usageLimitsTotal, usageLimitsUnit, link, linkType, linkedObjectIdentifier, responseHeader, responseMessage, responsePayload, resultReason, resultStatus, stateTag, symmetricKeyTag, timeStamp}
+use Rattle.tags.specs.Tags.{activationDate, batchCount, batchItem, operationTag, protocolVersion, protocolVersionMajor, protocolVersionMinor, uniqueBatchItemId, attributes, cryptographicAlgorithm, cryptographicLength, cryptographicUsageMask, deactivationDate, keyBlock, keyFormatType, keyMaterial, keyValue, nameTag, nameType, nameValue, objectType, uniqueIdentifier, usageLimits, usageLimitsCount, usageLimitsTotal, usageLimitsUnit, link, linkType, linkedObjectIdentifier, responseHeader, responseMessage, responsePayload, resultReason, resultStatus, stateTag, symmetricKeyTag, timeStamp}
+use Rattle.names.specs.declared.Name.{Name}
+use Rattle.names.specs.Names.{nameText}
 use Rattle.attributes_read.specs.Attributes.{aes}
+use Rattle.name_read.specs.Name.{uninterpretedText}
 use Rattle.payload.specs.Payload.{symmetricKey}
 use Rattle.identifier.specs.Identifier.{identifier}
 use Rattle.rules.specs.Numbers.{success, operationFailed, reasonNumber}
@@ -17,7 +20,7 @@ use Rattle.words.specs.Words.{wordBytes}
 use Rattle.plans.specs.declared.Shown.{Shown}
 use Rattle.plans.specs.declared.Key.{Key}
 use Rattle.plans.specs.declared.Outcome.{Outcome}
-use Rattle.plans.specs.declared.Outcome.the-variants.{Failed, Created, Done, Showed, Got}
+use Rattle.plans.specs.declared.Outcome.the-variants.{Failed, Created, Done, Showed, Got, Located}
 
 -- ---- what a response says
 
@@ -75,8 +78,12 @@ linkItems kind serial rest =
     ifb (eqb serial 0) rest
     (group link (word linkType enumeration kind (named linkedObjectIdentifier serial nil)) rest)
 
+-- "Name { Name Value, Name Type }", "type uninterpreted text", if there is one
+unfoldable pub nameItems : Name → Items → Items
+nameItems m rest = ifb (eqb (m .len) 0) rest (group nameTag (value nameValue textString (nameText m) (word nameType enumeration uninterpretedText nil)) rest)
+
 -- "Attributes with algorithm, length, mask, State, Usage Limits if any, Links: 107 hex replaced, then 106 hex replacement"; the dates
--- "that are set, after State"
+-- "that are set, after State"; the Name "last"
 unfoldable pub attributeItems : Shown → Items
 attributeItems s =
     word cryptographicAlgorithm enumeration aes
@@ -87,7 +94,8 @@ attributeItems s =
     (dateItems deactivationDate (s .deactivation)
     (limitItems s
     (linkItems replacedObjectLink (s .replaced)
-    (linkItems replacementObjectLink (s .replacement) nil))))))))
+    (linkItems replacementObjectLink (s .replacement)
+    (nameItems (s .name) nil)))))))))
 
 -- "Key Format Type Raw"
 abbrev pub raw : ℕ
@@ -113,6 +121,10 @@ keyBlockItems material bits =
 unfoldable pub keyItems : Key → Items
 keyItems k = group symmetricKeyTag (group keyBlock (keyBlockItems (materialOf k) (k .bits)) nil) nil
 
+-- "the one identifier or an empty payload"
+unfoldable pub locatedItems : ℕ → Items
+locatedItems serial = ifb (eqb serial 0) nil (named uniqueIdentifier serial nil)
+
 -- a success: its status and its payload
 abbrev pub succeeded : Items → Items
 succeeded payload = word resultStatus enumeration success (group responsePayload payload nil)
@@ -124,6 +136,7 @@ outcomeItems (Created serial) = succeeded (word objectType enumeration symmetric
 outcomeItems (Done serial) = succeeded (named uniqueIdentifier serial nil)
 outcomeItems (Showed shown) = succeeded (named uniqueIdentifier (shown .serial) (group attributes (attributeItems shown) nil))
 outcomeItems (Got key) = succeeded (word objectType enumeration symmetricKey (named uniqueIdentifier (key .serial) (keyItems key)))
+outcomeItems (Located serial) = succeeded (locatedItems serial)
 
 -- ---- the message
 

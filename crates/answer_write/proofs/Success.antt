@@ -41,8 +41,8 @@ puts-name room serial w l =
     puts-named uniqueIdentifier serial refl w (omega arith)
 
 -- the payload was written behind the room of these
-pub opening-room : (room : List ℕ) {t : Items} {a n : ℕ} {ys : List ℕ} → Puts a t (midOf 24 (length room - 24) room) ys n → 24 ≤ length room → a ≤ 256
-    → (24 + n ≤ length (putMid 24 (length room - 24) room ys)) × (n ≤ 256) × (n % 8 ≡ 0)
+pub opening-room : (room : List ℕ) {t : Items} {a n : ℕ} {ys : List ℕ} → Puts a t (midOf 24 (length room - 24) room) ys n → 24 ≤ length room → a ≤ 320
+    → (24 + n ≤ length (putMid 24 (length room - 24) room ys)) × (n ≤ 320) × (n % 8 ≡ 0)
 opening-room room {ys = ys} p l s =
     let e = lent-length 24 room ys (holds-length (p .holds)) in
     let left : length (midOf 24 (length room - 24) room) ≡ length room - 24 = rw (length-take, length-drop) (omega arith) in

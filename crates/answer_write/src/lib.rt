@@ -10,7 +10,7 @@ ghost use Rattle.tags.specs.Tags.{batchItem, attributes, objectType, uniqueIden
 ghost use Rattle.payload.specs.Payload.{symmetricKey};
 ghost use Rattle.batch_item.specs.Item.{idMost};
 ghost use Rattle.plans.specs.declared.Outcome.the-variants.{Failed};
-ghost use Rattle.answer.specs.Respond.{word, named, attributeItems, keyItems, outcomeItems, idItems, answerItems};
+ghost use Rattle.answer.specs.Respond.{word, named, attributeItems, keyItems, locatedItems, outcomeItems, idItems, answerItems};
 ghost use Rattle.answer.specs.Front.{longestItem};
 ghost use Rattle.named_write.specs.Puts.{Puts};
 ghost use Rattle.answer_write.specs.Answers.{opening, answerOf};
@@ -41,8 +41,8 @@ fn write_created(out: &mut [u8], serial: u32) -> usize
 
 // The payload of Get Attributes.
 fn write_showed(out: &mut [u8], shown: Shown) -> usize
-    requires { ⌜ 256 ≤ length (now out) ⌝ }
-    ensures { λ r. ⌜ Puts 256 (named uniqueIdentifier (shown .serial) (group attributes (attributeItems shown) nil)) (now (out .entry)) (now (out .exit)) r ⌝ }
+    requires { ⌜ 320 ≤ length (now out) ⌝ }
+    ensures { λ r. ⌜ Puts 320 (named uniqueIdentifier (shown .serial) (group attributes (attributeItems shown) nil)) (now (out .entry)) (now (out .exit)) r ⌝ }
 {
     let n = named_write::write_named(out, tags::UNIQUE_IDENTIFIER, shown.serial);
     let m = attributes_write::write_attributes(&mut out[n..], shown);
@@ -59,12 +59,23 @@ fn write_got(out: &mut [u8], key: Key) -> usize
     n + m
 }
 
+// The payload of Locate: the identifier of what was found; nothing where nothing was.
+fn write_located(out: &mut [u8], serial: u32) -> usize
+    requires { ⌜ 16 ≤ length (now out) ⌝ }
+    ensures { λ r. ⌜ Puts 16 (locatedItems serial) (now (out .entry)) (now (out .exit)) r ⌝ }
+{
+    if serial == 0 {
+        return 0;
+    }
+    named_write::write_named(out, tags::UNIQUE_IDENTIFIER, serial)
+}
+
 // ---- outcomes
 
 // The status of a success and the head of its payload, in front of the payload's n bytes. Each
 // caller shows that n is a length of items.
 fn write_success(out: &mut [u8], n: usize) -> usize
-    requires { ⌜ (24 + n ≤ length (now out)) × (n ≤ 256) × (n % 8 ≡ 0) ⌝ }
+    requires { ⌜ (24 + n ≤ length (now out)) × (n ≤ 320) × (n % 8 ≡ 0) ⌝ }
     ensures { λ r. ⌜ (r ≡ 24 + n) × Holds (opening n) (now (out .entry)) (now (out .exit)) 24 ⌝ }
 {
     ttlv_numbers::write_enumeration(out, tags::RESULT_STATUS, SUCCESS);
@@ -87,8 +98,8 @@ fn write_failure(out: &mut [u8], reason: Reason) -> usize
 
 // What became of an item: a reason, or a payload.
 fn write_outcome(out: &mut [u8], outcome: Outcome) -> usize
-    requires { ⌜ 280 ≤ length (now out) ⌝ }
-    ensures { λ r. ⌜ Puts 280 (outcomeItems outcome) (now (out .entry)) (now (out .exit)) r ⌝ }
+    requires { ⌜ 344 ≤ length (now out) ⌝ }
+    ensures { λ r. ⌜ Puts 344 (outcomeItems outcome) (now (out .entry)) (now (out .exit)) r ⌝ }
 {
     match outcome {
         Outcome::Failed { reason } => write_failure(out, reason),
@@ -106,6 +117,10 @@ fn write_outcome(out: &mut [u8], outcome: Outcome) -> usize
         }
         Outcome::Got { key } => {
             let n = write_got(&mut out[24..], key);
+            write_success(out, n)
+        }
+        Outcome::Located { serial } => {
+            let n = write_located(&mut out[24..], serial);
             write_success(out, n)
         }
     }
@@ -127,8 +142,8 @@ fn write_id(out: &mut [u8], id: ItemId) -> usize
 }
 
 fn write_answer_items(out: &mut [u8], operation: u32, id: ItemId, outcome: Outcome) -> usize
-    requires { ⌜ (320 ≤ length (now out)) × (id .len ≤ idMost) ⌝ }
-    ensures { λ r. ⌜ Puts 320 (answerItems (answerOf operation id outcome)) (now (out .entry)) (now (out .exit)) r ⌝ }
+    requires { ⌜ (384 ≤ length (now out)) × (id .len ≤ idMost) ⌝ }
+    ensures { λ r. ⌜ Puts 384 (answerItems (answerOf operation id outcome)) (now (out .entry)) (now (out .exit)) r ⌝ }
 {
     ttlv_numbers::write_enumeration(out, tags::OPERATION, operation);
     let n = write_id(&mut out[16..], id);

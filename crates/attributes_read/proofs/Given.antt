@@ -25,6 +25,7 @@ use Rattle.last_field.proofs.Steps.{stops, goes, fails, holds, number-goes, num
 use Rattle.values.specs.Values.{aboveZero}
 use Rattle.rules.specs.declared.Attributes.{Attributes}
 use Rattle.tags.specs.Tags.{usageLimits}
+use Rattle.names.specs.declared.Name.{Name}
 use Rattle.attributes_read.specs.Attributes.{Limit, limitIn, limitFirst, dateFirst, orUnset, wantedOf}
 use Rattle.attributes_read.specs.Readers.{limitRead, limitsEnd, limitsBody, limitsAt, dateField, dateAt}
 use Rattle.attributes_read.specs.declared.LimitRead.the-variants.{Limited, InvalidField as InvalidLimit}
@@ -60,17 +61,18 @@ module _ {A : Type 0} (s : List ℕ) (run : isRun s ≡ true) (tag : ℕ) (read 
 -- ---- Usage Limits
 
 -- the attributes with this unit and total
-abbrev pub wants : ℕ → ℕ → ℕ → ℕ → ℕ → ℕ → Attributes
-wants bits mask unit total activation deactivation =
-    record { bits = bits; mask = mask; unit = unit; total = total; activation = activation; deactivation = deactivation }
+abbrev pub wants : ℕ → ℕ → ℕ → ℕ → ℕ → ℕ → Name → Attributes
+wants bits mask unit total activation deactivation name =
+    record { bits = bits; mask = mask; unit = unit; total = total; activation = activation; deactivation = deactivation; name = name }
 
 -- a limit, or none, with this unit and total
 abbrev pub LimitIs : ℕ → ℕ → Option Limit → Type 0
-LimitIs unit total limit = (bits mask activation deactivation : ℕ) → wantedOf bits mask limit activation deactivation ≡ wants bits mask unit total activation deactivation
+LimitIs unit total limit =
+    (bits mask activation deactivation : ℕ) (name : Name) → wantedOf bits mask limit activation deactivation name ≡ wants bits mask unit total activation deactivation name
 
 limit-is : (limit : Limit) {unit total : ℕ} → limit .unit ≡ unit → limit .total ≡ total → LimitIs unit total (some limit)
 unfolding wantedOf
-limit-is limit p q bits mask activation deactivation = rw (p, q)
+limit-is limit p q bits mask activation deactivation name = rw (p, q)
 
 end-is : {m unit total next : ℕ} (o : Option Limit) → limitsEnd m o ≡ Limits unit total next → (limit : Limit) × (o ≡ some limit) × (limit .unit ≡ unit) × (limit .total ≡ total) × (m ≡ next)
 unfolding limitsEnd
@@ -121,7 +123,7 @@ module _ (s : List ℕ) (run : isRun s ≡ true) where
       let u : 0 ≡ unit = cc in
       let t : 0 ≡ total = cc in
       let z : next ≡ 0 = cc in
-      absent s run usageLimits limitFirst z n (λ bits mask activation deactivation. ap₂ (λ (x : ℕ) (y : ℕ). wants bits mask x y activation deactivation) u t))
+      absent s run usageLimits limitFirst z n (λ bits mask activation deactivation name. ap₂ (λ (x : ℕ) (y : ℕ). wants bits mask x y activation deactivation name) u t))
 
   pub limits-not : limitsAt s ≡ InvalidLimits → optional usageLimits limitFirst (treeOf s) ≡ none
   unfolding limitsAt

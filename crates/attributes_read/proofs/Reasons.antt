@@ -10,9 +10,10 @@ use Rattle.fields.specs.Fields.{optional}
 use Rattle.tags.specs.Tags.{usageLimits}
 use Rattle.rules.specs.Tests.{readReason}
 use Rattle.rules.specs.declared.Attributes.{Attributes}
+use Rattle.names.specs.declared.Name.{Name}
 use Rattle.attributes_read.specs.Attributes.{Limit, limitFirst, dateFirst}
-use Rattle.attributes_read.specs.Readers.{limitRead, limitsAt, dateAt, datesRead, attributesRead}
-use Rattle.attributes_read.specs.Reasons.{limitReason, limitsReason, dateReason, datesReason, attributesReason}
+use Rattle.attributes_read.specs.Readers.{limitRead, limitsAt, dateAt, datedRead, attributesRead}
+use Rattle.attributes_read.specs.Reasons.{limitReason, limitsReason, dateReason, datedReason, attributesReason}
 use Rattle.attributes_read.specs.declared.LimitsRead.{LimitsRead}
 use Rattle.attributes_read.specs.declared.LimitsRead.the-variants.{Limits, InvalidField as InvalidLimits}
 use Rattle.attributes_read.specs.declared.DateRead.{DateRead}
@@ -40,10 +41,10 @@ date-reason s run tag = go (dateAt s tag) refl
     go (Date date next) e = sym (ap readReason (date-is s run tag e .read))
     go InvalidDate e = sym (ap readReason (date-not s run tag e))
 
-pub dates-reason : (o : Option (ℕ × ℕ)) → datesReason (datesRead o) ≡ readReason o
-unfolding datesReason datesRead readReason
-dates-reason none = refl
-dates-reason (some (activation, deactivation)) = refl
+pub dated-reason : (o : Option (ℕ × ℕ × Name)) → datedReason (datedRead o) ≡ readReason o
+unfolding datedReason datedRead readReason
+dated-reason none = refl
+dated-reason (some (activation, deactivation, name)) = refl
 
 pub attributes-reason : (o : Option Attributes) → attributesReason (attributesRead o) ≡ readReason o
 unfolding attributesReason attributesRead readReason

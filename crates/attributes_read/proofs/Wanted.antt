@@ -6,7 +6,6 @@ use native.Mathlib.Omega.{arith}
 use mathlib.Core.Bool.{true, false, false≢true}
 use mathlib.Core.Option.{Option, none, some}
 use mathlib.Core.List.{List}
-use lib.ListN.{length}
 use lib.Dec.{eqb}
 use borrow.Author.Tests.{eq-eqb, ne-eqb, eqb-true, leb-true}
 use Rattle.octets.specs.Maybe.{_>>=_, _>>_}
@@ -17,15 +16,20 @@ use Rattle.ttlv.specs.Tree.{isRun, treeOf}
 use Rattle.fields.specs.Fields.{numberOf, optional}
 use Rattle.fields.specs.Found.{numberAt}
 use Rattle.fields.specs.declared.NumberField.the-variants.{Number, NoNumber}
-use Rattle.fields.proofs.Runs.{tail, tail-ended, tail-more}
+use Rattle.fields.proofs.Runs.{tail}
 use Rattle.values.specs.Values.{bitsOk, maskOk, unitOk, totalOk, inOrder}
 use Rattle.rules.specs.declared.Attributes.{Attributes}
 use Rattle.tags.specs.Tags.{activationDate, cryptographicAlgorithm, cryptographicLength, cryptographicUsageMask, deactivationDate, usageLimits, usageLimitsTotal, usageLimitsUnit}
-use Rattle.attributes_read.specs.Attributes.{aes, Limit, limitIn, limitFirst, dateFirst, orUnset, datesIn, wantedOf, limitedIn, maskedIn, attributesIn}
-use Rattle.attributes_read.specs.Readers.{limitsAt, dateAt, datesRead, attributesRead}
+use Rattle.names.specs.declared.Name.{Name}
+use Rattle.name_read.specs.Name.{lastNameIn}
+use Rattle.name_read.specs.Readers.{nameRead}
+use Rattle.name_read.specs.declared.NameRead.the-variants.{Named, InvalidField as InvalidName}
+use Rattle.name_read.proofs.Read.{name-none, name-some}
+use Rattle.attributes_read.specs.Attributes.{aes, Limit, limitIn, limitFirst, dateFirst, orUnset, datedIn, wantedOf, limitedIn, maskedIn, attributesIn}
+use Rattle.attributes_read.specs.Readers.{limitsAt, dateAt, datedRead, attributesRead}
 use Rattle.attributes_read.specs.declared.LimitsRead.the-variants.{Limits, InvalidField as InvalidLimits}
 use Rattle.attributes_read.specs.declared.DateRead.the-variants.{Date, InvalidField as InvalidDate}
-use Rattle.attributes_read.specs.declared.DatesRead.the-variants.{Dates, InvalidField as InvalidDates}
+use Rattle.attributes_read.specs.declared.DatedRead.the-variants.{Dated, InvalidField as InvalidDated}
 use Rattle.attributes_read.specs.declared.AttributesRead.the-variants.{Wanted, InvalidField as InvalidAttributes}
 use Rattle.last_field.proofs.Steps.{stops, goes, fails, holds, number-goes, number-stops}
 use Rattle.attributes_read.proofs.Given.{Given, wants, LimitIs, limits-is, limits-not, date-is, date-not}
@@ -53,79 +57,88 @@ module _ (s : List ℕ) (run : isRun s ≡ true) where
     unfolding limitIn
     limit-unit f = number-goes s run usageLimitsTotal longInteger refl e _ ∙ holds _ f
 
--- ---- the dates
+-- ---- the dates and the name
+
+-- the name that was read, behind these dates
+abbrev pub withName : ℕ → ℕ → Option Name → Option (ℕ × ℕ × Name)
+withName activation deactivation o = o >>= λ name. some (activation, deactivation, name)
+
+module _ (activation deactivation : ℕ) where
+  pub name-stops : (o : Option Name) → nameRead o ≡ InvalidName → withName activation deactivation o ≡ none
+  name-stops o h = stops _ (name-none o h)
+
+  pub name-goes : (o : Option Name) {name : Name} → nameRead o ≡ Named name → withName activation deactivation o ≡ some (activation, deactivation, name)
+  name-goes o h = goes _ (name-some o h)
 
 module _ (s : List ℕ) (run : isRun s ≡ true) where
-  pub dates-no-activation : dateAt s activationDate ≡ InvalidDate → datesIn (treeOf s) ≡ none
-  unfolding datesIn
-  dates-no-activation e = stops _ (date-not s run activationDate e)
+  pub dated-no-activation : dateAt s activationDate ≡ InvalidDate → datedIn (treeOf s) ≡ none
+  unfolding datedIn
+  dated-no-activation e = stops _ (date-not s run activationDate e)
 
   module _ {activation next : ℕ} (e : dateAt s activationDate ≡ Date activation next) where
     pub activation-is : Given s (optional activationDate (dateFirst activationDate) (treeOf s)) next (λ given. orUnset given ≡ activation)
     activation-is = date-is s run activationDate e
 
-    pub dates-no-deactivation : dateAt (tail s next) deactivationDate ≡ InvalidDate → datesIn (treeOf s) ≡ none
-    unfolding datesIn
-    dates-no-deactivation f = goes _ (activation-is .read) ∙ stops _ (date-not (tail s next) (activation-is .behind) deactivationDate f)
+    pub dated-no-deactivation : dateAt (tail s next) deactivationDate ≡ InvalidDate → datedIn (treeOf s) ≡ none
+    unfolding datedIn
+    dated-no-deactivation f = goes _ (activation-is .read) ∙ stops _ (date-not (tail s next) (activation-is .behind) deactivationDate f)
 
     module _ {deactivation end : ℕ} (f : dateAt (tail s next) deactivationDate ≡ Date deactivation end) where
-      deactivation-is : Given (tail s next) (optional deactivationDate (dateFirst deactivationDate) (treeOf (tail s next))) end (λ given. orUnset given ≡ deactivation)
+      pub deactivation-is : Given (tail s next) (optional deactivationDate (dateFirst deactivationDate) (treeOf (tail s next))) end (λ given. orUnset given ≡ deactivation)
       deactivation-is = date-is (tail s next) (activation-is .behind) deactivationDate f
 
-      -- both dates are known: what is left is their order, and that nothing is behind them
-      dates-left : datesIn (treeOf s) ≡ (inOrder activation deactivation >> (ended (treeOf (tail (tail s next) end)) >> some (activation, deactivation)))
-      unfolding datesIn
-      dates-left =
+      -- both dates are known: what is left is their order, and the name
+      dated-left : datedIn (treeOf s) ≡ (inOrder activation deactivation >> withName activation deactivation (lastNameIn (treeOf (tail (tail s next) end))))
+      unfolding datedIn
+      dated-left =
           goes _ (activation-is .read)
           ∙ goes _ (deactivation-is .read)
-          ∙ ap₂ (λ (x : ℕ) (y : ℕ). inOrder x y >> (ended (treeOf (tail (tail s next) end)) >> some (x, y))) (activation-is .is) (deactivation-is .is)
+          ∙ ap₂ (λ (x : ℕ) (y : ℕ). inOrder x y >> withName x y (lastNameIn (treeOf (tail (tail s next) end)))) (activation-is .is) (deactivation-is .is)
 
-      pub dates-wrong-order : inOrder activation deactivation ≡ false → datesIn (treeOf s) ≡ none
-      dates-wrong-order o = dates-left ∙ fails _ o
+      pub dated-wrong-order : inOrder activation deactivation ≡ false → datedIn (treeOf s) ≡ none
+      dated-wrong-order o = dated-left ∙ fails _ o
 
-      pub dates-more : inOrder activation deactivation ≡ true → (end ≡ length (tail s next) → ⊥) → datesIn (treeOf s) ≡ none
-      dates-more o n = dates-left ∙ holds _ o ∙ fails _ (tail-more (tail s next) end (deactivation-is .behind) (deactivation-is .within) n)
-
-      pub dates-are : inOrder activation deactivation ≡ true → end ≡ length (tail s next) → datesIn (treeOf s) ≡ some (activation, deactivation)
-      dates-are o l = dates-left ∙ holds _ o ∙ holds _ (tail-ended (tail s next) end (deactivation-is .behind) l)
+      pub dated-name : inOrder activation deactivation ≡ true → datedIn (treeOf s) ≡ withName activation deactivation (lastNameIn (treeOf (tail (tail s next) end)))
+      dated-name o = dated-left ∙ holds _ o
 
 -- ---- behind the mask
 
--- the attributes with the dates that were read
-abbrev pub withDates : ℕ → ℕ → ℕ → ℕ → Option (ℕ × ℕ) → Option Attributes
-withDates bits mask unit total o = o >>= λ (activation, deactivation). some (wants bits mask unit total activation deactivation)
+-- the attributes with the dates and the name that were read
+abbrev pub withDated : ℕ → ℕ → ℕ → ℕ → Option (ℕ × ℕ × Name) → Option Attributes
+withDated bits mask unit total o = o >>= λ (activation, deactivation, name). some (wants bits mask unit total activation deactivation name)
 
 module _ (bits mask unit total : ℕ) where
-  pub dates-none : (o : Option (ℕ × ℕ)) → datesRead o ≡ InvalidDates → withDates bits mask unit total o ≡ none
-  unfolding datesRead _>>=_
-  dates-none none h = refl
-  dates-none (some (activation, deactivation)) h = let z : _≡_ {A = ℕ} 0 1 = cc in absurd (omega arith)
+  pub dated-none : (o : Option (ℕ × ℕ × Name)) → datedRead o ≡ InvalidDated → withDated bits mask unit total o ≡ none
+  unfolding datedRead _>>=_
+  dated-none none h = refl
+  dated-none (some (activation, deactivation, name)) h = let z : _≡_ {A = ℕ} 0 1 = cc in absurd (omega arith)
 
-  pub dates-some : (o : Option (ℕ × ℕ)) {activation deactivation : ℕ} → datesRead o ≡ Dates activation deactivation
-      → withDates bits mask unit total o ≡ some (wants bits mask unit total activation deactivation)
-  unfolding datesRead _>>=_
-  dates-some none h = let z : _≡_ {A = ℕ} 0 1 = cc in absurd (omega arith)
-  dates-some (some (a, d)) {activation} {deactivation} h =
+  pub dated-some : (o : Option (ℕ × ℕ × Name)) {activation deactivation : ℕ} {name : Name} → datedRead o ≡ Dated activation deactivation name
+      → withDated bits mask unit total o ≡ some (wants bits mask unit total activation deactivation name)
+  unfolding datedRead _>>=_
+  dated-some none h = let z : _≡_ {A = ℕ} 0 1 = cc in absurd (omega arith)
+  dated-some (some (a, d, m)) {activation} {deactivation} {name} h =
       let p : a ≡ activation = cc in
       let q : d ≡ deactivation = cc in
-      ap₂ (λ (x : ℕ) (y : ℕ). some (wants bits mask unit total x y)) p q
+      let r : m ≡ name = cc in
+      rw (p, q, r)
 
 module _ (s : List ℕ) (run : isRun s ≡ true) (bits mask : ℕ) where
   pub limited-none : limitsAt s ≡ InvalidLimits → limitedIn bits mask (treeOf s) ≡ none
   unfolding limitedIn
   limited-none e = stops _ (limits-not s run e)
 
-  -- the limit is known: what is left is the dates
-  pub limited-dates : {unit total next : ℕ} → limitsAt s ≡ Limits unit total next → limitedIn bits mask (treeOf s) ≡ withDates bits mask unit total (datesIn (treeOf (tail s next)))
+  -- the limit is known: what is left is the dates and the name
+  pub limited-dated : {unit total next : ℕ} → limitsAt s ≡ Limits unit total next → limitedIn bits mask (treeOf s) ≡ withDated bits mask unit total (datedIn (treeOf (tail s next)))
   unfolding limitedIn _>>=_
-  limited-dates {unit} {total} {next} e = goes _ (g .read) ∙ go (datesIn (treeOf (tail s next)))
+  limited-dated {unit} {total} {next} e = goes _ (g .read) ∙ go (datedIn (treeOf (tail s next)))
     where
       g : Given s (optional usageLimits limitFirst (treeOf s)) next (LimitIs unit total)
       g = limits-is s run e
 
-      go : (o : Option (ℕ × ℕ)) → (o >>= λ (activation, deactivation). some (wantedOf bits mask (g .given) activation deactivation)) ≡ withDates bits mask unit total o
+      go : (o : Option (ℕ × ℕ × Name)) → (o >>= λ (activation, deactivation, name). some (wantedOf bits mask (g .given) activation deactivation name)) ≡ withDated bits mask unit total o
       go none = refl
-      go (some (activation, deactivation)) = ap (λ (x : Attributes). some x) (g .is bits mask activation deactivation)
+      go (some (activation, deactivation, name)) = ap (λ (x : Attributes). some x) (g .is bits mask activation deactivation name)
 
 -- ---- from the mask on
 

@@ -13,23 +13,31 @@ use Rattle.ttlv.specs.Items.{encode, itemOk, wellFormed}
 use Rattle.ttlv.specs.Parse.{headed, firstOf, putValue, putGroup, more, walk, parse, isOne, message}
 use Rattle.fields.specs.Fields.{startsWith, bytesOf, bodyOf, numberOf, optional}
 use Rattle.rules.specs.declared.Attributes.{Attributes}
-use Rattle.attributes_read.specs.Attributes.{limitIn, limitFirst, dateFirst, orUnset, datesIn, wantedOf, limitedIn, maskedIn, attributesIn}
+use Rattle.words.specs.Words.{wordsOf, filled}
+use Rattle.names.specs.declared.Name.{Name}
+use Rattle.names.specs.Names.{noName, nameOf, nameOk}
+use Rattle.name_read.specs.Name.{nameBody, nameFirst, orNoName, lastNameIn}
+use Rattle.attributes_read.specs.Attributes.{limitIn, limitFirst, dateFirst, orUnset, datedIn, wantedOf, limitedIn, maskedIn, attributesIn}
 
--- the attributes that the bytes spell; none where they are no items
+-- where bytes are no items: attributes that no case expects, so that what is none here is a run of items
+abbrev broken : Attributes
+broken = record { bits = 0; mask = 0; unit = 0; total = 0; activation = 0; deactivation = 0; name = noName }
+
+-- the attributes that the bytes spell
 attributesOf : Option Items → Option Attributes
-attributesOf none = none
+attributesOf none = some broken
 attributesOf (some t) = attributesIn t
 
 -- the definitions that the cases compute with: who opens this opens them all
 opened : Unit {0}
-unfolding attributesOf ifb _>>=_ _>>_ isSome be fromBeAfter fromBe all same lengthOk text valueOk encode itemOk wellFormed headed firstOf putValue putGroup more walk parse isOne message startsWith ended bytesOf bodyOf numberOf optional limitIn limitFirst dateFirst orUnset datesIn wantedOf limitedIn maskedIn attributesIn
+unfolding attributesOf ifb _>>=_ _>>_ isSome be fromBeAfter fromBe all same lengthOk text valueOk encode itemOk wellFormed headed firstOf putValue putGroup more walk parse isOne message startsWith ended bytesOf bodyOf numberOf optional wordsOf filled nameOf nameOk nameBody nameFirst orNoName lastNameIn limitIn limitFirst dateFirst orUnset datedIn wantedOf limitedIn maskedIn attributesIn
 opened = tt
 
-limited : attributesOf (parse 5 (hex "42002805 00000004 00000003 00000000 42002A02 00000004 00000080 00000000 42002C02 00000004 00000004 00000000 42009501 00000020 42009703 00000008 00000000 00000064 42009805 00000004 00000002 00000000")) ≡ some (record { bits = 128; mask = 4; unit = 2; total = 100; activation = 0; deactivation = 0 })
+limited : attributesOf (parse 5 (hex "42002805 00000004 00000003 00000000 42002A02 00000004 00000080 00000000 42002C02 00000004 00000004 00000000 42009501 00000020 42009703 00000008 00000000 00000064 42009805 00000004 00000002 00000000")) ≡ some (record { bits = 128; mask = 4; unit = 2; total = 100; activation = 0; deactivation = 0; name = noName })
 unfolding opened
 limited = refl
 
-unlimited : attributesOf (parse 5 (hex "42002805 00000004 00000003 00000000 42002A02 00000004 00000100 00000000 42002C02 00000004 0000000C 00000000")) ≡ some (record { bits = 256; mask = 12; unit = 0; total = 0; activation = 0; deactivation = 0 })
+unlimited : attributesOf (parse 5 (hex "42002805 00000004 00000003 00000000 42002A02 00000004 00000100 00000000 42002C02 00000004 0000000C 00000000")) ≡ some (record { bits = 256; mask = 12; unit = 0; total = 0; activation = 0; deactivation = 0; name = noName })
 unfolding opened
 unlimited = refl
 
@@ -39,17 +47,17 @@ unfolding opened
 no-unit = refl
 
 -- both dates behind the limit
-dated : attributesOf (parse 5 (hex "42002805 00000004 00000003 00000000 42002A02 00000004 00000080 00000000 42002C02 00000004 00000004 00000000 42009501 00000020 42009703 00000008 00000000 00000064 42009805 00000004 00000002 00000000 42000109 00000008 00000000 00000005 42002F09 00000008 00000000 00000009")) ≡ some (record { bits = 128; mask = 4; unit = 2; total = 100; activation = 5; deactivation = 9 })
+dated : attributesOf (parse 5 (hex "42002805 00000004 00000003 00000000 42002A02 00000004 00000080 00000000 42002C02 00000004 00000004 00000000 42009501 00000020 42009703 00000008 00000000 00000064 42009805 00000004 00000002 00000000 42000109 00000008 00000000 00000005 42002F09 00000008 00000000 00000009")) ≡ some (record { bits = 128; mask = 4; unit = 2; total = 100; activation = 5; deactivation = 9; name = noName })
 unfolding opened
 dated = refl
 
 -- a deactivation date alone
-stopped : attributesOf (parse 5 (hex "42002805 00000004 00000003 00000000 42002A02 00000004 00000080 00000000 42002C02 00000004 00000004 00000000 42002F09 00000008 00000000 00000009")) ≡ some (record { bits = 128; mask = 4; unit = 0; total = 0; activation = 0; deactivation = 9 })
+stopped : attributesOf (parse 5 (hex "42002805 00000004 00000003 00000000 42002A02 00000004 00000080 00000000 42002C02 00000004 00000004 00000000 42002F09 00000008 00000000 00000009")) ≡ some (record { bits = 128; mask = 4; unit = 0; total = 0; activation = 0; deactivation = 9; name = noName })
 unfolding opened
 stopped = refl
 
 -- equal dates are in order
-at-once : attributesOf (parse 5 (hex "42002805 00000004 00000003 00000000 42002A02 00000004 00000080 00000000 42002C02 00000004 00000004 00000000 42000109 00000008 00000000 00000005 42002F09 00000008 00000000 00000005")) ≡ some (record { bits = 128; mask = 4; unit = 0; total = 0; activation = 5; deactivation = 5 })
+at-once : attributesOf (parse 5 (hex "42002805 00000004 00000003 00000000 42002A02 00000004 00000080 00000000 42002C02 00000004 00000004 00000000 42000109 00000008 00000000 00000005 42002F09 00000008 00000000 00000005")) ≡ some (record { bits = 128; mask = 4; unit = 0; total = 0; activation = 5; deactivation = 5; name = noName })
 unfolding opened
 at-once = refl
 
@@ -77,3 +85,29 @@ below-zero = refl
 long-date : attributesOf (parse 5 (hex "42002805 00000004 00000003 00000000 42002A02 00000004 00000080 00000000 42002C02 00000004 00000004 00000000 42000103 00000008 00000000 00000005")) ≡ none
 unfolding opened
 long-date = refl
+
+-- "pump"
+abbrev pump : Name
+pump = record { len = 4; zeros = 0; words = record { a = 0x70756D7000000000; b = 0; c = 0; d = 0 } }
+
+-- a name alone, and behind both dates
+named : attributesOf (parse 5 (hex "42002805 00000004 00000003 00000000 42002A02 00000004 00000080 00000000 42002C02 00000004 00000004 00000000 42005301 00000020 42005507 00000004 70756D70 00000000 42005405 00000004 00000001 00000000")) ≡ some (record { bits = 128; mask = 4; unit = 0; total = 0; activation = 0; deactivation = 0; name = pump })
+unfolding opened
+named = refl
+
+named-last : attributesOf (parse 5 (hex "42002805 00000004 00000003 00000000 42002A02 00000004 00000080 00000000 42002C02 00000004 00000004 00000000 42000109 00000008 00000000 00000005 42002F09 00000008 00000000 00000009 42005301 00000020 42005507 00000004 70756D70 00000000 42005405 00000004 00000001 00000000")) ≡ some (record { bits = 128; mask = 4; unit = 0; total = 0; activation = 5; deactivation = 9; name = pump })
+unfolding opened
+named-last = refl
+
+-- a name in front of a date, two names, and a name of type 2
+named-first : attributesOf (parse 5 (hex "42002805 00000004 00000003 00000000 42002A02 00000004 00000080 00000000 42002C02 00000004 00000004 00000000 42005301 00000020 42005507 00000004 70756D70 00000000 42005405 00000004 00000001 00000000 42000109 00000008 00000000 00000005")) ≡ none
+unfolding opened
+named-first = refl
+
+named-twice : attributesOf (parse 5 (hex "42002805 00000004 00000003 00000000 42002A02 00000004 00000080 00000000 42002C02 00000004 00000004 00000000 42005301 00000020 42005507 00000004 70756D70 00000000 42005405 00000004 00000001 00000000 42005301 00000020 42005507 00000004 70756D70 00000000 42005405 00000004 00000001 00000000")) ≡ none
+unfolding opened
+named-twice = refl
+
+named-uri : attributesOf (parse 5 (hex "42002805 00000004 00000003 00000000 42002A02 00000004 00000080 00000000 42002C02 00000004 00000004 00000000 42005301 00000020 42005507 00000004 70756D70 00000000 42005405 00000004 00000002 00000000")) ≡ none
+unfolding opened
+named-uri = refl

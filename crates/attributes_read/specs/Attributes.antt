@@ -1,4 +1,4 @@
--- 01, "Operations", Create, and 02, L3: what Attributes holds, and the values allowed in it.
+-- 01, "Operations", Create, and 02, L3 and L6: what Attributes holds, and the values allowed in it.
 -- Assumes nothing. "One of wrong shape or with a value not allowed here fails with Invalid Field."
 use Prim.Native.Nat.{ℕ}
 use mathlib.Core.Option.{Option, none, some}
@@ -10,6 +10,8 @@ use Rattle.fields.specs.Fields.{bodyOf, numberOf, optional}
 use Rattle.tags.specs.Tags.{activationDate, cryptographicAlgorithm, cryptographicLength, cryptographicUsageMask, deactivationDate, usageLimits, usageLimitsTotal, usageLimitsUnit}
 use Rattle.values.specs.Values.{bitsOk, maskOk, unitOk, totalOk, aboveZero, inOrder}
 use Rattle.rules.specs.declared.Attributes.{Attributes}
+use Rattle.names.specs.declared.Name.{Name}
+use Rattle.name_read.specs.Name.{lastNameIn}
 
 -- "Cryptographic Algorithm = 3": AES
 abbrev pub aes : ℕ
@@ -49,37 +51,37 @@ unfoldable pub orUnset : Option ℕ → ℕ
 orUnset none = 0
 orUnset (some date) = date
 
--- the end of Attributes: "both dates as optional last attributes, from 1 up, deactivation not before activation", and nothing behind them
-unfoldable pub datesIn : Items → Option (ℕ × ℕ)
-datesIn t = do
+-- from the dates on: "both dates as optional last attributes, from 1 up, deactivation not before activation" (L3); then the Name "as last attribute" (L6), and nothing behind it
+unfoldable pub datedIn : Items → Option (ℕ × ℕ × Name)
+datedIn t = do
   (activation, r) ← optional activationDate (dateFirst activationDate) t
   (deactivation, s) ← optional deactivationDate (dateFirst deactivationDate) r
   inOrder (orUnset activation) (orUnset deactivation)
-  ended s
-  some (orUnset activation, orUnset deactivation)
+  name ← lastNameIn s
+  some (orUnset activation, orUnset deactivation, name)
 
--- the attributes of a new key, of its length, mask, limit, activation and deactivation; no limit is unit 0 and total 0
-unfoldable pub wantedOf : ℕ → ℕ → Option Limit → ℕ → ℕ → Attributes
-wantedOf bits mask none activation deactivation =
-    record { bits = bits; mask = mask; unit = 0; total = 0; activation = activation; deactivation = deactivation }
-wantedOf bits mask (some limit) activation deactivation =
-    record { bits = bits; mask = mask; unit = limit .unit; total = limit .total; activation = activation; deactivation = deactivation }
+-- the attributes of a new key, of its length, mask, limit, activation, deactivation and name; no limit is unit 0 and total 0
+unfoldable pub wantedOf : ℕ → ℕ → Option Limit → ℕ → ℕ → Name → Attributes
+wantedOf bits mask none activation deactivation name =
+    record { bits = bits; mask = mask; unit = 0; total = 0; activation = activation; deactivation = deactivation; name = name }
+wantedOf bits mask (some limit) activation deactivation name =
+    record { bits = bits; mask = mask; unit = limit .unit; total = limit .total; activation = activation; deactivation = deactivation; name = name }
 
--- behind the mask, for a key of this length and mask: "[Usage Limits]", and the dates
+-- behind the mask, for a key of this length and mask: "[Usage Limits]", the dates and the name
 unfoldable pub limitedIn : ℕ → ℕ → Items → Option Attributes
 limitedIn bits mask t = do
   (limit, r) ← optional usageLimits limitFirst t
-  (activation, deactivation) ← datesIn r
-  some (wantedOf bits mask limit activation deactivation)
+  (activation, deactivation, name) ← datedIn r
+  some (wantedOf bits mask limit activation deactivation name)
 
--- from the mask on, for a key of this length: "Cryptographic Usage Mask, [Usage Limits]", and the dates
+-- from the mask on, for a key of this length: "Cryptographic Usage Mask, [Usage Limits]", the dates and the name
 unfoldable pub maskedIn : ℕ → Items → Option Attributes
 maskedIn bits t = do
   (mask, r) ← numberOf cryptographicUsageMask integer t
   maskOk mask
   limitedIn bits mask r
 
--- "Attributes { Cryptographic Algorithm = 3, Cryptographic Length, Cryptographic Usage Mask, [Usage Limits] }", and L3's dates
+-- "Attributes { Cryptographic Algorithm = 3, Cryptographic Length, Cryptographic Usage Mask, [Usage Limits] }", L3's dates and L6's Name
 unfoldable pub attributesIn : Items → Option Attributes
 attributesIn t = do
   (algorithm, r) ← numberOf cryptographicAlgorithm enumeration t

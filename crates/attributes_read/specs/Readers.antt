@@ -15,6 +15,7 @@ use Rattle.fields.specs.declared.BodyField.the-variants.{Body, NoBody}
 use Rattle.values.specs.Values.{aboveZero}
 use Rattle.tags.specs.Tags.{usageLimits}
 use Rattle.rules.specs.declared.Attributes.{Attributes}
+use Rattle.names.specs.declared.Name.{Name}
 use Rattle.attributes_read.specs.Attributes.{Limit, limitIn}
 use Rattle.attributes_read.specs.declared.LimitRead.{LimitRead}
 use Rattle.attributes_read.specs.declared.LimitRead.the-variants.{Limited, InvalidField as InvalidLimit}
@@ -22,8 +23,8 @@ use Rattle.attributes_read.specs.declared.LimitsRead.{LimitsRead}
 use Rattle.attributes_read.specs.declared.LimitsRead.the-variants.{Limits, InvalidField as InvalidLimits}
 use Rattle.attributes_read.specs.declared.DateRead.{DateRead}
 use Rattle.attributes_read.specs.declared.DateRead.the-variants.{Date, InvalidField as InvalidDate}
-use Rattle.attributes_read.specs.declared.DatesRead.{DatesRead}
-use Rattle.attributes_read.specs.declared.DatesRead.the-variants.{Dates, InvalidField as InvalidDates}
+use Rattle.attributes_read.specs.declared.DatedRead.{DatedRead}
+use Rattle.attributes_read.specs.declared.DatedRead.the-variants.{Dated, InvalidField as InvalidDated}
 use Rattle.attributes_read.specs.declared.AttributesRead.{AttributesRead}
 use Rattle.attributes_read.specs.declared.AttributesRead.the-variants.{Wanted, InvalidField as InvalidAttributes}
 
@@ -54,10 +55,10 @@ dateField NoNumber = InvalidDate
 unfoldable pub dateAt : List ℕ → ℕ → DateRead
 dateAt s tag = ifb (startsAt s tag) (dateField (numberAt s tag dateTime)) (Date 0 0)
 
--- both dates as the reader answers them
-unfoldable pub datesRead : Option (ℕ × ℕ) → DatesRead
-datesRead none = InvalidDates
-datesRead (some (activation, deactivation)) = Dates activation deactivation
+-- both dates and the name as the reader answers them
+unfoldable pub datedRead : Option (ℕ × ℕ × Name) → DatedRead
+datedRead none = InvalidDated
+datedRead (some (activation, deactivation, name)) = Dated activation deactivation name
 
 -- attributes as the reader answers them
 unfoldable pub attributesRead : Option Attributes → AttributesRead

@@ -9,8 +9,8 @@ use Rattle.attributes_read.specs.declared.LimitsRead.{LimitsRead}
 use Rattle.attributes_read.specs.declared.LimitsRead.the-variants.{Limits, InvalidField as InvalidLimits}
 use Rattle.attributes_read.specs.declared.DateRead.{DateRead}
 use Rattle.attributes_read.specs.declared.DateRead.the-variants.{Date, InvalidField as InvalidDate}
-use Rattle.attributes_read.specs.declared.DatesRead.{DatesRead}
-use Rattle.attributes_read.specs.declared.DatesRead.the-variants.{Dates, InvalidField as InvalidDates}
+use Rattle.attributes_read.specs.declared.DatedRead.{DatedRead}
+use Rattle.attributes_read.specs.declared.DatedRead.the-variants.{Dated, InvalidField as InvalidDated}
 use Rattle.attributes_read.specs.declared.AttributesRead.{AttributesRead}
 use Rattle.attributes_read.specs.declared.AttributesRead.the-variants.{Wanted, InvalidField as InvalidAttributes}
 
@@ -26,9 +26,9 @@ unfoldable pub dateReason : DateRead → Option Reason
 dateReason (Date date next) = none
 dateReason InvalidDate = some InvalidField
 
-unfoldable pub datesReason : DatesRead → Option Reason
-datesReason (Dates activation deactivation) = none
-datesReason InvalidDates = some InvalidField
+unfoldable pub datedReason : DatedRead → Option Reason
+datedReason (Dated activation deactivation name) = none
+datedReason InvalidDated = some InvalidField
 
 unfoldable pub attributesReason : AttributesRead → Option Reason
 attributesReason (Wanted wanted) = none

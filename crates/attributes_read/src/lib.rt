@@ -3,12 +3,14 @@
 // by the reader of payloads, which cuts it out of a payload that is a run.
 use fields::BodyField;
 use fields::NumberField;
+use name_read::NameRead;
+use names::Name;
 use rules::Attributes;
 ghost use mathlib.Core.Path.{_≡_};
 ghost use mathlib.Core.Bool.{true};
 ghost use Rattle.ttlv.specs.Tree.{isRun, treeOf};
-ghost use Rattle.attributes_read.specs.Attributes.{limitIn, datesIn, limitedIn, maskedIn, attributesIn};
-ghost use Rattle.attributes_read.specs.Readers.{limitRead, limitsAt, dateAt, datesRead, attributesRead};
+ghost use Rattle.attributes_read.specs.Attributes.{limitIn, datedIn, limitedIn, maskedIn, attributesIn};
+ghost use Rattle.attributes_read.specs.Readers.{limitRead, limitsAt, dateAt, datedRead, attributesRead};
 
 // The one algorithm: AES.
 const AES: u64 = 3;
@@ -33,9 +35,13 @@ enum DateRead {
     InvalidField,
 }
 
-// Both dates, 0 where one is not given, or that they are not by the rules.
-enum DatesRead {
-    Dates { activation: u64, deactivation: u64 },
+// Both dates, 0 where one is not given, and the name, or that they are not by the rules.
+enum DatedRead {
+    Dated {
+        activation: u64,
+        deactivation: u64,
+        name: Name,
+    },
     InvalidField,
 }
 
@@ -117,17 +123,17 @@ fn read_date(s: &[u8], tag: u32) -> DateRead
     DateRead::Date { date, next }
 }
 
-// The items behind Usage Limits: the dates, and nothing behind them.
-fn read_dates(s: &[u8]) -> DatesRead
+// The items behind Usage Limits: the dates, then the name, and nothing behind it.
+fn read_dated(s: &[u8]) -> DatedRead
     requires { ⌜ isRun (now s) ≡ true ⌝ }
-    ensures { λ r. ⌜ r ≡ datesRead (datesIn (treeOf (now (s .entry)))) ⌝ }
+    ensures { λ r. ⌜ r ≡ datedRead (datedIn (treeOf (now (s .entry)))) ⌝ }
 {
     let DateRead::Date {
         date: activation,
         next,
     } = read_date(s, tags::ACTIVATION_DATE)
     else {
-        return DatesRead::InvalidField;
+        return DatedRead::InvalidField;
     };
     let t = &s[next..];
     let DateRead::Date {
@@ -135,17 +141,18 @@ fn read_dates(s: &[u8]) -> DatesRead
         next: end,
     } = read_date(t, tags::DEACTIVATION_DATE)
     else {
-        return DatesRead::InvalidField;
+        return DatedRead::InvalidField;
     };
     if !values::in_order(activation, deactivation) {
-        return DatesRead::InvalidField;
+        return DatedRead::InvalidField;
     }
-    if end != t.len() {
-        return DatesRead::InvalidField;
-    }
-    DatesRead::Dates {
+    let NameRead::Named { name } = name_read::read_last_name(&t[end..]) else {
+        return DatedRead::InvalidField;
+    };
+    DatedRead::Dated {
         activation,
         deactivation,
+        name,
     }
 }
 
@@ -157,10 +164,11 @@ fn read_limited(s: &[u8], bits: u16, mask: u32) -> AttributesRead
     let LimitsRead::Limits { unit, total, next } = read_limits(s) else {
         return AttributesRead::InvalidField;
     };
-    let DatesRead::Dates {
+    let DatedRead::Dated {
         activation,
         deactivation,
-    } = read_dates(&s[next..])
+        name,
+    } = read_dated(&s[next..])
     else {
         return AttributesRead::InvalidField;
     };
@@ -172,6 +180,7 @@ fn read_limited(s: &[u8], bits: u16, mask: u32) -> AttributesRead
             total,
             activation,
             deactivation,
+            name,
         },
     }
 }

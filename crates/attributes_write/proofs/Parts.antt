@@ -38,3 +38,11 @@ dated-join s u =
     let tail : join (join stop limit) u ≡ dateItems deactivationDate (s .deactivation) (limitItems s u) = join-assoc stop limit u ∙ date-join deactivationDate (s .deactivation) (join limit u) ∙ ap (dateItems deactivationDate (s .deactivation)) (limit-join s u) in
     let front : join (dateItems activationDate (s .activation) stop) limit ≡ join start (join stop limit) = ap (λ (x : Items). join x limit) (sym (date-join activationDate (s .activation) stop)) ∙ join-assoc start stop limit in
     ap (λ (x : Items). join x u) front ∙ join-assoc start (join stop limit) u ∙ ap (join start) tail ∙ date-join activationDate (s .activation) _
+
+-- both links, and what stands behind them
+pub links-join : (a b : ℕ) (s t : ℕ) (u : Items) → join (linkItems a s (linkItems b t nil)) u ≡ linkItems a s (linkItems b t u)
+links-join a b s t u =
+    ap (λ (x : Items). join x u) (sym (link-join a s (linkItems b t nil)))
+    ∙ join-assoc (linkItems a s nil) (linkItems b t nil) u
+    ∙ ap (join (linkItems a s nil)) (link-join b t u)
+    ∙ link-join a s (linkItems b t u)

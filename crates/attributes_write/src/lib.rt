@@ -9,8 +9,9 @@ ghost use Rattle.ttlv_types.specs.Types.{integer, longInteger, enumeration};
 ghost use Rattle.ttlv.specs.Items.{nil, group};
 ghost use Rattle.tags.specs.Tags.{tagOk, activationDate, attributes, cryptographicAlgorithm, cryptographicLength, cryptographicUsageMask, deactivationDate, usageLimitsCount, usageLimitsTotal, usageLimitsUnit, linkType, linkedObjectIdentifier, stateTag};
 ghost use Rattle.attributes_read.specs.Attributes.{aes};
-ghost use Rattle.answer.specs.Respond.{word, long, named, dateItems, limitItems, linkItems, attributeItems, replacedObjectLink, replacementObjectLink};
+ghost use Rattle.answer.specs.Respond.{word, long, named, dateItems, limitItems, linkItems, nameItems, attributeItems, replacedObjectLink, replacementObjectLink};
 ghost use Rattle.named_write.specs.Puts.{Puts};
+use names::Name;
 use plans::Shown;
 
 // Values of Enumerations.
@@ -111,24 +112,35 @@ fn write_links(out: &mut [u8], replaced: u32, replacement: u32) -> usize
     n + m
 }
 
+// What stands last: the links, then the name.
+fn write_last(out: &mut [u8], replaced: u32, replacement: u32, name: Name) -> usize
+    requires { ⌜ 144 ≤ length (now out) ⌝ }
+    ensures { λ r. ⌜ Puts 144 (linkItems replacedObjectLink replaced (linkItems replacementObjectLink replacement (nameItems name nil))) (now (out .entry)) (now (out .exit)) r ⌝ }
+{
+    let n = write_links(out, replaced, replacement);
+    let m = name_write::write_name(&mut out[n..], name);
+    n + m
+}
+
 // All attributes of a key.
 fn write_attribute_items(out: &mut [u8], shown: Shown) -> usize
-    requires { ⌜ 232 ≤ length (now out) ⌝ }
-    ensures { λ r. ⌜ Puts 232 (attributeItems shown) (now (out .entry)) (now (out .exit)) r ⌝ }
+    requires { ⌜ 296 ≤ length (now out) ⌝ }
+    ensures { λ r. ⌜ Puts 296 (attributeItems shown) (now (out .entry)) (now (out .exit)) r ⌝ }
 {
     let n = write_always(out, shown.bits as u32, shown.mask, shown.state as u32);
     let m = write_dates(&mut out[n..], shown.activation, shown.deactivation);
     let at = n + m;
     let k = write_limits(&mut out[at..], shown);
     let end = at + k;
-    let l = write_links(&mut out[end..], shown.replaced, shown.replacement);
+    let name = shown.name;
+    let l = write_last(&mut out[end..], shown.replaced, shown.replacement, name);
     end + l
 }
 
 // The structure Attributes of a key.
 pub fn write_attributes(out: &mut [u8], shown: Shown) -> usize
-    requires { ⌜ 240 ≤ length (now out) ⌝ }
-    ensures { λ r. ⌜ Puts 240 (group attributes (attributeItems shown) nil) (now (out .entry)) (now (out .exit)) r ⌝ }
+    requires { ⌜ 304 ≤ length (now out) ⌝ }
+    ensures { λ r. ⌜ Puts 304 (group attributes (attributeItems shown) nil) (now (out .entry)) (now (out .exit)) r ⌝ }
 {
     let n = write_attribute_items(&mut out[8..], shown);
     ttlv_put::write_structure(out, tags::ATTRIBUTES, n);

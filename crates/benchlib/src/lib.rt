@@ -17,7 +17,7 @@ const CLOCK: i64 = 1;
 // The last byte of the place count: all of a blank table that is not zero.
 const COUNT_BYTE: usize = Layout::PLACES_IN + 3;
 
-// "A blank table", 5,648 bytes since its bodies have dates, is "all zero but the place count".
+// "A blank table", 8,208 bytes since its bodies have dates and names, is "all zero but the place count".
 pub fn blank_table() -> [u8; Layout::SIZE]
     ensures { λ r. ⌜ r ≡ blank placeCount ⌝ }
 {

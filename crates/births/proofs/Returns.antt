@@ -13,7 +13,8 @@ use Rattle.search.specs.declared.Found.{Found}
 use Rattle.search.specs.declared.Found.the-variants.{At, Nothing}
 use Rattle.search.specs.Search.{isDestroyed, newPlace}
 use Rattle.search.proofs.Finds.{new-below}
-use Rattle.rules.specs.declared.Reason.the-variants.{InvalidField, ObjectDestroyed, PermissionDenied, ServerLimitExceeded}
+use Rattle.name_search.specs.Names.{isTaken}
+use Rattle.rules.specs.declared.Reason.the-variants.{InvalidField, ObjectDestroyed, PermissionDenied, ServerLimitExceeded, NonUniqueName}
 use Rattle.rules.specs.declared.Attributes.{Attributes}
 use Rattle.rules.specs.declared.Offset.{Offset}
 use Rattle.changes.specs.declared.HeirDates.{HeirDates}
@@ -24,7 +25,7 @@ use Rattle.changes.proofs.Heirs.{wrong-offset, right-offset}
 use Rattle.plans.specs.declared.Outcome.the-variants.{Created, Done}
 use Rattle.plans.specs.declared.Performed.{Performed}
 use Rattle.plans.specs.Plans.{Did, emptyHolder, carriedOut, createPlan, rekeyPlan, inPlaces, leaves, failed}
-use Rattle.births.specs.Births.{TwoPlaces, placeForNew, linkedAt, replacing}
+use Rattle.births.specs.Births.{TwoPlaces, placeForNew, linkedAt, creating, replacing}
 use Rattle.plans.proofs.Plans.{fails, fails-first, goes-on, is-done, wrong-told}
 use Rattle.births.proofs.Places.{nowhere-issued, place-unissued, unissued, new-there, not-full, full}
 
@@ -53,19 +54,37 @@ module _ (n : ℕ) (t : List ℕ) (found : Found) (is : found ≡ placeForNew n 
 
 -- ---- Create
 
-module _ (n : ℕ) (fresh t : List ℕ) (wanted : Attributes) (found : Found) (is : found ≡ placeForNew n t) where
-  pub create-full : found ≡ Nothing → (r : Performed) → r ≡ failed ServerLimitExceeded → leaves r t ≡ carriedOut t (createPlan (inPlaces n fresh) emptyHolder t wanted)
-  unfolding createPlan
-  create-full nowhere r e = fails t e ∙ sym (fails-first t _ _ _ (full n t (sym is ∙ nowhere)))
+module _ (n : ℕ) (fresh t : List ℕ) (wanted : Attributes) where
+  module _ (found : Found) (is : found ≡ placeForNew n t) where
+    pub create-full : found ≡ Nothing → (r : Performed) → r ≡ failed ServerLimitExceeded → leaves r t ≡ creating n fresh t wanted (placeForNew n t)
+    unfolding creating
+    create-full nowhere r e = fails t e ∙ sym (ap (creating n fresh t wanted) (sym is ∙ nowhere))
 
-  pub creates : (i : ℕ) → found ≡ At i → (last : ℕ) → last ≡ lastSerial t → (born : Record) → born ≡ newRecord (last + 1) wanted fresh → (t′ : List ℕ) → t′ ≡ bornAt n t born (At i)
-      → record { outcome = Created (last + 1); table = t′; holder = last + 1 } ≡ carriedOut t (createPlan (inPlaces n fresh) emptyHolder t wanted)
-  unfolding createPlan withBorn
-  creates i at last l born b t′ e =
-      ap (λ (u : List ℕ). record { outcome = Created (last + 1); table = u; holder = last + 1 }) (e ∙ ap (λ (r : Record). bornAt n t r (At i)) b)
-      ∙ ap (λ (k : ℕ). record { outcome = Created (k + 1); table = bornAt n t (newRecord (k + 1) wanted fresh) (At i); holder = k + 1 }) l
-      ∙ ap (λ (f : Found). record { outcome = Created (nextSerial t); table = bornAt n t (newRecord (nextSerial t) wanted fresh) f; holder = nextSerial t }) (sym (new-there n t i (sym is ∙ at)))
-      ∙ sym (goes-on t _ _ _ (not-full n t i (sym is ∙ at)) ∙ is-done t _)
+    pub creates : (i : ℕ) → found ≡ At i → (last : ℕ) → last ≡ lastSerial t → (born : Record) → born ≡ newRecord (last + 1) wanted fresh → (t′ : List ℕ) → t′ ≡ bornAt n t born (At i)
+        → record { outcome = Created (last + 1); table = t′; holder = last + 1 } ≡ creating n fresh t wanted (placeForNew n t)
+    unfolding creating
+    creates i at last l born b t′ e =
+        ap (λ (u : List ℕ). record { outcome = Created (last + 1); table = u; holder = last + 1 }) (e ∙ ap (λ (r : Record). bornAt n t r (At i)) b)
+        ∙ ap (λ (k : ℕ). record { outcome = Created (k + 1); table = bornAt n t (newRecord (k + 1) wanted fresh) (At i); holder = k + 1 }) l
+        ∙ sym (ap (creating n fresh t wanted) (sym is ∙ at))
+
+  module _ (taken : Bool) (is : taken ≡ isTaken n t (wanted .name)) where
+    abbrev created : Did
+    created = carriedOut t (createPlan (inPlaces n fresh) emptyHolder t wanted)
+
+    pub create-taken : taken ≡ true → (r : Performed) → r ≡ failed NonUniqueName → leaves r t ≡ created
+    unfolding createPlan
+    create-taken e r f = fails t f ∙ sym (fails-first t _ _ _ (sym is ∙ e))
+
+    create-by : taken ≡ false → (f : Found) → placeForNew n t ≡ f → created ≡ creating n fresh t wanted f
+    unfolding createPlan creating withBorn
+    create-by e (At place) at =
+        goes-on t _ _ _ (sym is ∙ e) ∙ goes-on t _ _ _ (not-full n t place at) ∙ is-done t _
+        ∙ ap (λ (f : Found). record { outcome = Created (nextSerial t); table = bornAt n t (newRecord (nextSerial t) wanted fresh) f; holder = nextSerial t }) (new-there n t place at)
+    create-by e Nothing nowhere = goes-on t _ _ _ (sym is ∙ e) ∙ fails-first t _ _ _ (full n t nowhere)
+
+    pub create-untaken : taken ≡ false → (left : Did) → left ≡ creating n fresh t wanted (placeForNew n t) → left ≡ created
+    create-untaken e left l = l ∙ sym (create-by e (placeForNew n t) refl)
 
 -- ---- Re-key
 

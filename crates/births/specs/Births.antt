@@ -11,9 +11,10 @@ use Rattle.table.specs.Layout.{Place}
 use Rattle.table.specs.Records.{placeAt, withPlace, lastSerial, latestClock}
 use Rattle.search.specs.Search.{newPlace}
 use Rattle.rules.specs.declared.Reason.the-variants.{ServerLimitExceeded}
-use Rattle.changes.specs.Records.{heirDated, linkedTo}
+use Rattle.rules.specs.declared.Attributes.{Attributes}
+use Rattle.changes.specs.Records.{newRecord, heirDated, linkedTo}
 use Rattle.changes.specs.Changes.{serialMost, nextSerial, bornAt}
-use Rattle.plans.specs.declared.Outcome.the-variants.{Done}
+use Rattle.plans.specs.declared.Outcome.the-variants.{Created, Done}
 use Rattle.plans.specs.Plans.{Did, failing}
 
 -- where a new object goes: nowhere if every serial is issued
@@ -28,6 +29,12 @@ pub record TwoPlaces (n : ℕ) (t : List ℕ) (i place : ℕ) : Type 0 where
 -- the table in which the record at place i names its replacement
 unfoldable pub linkedAt : ℕ → List ℕ → ℕ → Record → List ℕ
 linkedAt n t i heir = withPlace n t i (linkedTo (heir .serial) (placeAt n t i))
+
+-- Create of what no other is named, by where the new object goes
+unfoldable pub creating : ℕ → List ℕ → List ℕ → Attributes → Found → Did
+creating n fresh t wanted (At place) =
+    record { outcome = Created (nextSerial t); table = bornAt n t (newRecord (nextSerial t) wanted fresh) (At place); holder = nextSerial t }
+creating n fresh t wanted Nothing = failing t ServerLimitExceeded
 
 -- Re-key of a record that may be replaced, with the new object's dates, by where that goes
 unfoldable pub replacing : ℕ → List ℕ → List ℕ → ℕ → Record → ℕ → ℕ → Found → Did

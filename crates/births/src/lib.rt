@@ -6,7 +6,7 @@ ghost use Rattle.table.specs.Records.{placeAt};
 ghost use Rattle.search.specs.declared.Found.the-variants.{At};
 ghost use Rattle.changes.specs.Changes.{bornAt};
 ghost use Rattle.plans.specs.Plans.{emptyHolder, createPlan, rekeyPlan, carriedOut, inPlaces, leaves};
-ghost use Rattle.births.specs.Births.{TwoPlaces, placeForNew, linkedAt, replacing};
+ghost use Rattle.births.specs.Births.{TwoPlaces, placeForNew, linkedAt, creating, replacing};
 use changes::HeirDates;
 use plans::Outcome;
 use plans::Performed;
@@ -50,10 +50,10 @@ fn put_heir(t: &mut [u8], n: usize, i: usize, place: usize, heir: Record)
     put_born(t, n, place, heir);
 }
 
-// Create.
-pub fn create(t: &mut [u8], n: usize, wanted: Attributes, fresh: &[u8]) -> Performed
+// Create, where no record has the name: whether there is a place for the new object is left to see.
+fn create_new(t: &mut [u8], n: usize, wanted: Attributes, fresh: &[u8]) -> Performed
     requires { ⌜ Table n (now t) ⌝ }
-    ensures { λ r. ⌜ leaves r (now (t .exit)) ≡ carriedOut (now (t .entry)) (createPlan (inPlaces n (now (fresh .entry))) emptyHolder (now (t .entry)) wanted) ⌝ }
+    ensures { λ r. ⌜ leaves r (now (t .exit)) ≡ creating n (now (fresh .entry)) (now (t .entry)) wanted (placeForNew n (now (t .entry))) ⌝ }
 {
     match place_for_new(t, n) {
         Found::At(i) => {
@@ -67,6 +67,18 @@ pub fn create(t: &mut [u8], n: usize, wanted: Attributes, fresh: &[u8]) -> Perfo
         }
         Found::Nothing => plans::fail(Reason::ServerLimitExceeded),
     }
+}
+
+// Create.
+pub fn create(t: &mut [u8], n: usize, wanted: Attributes, fresh: &[u8]) -> Performed
+    requires { ⌜ Table n (now t) ⌝ }
+    ensures { λ r. ⌜ leaves r (now (t .exit)) ≡ carriedOut (now (t .entry)) (createPlan (inPlaces n (now (fresh .entry))) emptyHolder (now (t .entry)) wanted) ⌝ }
+{
+    let name = wanted.name;
+    if name_search::is_taken(t, n, name) {
+        return plans::fail(Reason::NonUniqueName);
+    }
+    create_new(t, n, wanted, fresh)
 }
 
 // Re-key of the record at place i, which is neither destroyed nor replaced, with the new object's

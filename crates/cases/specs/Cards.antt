@@ -73,17 +73,17 @@ nested (suc d) = group 0x420001 (nested d) nil
 
 -- ---- calls
 
--- a call at a clock, with "a strip of the bytes 0 to 255 twice" and 5,336 bytes of room
+-- a call at a clock, with "a strip of the bytes 0 to 255 twice" and 6,360 bytes of room
 unfoldable pub callAt : ℕ → List ℕ → List ℕ → Effect
-callAt clock t request = serving request t (countedFrom 0 512) clock (replicate 5336 0)
+callAt clock t request = serving request t (countedFrom 0 512) clock (replicate 6360 0)
 
 -- "document 01's card and bench program move to clock 1"
 abbrev pub callOn : List ℕ → List ℕ → Effect
 callOn t request = callAt 1 t request
 
--- a table of 5,648 bytes with this last serial: "all zero but the place count" where it is 0
+-- a table of 8,208 bytes with this last serial: "all zero but the place count" where it is 0
 unfoldable pub tableFrom : List ℕ → List ℕ
-tableFrom serial = serial ++ (hex "00000040" ++ replicate 5640 0)
+tableFrom serial = serial ++ (hex "00000040" ++ replicate 8200 0)
 
 abbrev pub blankTable : List ℕ
 blankTable = tableFrom (hex "00000000")

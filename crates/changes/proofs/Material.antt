@@ -1,19 +1,19 @@
--- Laws of material: the first bytes of a part of the fresh strip, then zeros, 32 in all; and what a move leaves of it.
+-- Laws of material: the first bytes of a part of the fresh strip, filled up with zeros; and what a move leaves of it.
 -- Assumes nothing.
 use mathlib.Core.Path.{_≡_, sym, ap, _∙_, ap₂}
-use Prim.Native.Nat.{ℕ, _+_, _-_, _/_, _≤_, min}
+use Prim.Native.Nat.{ℕ, _/_, _≤_, min}
 use native.Mathlib.Omega.{arith}
-use native.Mathlib.Decide.{decLe}
 use mathlib.Core.Bool.{true, Bool}
-use mathlib.Core.List.{List, _++_}
-use lib.ListN.{length, take, drop, replicate, length-append, length-take, length-replicate}
-use lib.Seq.{sets, length-take-le, take-append-le, take-append-add, take-take, drop-at}
+use mathlib.Core.List.{List}
+use lib.ListN.{length, take, drop, replicate, length-take}
+use lib.Seq.{length-take-le}
 use borrow.Author.Tests.{eq-eqb, ne-eqb}
 use Rattle.octets.proofs.If.{ifb-true, ifb-false}
-use Rattle.octets.specs.Octets.{Bytes, allZero, over}
-use Rattle.octets.proofs.Numbers.{bytes-append, bytes-take}
-use Rattle.octets.proofs.Stores.{take-there, sets-whole, sets-over}
-use Rattle.octets.proofs.Zeros.{zeros-pass, bytes-zeros, drop-zeros, part-zeros}
+use Rattle.octets.specs.Octets.{Bytes, allZero}
+use Rattle.octets.proofs.Numbers.{bytes-take}
+use Rattle.octets.proofs.Stores.{take-there}
+use Rattle.words.specs.Words.{filled}
+use Rattle.words.proofs.Laws.{length-filled, bytes-filled, filled-tail}
 use Rattle.table.specs.Layout.{materialSize}
 use Rattle.table.specs.declared.Record.{Record}
 use Rattle.rules.specs.Numbers.{destroy, activate}
@@ -24,65 +24,30 @@ use lib.Dec.{eqb}
 abbrev pub zeros : ℕ → List ℕ
 zeros n = replicate n 0
 
--- ---- what fits, with zeros up to 32
-
-module _ (xs : List ℕ) (h : length xs ≤ materialSize) where
-  pub padded : take materialSize (xs ++ zeros materialSize) ≡ xs ++ zeros (materialSize - length xs)
-  padded =
-      let a : materialSize ≡ length xs + (materialSize - length xs) = omega arith in
-      ap (λ (n : ℕ). take n (xs ++ zeros materialSize)) a
-      ∙ take-append-add xs (zeros materialSize) (materialSize - length xs)
-      ∙ ap (λ (s : List ℕ). xs ++ s) (part-zeros materialSize 0 (materialSize - length xs) (omega arith))
-
-  pub over-zeros : over xs (zeros materialSize) ≡ xs ++ zeros (materialSize - length xs)
-  over-zeros = ap (λ (s : List ℕ). xs ++ s) (drop-zeros (length xs) materialSize)
-
 -- ---- material
 
 module _ (bits : ℕ) (fresh : List ℕ) where
-  -- stored over 32 zeros
-  pub material-stored : (end : ℕ) → end ≡ min (bits / 8) (min materialSize (length fresh)) → sets (zeros materialSize) 0 (take end fresh) ≡ materialFrom bits fresh
+  -- the bytes that are there, filled up
+  pub material-filled : (end : ℕ) → end ≡ min (bits / 8) (length fresh) → filled (take end fresh) ≡ materialFrom bits fresh
   unfolding materialFrom
-  material-stored end e = elim (decLe (length (take (bits / 8) fresh)) materialSize) [
-    | yes h ↦ (
-        let l = length-take (bits / 8) fresh in
-        let m : end ≡ length (take (bits / 8) fresh) = omega arith in
-        ap (λ (k : ℕ). sets (zeros materialSize) 0 (take k fresh)) m
-        ∙ ap (sets (zeros materialSize) 0) (take-there (bits / 8) fresh)
-        ∙ sets-over (take (bits / 8) fresh) (zeros materialSize) h
-        ∙ over-zeros (take (bits / 8) fresh) h
-        ∙ sym (padded (take (bits / 8) fresh) h))
-    | no h ↦ (
-        let l = length-take (bits / 8) fresh in
-        let m : end ≡ materialSize = omega arith in
-        ap (λ (k : ℕ). sets (zeros materialSize) 0 (take k fresh)) m
-        ∙ sets-whole (zeros materialSize) (take materialSize fresh) (length-take materialSize fresh ∙ omega arith)
-        ∙ sym (take-append-le materialSize (take (bits / 8) fresh) (zeros materialSize) (omega arith) ∙ take-take materialSize (bits / 8) fresh (omega arith)))
-  ]
+  material-filled end e =
+      let m : end ≡ length (take (bits / 8) fresh) = e ∙ sym (length-take (bits / 8) fresh) in
+      ap (λ (k : ℕ). filled (take k fresh)) m ∙ ap filled (take-there (bits / 8) fresh)
 
   pub length-material : length (materialFrom bits fresh) ≡ materialSize
   unfolding materialFrom
-  length-material = rw (length-take, length-append, length-replicate) (omega arith)
+  length-material = length-filled (take (bits / 8) fresh)
 
   pub bytes-material : Bytes fresh → Bytes (materialFrom bits fresh)
   unfolding materialFrom
-  bytes-material b =
-      bytes-take materialSize (take (bits / 8) fresh ++ zeros materialSize)
-      (bytes-append (take (bits / 8) fresh) (zeros materialSize) (bytes-take (bits / 8) fresh b) (bytes-zeros materialSize))
+  bytes-material b = bytes-filled (take (bits / 8) fresh) (bytes-take (bits / 8) fresh b)
 
-  -- where there is as much as the length asks, it is that and then zeros
-  pub material-plain : bits / 8 ≤ materialSize → bits / 8 ≤ length fresh → materialFrom bits fresh ≡ take (bits / 8) fresh ++ zeros (materialSize - bits / 8)
-  unfolding materialFrom
-  material-plain h k =
-      let l : length (take (bits / 8) fresh) ≡ bits / 8 = length-take-le (bits / 8) fresh k in
-      padded (take (bits / 8) fresh) (omega arith) ∙ ap (λ (n : ℕ). take (bits / 8) fresh ++ zeros (materialSize - n)) l
-
-  -- zero past the length
+  -- zero past the length, where there is as much as it asks
   pub material-tail : bits / 8 ≤ materialSize → bits / 8 ≤ length fresh → allZero (drop (bits / 8) (materialFrom bits fresh)) ≡ true
+  unfolding materialFrom
   material-tail h k =
-      ap (λ (s : List ℕ). allZero (drop (bits / 8) s)) (material-plain h k)
-      ∙ ap allZero (drop-at (take (bits / 8) fresh) (zeros (materialSize - bits / 8)) (bits / 8) (length-take-le (bits / 8) fresh k))
-      ∙ zeros-pass (materialSize - bits / 8)
+      let l : length (take (bits / 8) fresh) ≡ bits / 8 = length-take-le (bits / 8) fresh k in
+      ap (λ (n : ℕ). allZero (drop n (filled (take (bits / 8) fresh)))) (sym l) ∙ filled-tail (take (bits / 8) fresh) (omega arith)
 
 -- ---- what a move leaves of it
 

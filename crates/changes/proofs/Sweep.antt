@@ -50,6 +50,7 @@ ripe-range clock r g = record {
   bytes = g .bytes;
   activation = g .activation;
   deactivation = g .deactivation;
+  name = g .name;
 }
 
 -- a record whose state stays is the same record

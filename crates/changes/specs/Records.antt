@@ -2,10 +2,12 @@
 -- Assumes nothing.
 use Prim.Native.Nat.{ℕ, _+_, _-_, _/_}
 use mathlib.Core.Bool.{Bool, false, not, _&&_, _||_}
-use mathlib.Core.List.{List, _++_}
+use mathlib.Core.List.{List}
 use lib.ListN.{take, replicate}
 use lib.Dec.{eqb}
 use Rattle.octets.specs.If.{ifb}
+use Rattle.words.specs.Words.{filled}
+use Rattle.names.specs.Names.{noName}
 use Rattle.table.specs.declared.Record.{Record}
 use Rattle.table.specs.Layout.{materialSize}
 use Rattle.values.specs.Values.{notNegative}
@@ -20,9 +22,9 @@ use Rattle.changes.specs.declared.HeirDates.the-variants.{Dated, OffsetW
 
 -- "the first length/8 of them": what is kept of a part of the fresh strip, zero past the length; 32 bytes, whatever the part is
 unfoldable pub materialFrom : ℕ → List ℕ → List ℕ
-materialFrom bits fresh = take materialSize (take (bits / 8) fresh ++ replicate materialSize 0)
+materialFrom bits fresh = filled (take (bits / 8) fresh)
 
--- "Starts Pre-Active, count = total, both link serials 0", with the dates asked for
+-- "Starts Pre-Active, count = total, both link serials 0", with the dates and the name asked for
 unfoldable pub newRecord : ℕ → Attributes → List ℕ → Record
 newRecord serial wanted fresh = record {
   serial = serial;
@@ -37,6 +39,7 @@ newRecord serial wanted fresh = record {
   material = materialFrom (wanted .bits) fresh;
   activation = wanted .activation;
   deactivation = wanted .deactivation;
+  name = wanted .name;
 }
 
 -- ---- the dates of a replacement, at a clock
@@ -65,7 +68,7 @@ heirDates clock offset old = ifb (offsetWrong clock offset old) OffsetWrong (Dat
 
 -- ---- the replacement
 
--- "with attributes copied, new material, count = total": the replacement of `old`, which it names, with these dates.
+-- "with attributes copied, new material, count = total": the replacement of `old`, which it names, with these dates and the old key's name.
 -- 02, L4: "State follows from the dates as L3 applies them to a Pre-Active key"
 unfoldable pub heirDated : ℕ → ℕ → ℕ → ℕ → Record → List ℕ → Record
 heirDated serial clock activation deactivation old fresh = record {
@@ -81,13 +84,14 @@ heirDated serial clock activation deactivation old fresh = record {
   material = materialFrom (old .bits) fresh;
   activation = activation;
   deactivation = deactivation;
+  name = old .name;
 }
 
 -- and with its own dates: those that the Offset makes of the old ones
 unfoldable pub heirOf : ℕ → ℕ → Offset → Record → List ℕ → Record
 heirOf serial clock offset old fresh = heirDated serial clock (heirActivation clock offset old) (heirDeactivation clock offset old) old fresh
 
--- "linked both ways": the old record names its replacement
+-- "linked both ways": the old record names its replacement. 02, L6: "Re-key moves" the name "from the old key to the new"
 unfoldable pub linkedTo : ℕ → Record → Record
 linkedTo serial r = record {
   serial = r .serial;
@@ -102,6 +106,7 @@ linkedTo serial r = record {
   material = r .material;
   activation = r .activation;
   deactivation = r .deactivation;
+  name = noName;
 }
 
 -- the record with a state and material
@@ -119,6 +124,7 @@ inState state material r = record {
   material = material;
   activation = r .activation;
   deactivation = r .deactivation;
+  name = r .name;
 }
 
 -- the record with these dates
@@ -136,6 +142,7 @@ withDates activation deactivation r = record {
   material = r .material;
   activation = activation;
   deactivation = deactivation;
+  name = r .name;
 }
 
 -- "a non-compromise Revoke"
@@ -163,4 +170,5 @@ withCount count r = record {
   material = r .material;
   activation = r .activation;
   deactivation = r .deactivation;
+  name = r .name;
 }

@@ -22,11 +22,8 @@ pub enum HeirDates {
 fn material_from(fresh: &[u8], bits: u16) -> [u8; 32]
     ensures { λ r. ⌜ r ≡ materialFrom bits (now (fresh .entry)) ⌝ }
 {
-    let there = octets::fewer(32, fresh.len());
-    let end = octets::fewer((bits / 8) as usize, there);
-    let mut material = [0u8; 32];
-    octets::put_all(&mut material, 0, &fresh[..end]);
-    material
+    let end = octets::fewer((bits / 8) as usize, fresh.len());
+    words::fill(&fresh[..end])
 }
 
 // The record that Create makes.
@@ -34,6 +31,7 @@ pub fn new_record(serial: u32, wanted: Attributes, fresh: &[u8]) -> Record
     ensures { λ r. ⌜ r ≡ newRecord serial wanted (now (fresh .entry)) ⌝ }
 {
     let material = material_from(fresh, wanted.bits);
+    let name = wanted.name;
     Record {
         serial,
         state: rules::PRE_ACTIVE,
@@ -47,6 +45,7 @@ pub fn new_record(serial: u32, wanted: Attributes, fresh: &[u8]) -> Record
         material,
         activation: wanted.activation,
         deactivation: wanted.deactivation,
+        name,
     }
 }
 
@@ -109,6 +108,7 @@ pub fn heir_of(
 {
     let state = date_rules::dated_state(clock, activation, deactivation, rules::PRE_ACTIVE);
     let material = material_from(fresh, old.bits);
+    let name = old.name;
     Record {
         serial,
         state,
@@ -122,15 +122,18 @@ pub fn heir_of(
         material,
         activation,
         deactivation,
+        name,
     }
 }
 
-// The record that names its replacement.
+// The record that names its replacement, to which its name has gone.
 pub fn linked_to(serial: u32, old: Record) -> Record
     ensures { λ r. ⌜ r ≡ linkedTo serial old ⌝ }
 {
+    let nameless = names::no_name();
     let mut linked = old;
     linked.replacement = serial;
+    linked.name = nameless;
     linked
 }
 

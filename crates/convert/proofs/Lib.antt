@@ -3,4 +3,5 @@
 pub mod Bodies
 pub mod Records
 pub mod Sound
+pub mod Converts
 pub mod Unique

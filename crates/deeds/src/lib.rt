@@ -84,6 +84,7 @@ fn show_at(t: &[u8], n: usize, i: usize, holder: u32) -> Performed
     ensures { λ r. ⌜ r ≡ showing holder (placeAt n (now (t .entry)) i) ⌝ }
 {
     let shown = records::load(t, n, i);
+    let name = shown.name;
     Performed {
         outcome: Outcome::Showed {
             shown: Shown {
@@ -98,6 +99,7 @@ fn show_at(t: &[u8], n: usize, i: usize, holder: u32) -> Performed
                 count: shown.count,
                 replaced: shown.replaced,
                 replacement: shown.replacement,
+                name,
             },
         },
         holder,

@@ -32,12 +32,12 @@ use Rattle.keeps.proofs.Leaves.{Born, Replaced, moved-leaves, count-leaves, bor
 use Rattle.rules.specs.declared.Offset.{Offset}
 use Rattle.target_read.specs.declared.Target.{Target}
 use Rattle.payload.specs.declared.Command.{Command}
-use Rattle.payload.specs.declared.Command.the-variants.{Unsupported, Invalid, Create, Rekey, GetUsageAllocation, Activate, Revoke, Destroy, GetAttributes, Get}
+use Rattle.payload.specs.declared.Command.the-variants.{Unsupported, Invalid, Create, Rekey, GetUsageAllocation, Activate, Revoke, Destroy, GetAttributes, Get, Locate}
 use Rattle.plans.specs.declared.Outcome.{Outcome}
 use Rattle.plans.specs.declared.Outcome.the-variants.{Failed, Showed, Got}
-use Rattle.plans.specs.Plans.{Env, Did, failing, createPlan, rekeyPlan, changed, shownOf, keyOf}
+use Rattle.plans.specs.Plans.{Env, Did, failing, createPlan, rekeyPlan, changed, shownOf, keyOf, locatePlan}
 use Rattle.act.specs.Act.{sought}
-use Rattle.act.proofs.Went.{Moving, activating, revoking, destroying, Kind, fails, creates, rekeys, grants, moves, shows, gets}
+use Rattle.act.proofs.Went.{Moving, activating, revoking, destroying, Kind, fails, creates, rekeys, grants, moves, shows, gets, locates}
 use Rattle.engine.proofs.Commands.{Commanded, to-create}
 use Rattle.keeps.proofs.Begun.{Allowed}
 use Rattle.demands.specs.Log.{issuedBy, grantBy}
@@ -56,6 +56,7 @@ no-issue (Revoke target code) reason = refl
 no-issue (Destroy target) reason = refl
 no-issue (GetAttributes target) reason = refl
 no-issue (Get target) reason = refl
+no-issue (Locate name) reason = refl
 
 pub no-grant : (x : ℕ) (c : Command) (reason : Reason) → grantBy x c (Failed reason) ≡ 0
 unfolding grantBy
@@ -69,6 +70,7 @@ no-grant x (Revoke target code) reason = refl
 no-grant x (Destroy target) reason = refl
 no-grant x (GetAttributes target) reason = refl
 no-grant x (Get target) reason = refl
+no-grant x (Locate name) reason = refl
 
 pub move-issues : {c : Command} {operation code : ℕ} {target : Target} → Moving c operation code target → (o : Outcome) → issuedBy c o ≡ 0
 unfolding issuedBy
@@ -164,6 +166,7 @@ beginsWith n t holder (Revoke target code) i = 0
 beginsWith n t holder (Destroy target) i = 0
 beginsWith n t holder (GetAttributes target) i = 0
 beginsWith n t holder (Get target) i = 0
+beginsWith n t holder (Locate name) i = 0
 
 -- what a command counts, with the place of the record that it names where a new object copies its total
 pub record Counts (n : ℕ) (t : List ℕ) (holder : ℕ) (c : Command) (did : Did) : Type 0 where
@@ -246,6 +249,7 @@ module _ (env : Env) (holder : ℕ) (t : List ℕ) (held : Held (env .places) t)
       isRekey (Destroy target) = 0
       isRekey (GetAttributes target) = 0
       isRekey (Get target) = 0
+      isRekey (Locate name) = 0
 
   rekey-counted : (target : Target) (offset : Offset) (i : ℕ) → find (env .places) t (sought holder target) ≡ At i → isDestroyed (placeAt (env .places) t i .state) ≡ false
       → offsetWrong (latestClock t) offset (placeAt (env .places) t i) ≡ false → (room : isFull (env .places) t ≡ false)
@@ -285,6 +289,7 @@ module _ (env : Env) (holder : ℕ) (t : List ℕ) (held : Held (env .places) t)
       targetIn (Destroy target) d = d
       targetIn (GetAttributes target) d = d
       targetIn (Get target) d = d
+      targetIn (Locate name) d = d
 
       same-target : {other : Target} {moved : Offset} → Rekey target offset ≡ Rekey other moved → target ≡ other
       same-target q = ap (λ (c : Command). targetIn c target) q
@@ -305,11 +310,12 @@ module _ (env : Env) (holder : ℕ) (t : List ℕ) (held : Held (env .places) t)
 
   -- every kind of item
   pub kind-counts : {operation : ℕ} (c : Command) (did : Did) → Kind env holder t c did → Commanded operation c → Counts (env .places) t holder c did
-  unfolding issuedBy grantBy
+  unfolding issuedBy grantBy locatePlan
   kind-counts c did (fails reason) m = silent {did = failing t reason} (no-issue c reason) (counted-same (env .places) t _ _ _ (no-issue c reason) (λ x. no-grant x c reason))
-  kind-counts c did (creates wanted room) m = create-counted wanted (create-allowed m) room
+  kind-counts c did (creates wanted free room) m = create-counted wanted (create-allowed m) room
   kind-counts c did (rekeys target offset i e alive none right room) m = rekey-counted target offset i e alive right room
   kind-counts c did (grants target amount i e g) m = grant-counted target amount i e g
   kind-counts c did (moves v i next e late g) m = move-counted v i next e g
   kind-counts c did (shows target i e) m = silent {did = record { outcome = Showed (shownOf (placeAt (env .places) t i)); table = t; holder = holder }} refl (counted-same (env .places) t _ _ _ refl (λ x. refl))
   kind-counts c did (gets target i e alive) m = silent {did = record { outcome = Got (keyOf (placeAt (env .places) t i)); table = t; holder = holder }} refl (counted-same (env .places) t _ _ _ refl (λ x. refl))
+  kind-counts c did (locates name) m = silent {did = locatePlan env holder t name .did} refl (counted-same (env .places) t _ _ _ refl (λ x. refl))

@@ -13,19 +13,19 @@ use Rattle.octets.proofs.If.{ifb-true, ifb-false, on-bool}
 use Rattle.search.specs.Search.{isDestroyed}
 use Rattle.soundness.specs.Sound.{sound}
 use Rattle.soundness.proofs.SoundIs.{sound-is}
-use Rattle.rules.specs.Numbers.{create, rekey, get, getAttributes, getUsageAllocation, activate, revoke, destroy}
+use Rattle.rules.specs.Numbers.{create, rekey, get, getAttributes, getUsageAllocation, activate, revoke, destroy, locate}
 use Rattle.rules.specs.States.{isCompromise}
 use Rattle.payload.specs.declared.Command.{Command}
-use Rattle.payload.specs.declared.Command.the-variants.{Unsupported, Invalid, Create, Rekey, GetUsageAllocation, Activate, Revoke, Destroy, GetAttributes, Get}
+use Rattle.payload.specs.declared.Command.the-variants.{Unsupported, Invalid, Create, Rekey, GetUsageAllocation, Activate, Revoke, Destroy, GetAttributes, Get, Locate}
 use Rattle.plans.specs.declared.Key.{Key}
 use Rattle.plans.specs.declared.Outcome.{Outcome}
-use Rattle.plans.specs.declared.Outcome.the-variants.{Failed, Created, Done, Showed, Got}
+use Rattle.plans.specs.declared.Outcome.the-variants.{Failed, Created, Done, Showed, Got, Located}
 use Rattle.plans.specs.Plans.{isFailed}
 use Rattle.answer.proofs.Tests.{on-or}
-use Rattle.engine.proofs.Commands.{Commanded, not-supported, not-valid, to-create, to-rekey, to-allocate, to-activate, to-revoke, to-destroy, to-show, to-get, commanded}
+use Rattle.engine.proofs.Commands.{Commanded, not-supported, not-valid, to-create, to-rekey, to-allocate, to-activate, to-revoke, to-destroy, to-show, to-get, to-locate, commanded}
 use Rattle.demands.specs.Box.{placesOf, recordIn}
 use Rattle.demands.specs.Log.{Event, commandOf, issuedBy, issued, handedBy, destroyedBy, wasDestroyed, handedDead}
-use Rattle.demands.specs.Demand3.{Stands, isUnderstood, movesState, carries, codeOf, takes, listed, About, Tame}
+use Rattle.demands.specs.Demand3.{Stands, isUnderstood, movesState, carries, codeOf, takes, listed, About, Tame, asksKey, asksName}
 use Rattle.demands.proofs.Logged.{issued-now, issued-before}
 
 -- ---- the listed transitions
@@ -96,6 +96,36 @@ destroys operation c (to-revoke o) e u = absurd (let z : revoke ≡ destroy = sy
 destroys operation c (to-destroy o) e u = record { issues = λ out. refl; moves = refl }
 destroys operation c (to-show o) e u = absurd (let z : getAttributes ≡ destroy = sym o ∙ e in omega arith)
 destroys operation c (to-get o) e u = absurd (let z : get ≡ destroy = sym o ∙ e in omega arith)
+destroys operation c (to-locate o) e u = absurd (let z : locate ≡ destroy = sym o ∙ e in omega arith)
+
+-- what moves a state, or asks for a key, asks for no name
+moves-not : (c : Command) → movesState c ≡ true → asksName c ≡ false
+unfolding movesState asksName
+moves-not Unsupported m = refl
+moves-not Invalid m = refl
+moves-not (Create wanted) m = refl
+moves-not (Rekey target offset) m = refl
+moves-not (GetUsageAllocation target amount) m = refl
+moves-not (Activate target) m = refl
+moves-not (Revoke target code) m = refl
+moves-not (Destroy target) m = refl
+moves-not (GetAttributes target) m = refl
+moves-not (Get target) m = refl
+moves-not (Locate name) m = absurd (false≢true m)
+
+asks-not : (c : Command) → asksKey c ≡ true → asksName c ≡ false
+unfolding asksKey asksName
+asks-not Unsupported m = refl
+asks-not Invalid m = refl
+asks-not (Create wanted) m = refl
+asks-not (Rekey target offset) m = refl
+asks-not (GetUsageAllocation target amount) m = refl
+asks-not (Activate target) m = refl
+asks-not (Revoke target code) m = refl
+asks-not (Destroy target) m = refl
+asks-not (GetAttributes target) m = refl
+asks-not (Get target) m = refl
+asks-not (Locate name) m = absurd (false≢true m)
 
 -- an answer that destroyed x
 record Destroyed (operation : ℕ) (o : Outcome) (x : ℕ) : Type 0 where
@@ -113,6 +143,7 @@ destroyed-is operation (Done serial) x z e =
     (λ d. absurd (z (sym e ∙ ifb-false (eqb operation destroy) serial 0 d)))
 destroyed-is operation (Showed shown) x z e = absurd (z (sym e))
 destroyed-is operation (Got key) x z e = absurd (z (sym e))
+destroyed-is operation (Located serial) x z e = absurd (z (sym e))
 
 -- an answer that handed x out
 record HandedOut (c : Command) (o : Outcome) (x : ℕ) : Type 0 where
@@ -132,6 +163,7 @@ no-issue-got (Revoke target code) key = refl
 no-issue-got (Destroy target) key = refl
 no-issue-got (GetAttributes target) key = refl
 no-issue-got (Get target) key = refl
+no-issue-got (Locate name) key = refl
 
 handed-is : (c : Command) (o : Outcome) (x : ℕ) → (x ≡ 0 → ⊥) → handedBy o ≡ x → HandedOut c o x
 unfolding handedBy carries isFailed
@@ -140,6 +172,7 @@ handed-is c (Created serial) x z e = absurd (z (sym e))
 handed-is c (Done serial) x z e = absurd (z (sym e))
 handed-is c (Showed shown) x z e = absurd (z (sym e))
 handed-is c (Got key) x z e = record { issues = no-issue-got c key; succeeded = refl; carried = e }
+handed-is c (Located serial) x z e = absurd (z (sym e))
 
 -- ---- the dead, in the log and in the table
 
@@ -181,7 +214,7 @@ module _ (log : List Event) (t u : List ℕ) (ev : Event) (tame : Tame ev t u) (
     did = destroys (ev .asked .operation) c (commanded (ev .asked .operation) (ev .asked .payload)) asked (is-understood (said .succeeded))
 
     whose : About ev t
-    whose = tame .about (said .succeeded) (did .issues o)
+    whose = tame .about (said .succeeded) (did .issues o) (moves-not c (did .moves))
 
     -- its record stood, and is in a destroyed state
     destroyed-stood : Stands x t (whose .place)
@@ -249,9 +282,10 @@ module _ (log : List Event) (t u : List ℕ) (ev : Event) (tame : Tame ev t u) (
           let p = both (eqb (handedBy o) x) (wasDestroyed x log) y in
           let is = eqb-true (handedBy o) x (p .0) in
           let h = handed-is c o x z is in
-          let a = tame .about (h .succeeded) (h .issues) in
+          let asks = tame .hands (λ k. z (sym is ∙ k)) in
+          let a = tame .about (h .succeeded) (h .issues) (asks-not c asks) in
           let s = about-stands x (h .carried) a in
-          true≢false (sym (d .states x (a .place) z s (p .1)) ∙ tame .alive (a .place) (a .below) (a .named) (h .succeeded) (tame .hands (λ k. z (sym is ∙ k))))
+          true≢false (sym (d .states x (a .place) z s (p .1)) ∙ tame .alive (a .place) (a .below) (a .named) (h .succeeded) asks)
 
   pub step-dead : Dead (ev ∷ log) u
   step-dead = record { states = states-after; known = known-after; silent = silent-after }

@@ -37,9 +37,9 @@ use Rattle.keeps.proofs.Dates.{ripe-open}
 use Rattle.batch_item.specs.Item.{Asked}
 use Rattle.payload.specs.declared.Command.{Command}
 use Rattle.payload.specs.Payload.{command}
-use Rattle.plans.specs.Plans.{Env, Did, createPlan, rekeyPlan, envAt}
+use Rattle.plans.specs.Plans.{Env, Did, createPlan, rekeyPlan, envAt, locatePlan}
 use Rattle.act.specs.Act.{sought, step}
-use Rattle.act.proofs.Went.{Kind, fails, creates, rekeys, grants, moves, shows, gets, step-kind}
+use Rattle.act.proofs.Went.{Kind, fails, creates, rekeys, grants, moves, shows, gets, locates, step-kind}
 use Rattle.answer.proofs.Tests.{on-or}
 use Rattle.engine.proofs.Commands.{Commanded, commanded}
 use Rattle.engine.proofs.Steps.{step-held, step-latest}
@@ -74,11 +74,12 @@ module _ (env : Env) (holder : ℕ) (t : List ℕ) (held : Held (env .places) t)
 
   kind-open : {operation : ℕ} (c : Command) (did : Did) → Kind env holder t c did → Commanded operation c
       → ((i : ℕ) → i < n → Open (latestClock t) (placeAt n t i)) → (i : ℕ) → i < n → Open (latestClock t) (placeAt n (did .table) i)
-  unfolding createPlan rekeyPlan newRecord heirOf heirDated linkedTo withCount
+  unfolding createPlan rekeyPlan locatePlan newRecord heirOf heirDated linkedTo withCount
   kind-open c did (fails reason) m before i low = before i low
   kind-open c did (shows target k e) m before i low = before i low
   kind-open c did (gets target k e live) m before i low = before i low
-  kind-open c did (creates wanted room) m before i low =
+  kind-open c did (locates name) m before i low = before i low
+  kind-open c did (creates wanted free room) m before i low =
       stored-open (born-leaves n t held room (env .fresh) fresh-bytes wanted (create-allowed m) .stored) (λ a. not-yet refl a) before i low
   kind-open c did (rekeys target offset k e alive single right room) m before i low =
       let x = sought holder target in
@@ -106,9 +107,9 @@ module _ (env : Env) (holder : ℕ) (t : List ℕ) (held : Held (env .places) t)
     pub usable : placeAt n t place .state ≡ active
 
   pub kind-paid : (c : Command) (did : Did) → Kind env holder t c did → (x : ℕ) → (grantBy x c (did .outcome) ≡ 0 → ⊥) → Paid x
-  unfolding createPlan rekeyPlan grantBy withCount
+  unfolding createPlan rekeyPlan locatePlan grantBy withCount
   kind-paid c did (fails reason) x h = absurd (h (no-grant x c reason))
-  kind-paid c did (creates wanted room) x h = absurd (h refl)
+  kind-paid c did (creates wanted free room) x h = absurd (h refl)
   kind-paid c did (rekeys target offset k e alive single right room) x h = absurd (h refl)
   kind-paid c did (grants target amount k e g) x h = record {
     place = k;
@@ -119,6 +120,7 @@ module _ (env : Env) (holder : ℕ) (t : List ℕ) (held : Held (env .places) t)
   kind-paid c did (moves v k next e late g) x h = absurd (h (move-grants v x (did .outcome)))
   kind-paid c did (shows target k e) x h = absurd (h refl)
   kind-paid c did (gets target k e live) x h = absurd (h refl)
+  kind-paid c did (locates name) x h = absurd (h refl)
 
 -- ---- stopped
 

@@ -48,8 +48,8 @@ use Rattle.demands.proofs.Firm.{step-in-time, step-spends, step-stopped
 -- ---- the items of a call
 
 -- what holds between two items
-record Point (clock : ℕ) (t : List ℕ) : Type 0 where
-  held : Held placeCount t
+pub record Point (clock : ℕ) (t : List ℕ) : Type 0 where
+  pub held : Held placeCount t
   latest : latestClock t ≡ clock
   in-time : InTime clock t
 
@@ -117,10 +117,10 @@ accepted-call c n = by-told (served c) (told c) n
     by-told f (accepted a) z = a
 
 module _ (c : Call) (e : Effect) (lent : Lent c) (a : Accepted c) (g : Answered c e) where
-  start-point : Point (counted c) (g .start)
+  pub start-point : Point (counted c) (g .start)
   start-point = record { held = record { right = g .begins .right; bytes = g .begins .bytes }; latest = g .begins .latest; in-time = begins-in-time c (g .start) (g .begins) }
 
-  strip-fits : materialSize * (0 + length (g .frame .items)) ≤ length (c .strip)
+  pub strip-fits : materialSize * (0 + length (g .frame .items)) ≤ length (c .strip)
   strip-fits = subst (λ (f : Frame). materialSize * (0 + length (f .items)) ≤ length (c .strip)) (sym (same-frame c lent e a g)) (omega (arith, count-facts c lent a .1, a .strip))
 
   reaches : Reaches (counted c) (g .start) (g .links) (g .reached)
@@ -152,8 +152,8 @@ module _ (c : Call) (lent : Lent c) (x i : ℕ) (z : x ≡ 0 → ⊥) (s : Stand
 -- ---- a run
 
 -- what holds at every point of a run
-record Reached (clocks : List ℕ) (t : List ℕ) : Type 0 where
-  point : Point (latestClock t) t
+pub record Reached (clocks : List ℕ) (t : List ℕ) : Type 0 where
+  pub point : Point (latestClock t) t
   largest-is : latestClock t ≡ largest clocks
 
 blank-reached : Reached [] (blank placeCount)
@@ -168,7 +168,7 @@ blank-reached = record {
 }
 
 module _ (B : Box) (d1 : Demand1 B) (d2 : Demand2 B) where
-  number-is : (c : Call) (e : Effect) → Lent c → B c e → e .number ≡ 0 → Accepted c
+  pub number-is : (c : Call) (e : Effect) → Lent c → B c e → e .number ≡ 0 → Accepted c
   number-is c e lent b n = accepted-call c (served-number c ∙ sym (d2 .number c e lent b) ∙ n)
 
   -- a call that is refused leaves the table, and one that is accepted leaves a point at the clock that counts
@@ -185,7 +185,7 @@ module _ (B : Box) (d1 : Demand1 B) (d2 : Demand2 B) where
     λ n. d1 .refused c e lent b n .table,
   )
 
-  run-reached : {log : List Event} {t : List ℕ} (run : Run B log t) → Reached (heard run) t
+  pub run-reached : {log : List Event} {t : List ℕ} (run : Run B log t) → Reached (heard run) t
   unfolding heard
   run-reached begins = blank-reached
   run-reached (calls {log} {t} c e run same lent b) =

@@ -31,9 +31,9 @@ use Rattle.keeps.proofs.Dates.{began-last, began-places}
 use Rattle.batch_item.specs.Item.{Asked}
 use Rattle.payload.specs.declared.Command.{Command}
 use Rattle.payload.specs.Payload.{command}
-use Rattle.plans.specs.Plans.{Env, Did, createPlan, rekeyPlan, envAt}
+use Rattle.plans.specs.Plans.{Env, Did, createPlan, rekeyPlan, envAt, locatePlan}
 use Rattle.act.specs.Act.{sought, step}
-use Rattle.act.proofs.Went.{Kind, fails, creates, rekeys, grants, moves, shows, gets, step-kind}
+use Rattle.act.proofs.Went.{Kind, fails, creates, rekeys, grants, moves, shows, gets, locates, step-kind}
 use Rattle.answer.specs.Respond.{Answer}
 use Rattle.engine.specs.Batch.{Ran, answerTo, lastly, firstly, endsBatch, batch}
 use Rattle.engine.proofs.Commands.{Commanded, commanded}
@@ -98,11 +98,12 @@ module _ (strip : List ℕ) (k holder : ℕ) (t : List ℕ) (asked : Asked) (hel
   ]
 
   kind-still : {operation : ℕ} (c : Command) (did : Did) → Kind env holder t c did → Commanded operation c → (i : ℕ) → i < n → Still (placeAt n (did .table) i)
-  unfolding createPlan rekeyPlan newRecord heirOf heirDated linkedTo withCount movedTo withDates inState
+  unfolding createPlan rekeyPlan locatePlan newRecord heirOf heirDated linkedTo withCount movedTo withDates inState
   kind-still c did (fails reason) m i low = q .idle i low
   kind-still c did (shows target place e) m i low = q .idle i low
   kind-still c did (gets target place e live) m i low = q .idle i low
-  kind-still c did (creates wanted room) m i low =
+  kind-still c did (locates name) m i low = q .idle i low
+  kind-still c did (creates wanted free room) m i low =
       stored-still (born-leaves n t held room (env .fresh) fresh-bytes wanted (create-allowed m) .stored) (λ z. not-new refl z) i low
   kind-still c did (rekeys target offset place e alive single right room) m i low =
       let s = sought holder target in

@@ -19,3 +19,4 @@ pub mod Only
 pub mod Firm
 pub mod Idle
 pub mod Hoped
+pub mod Named

@@ -17,7 +17,7 @@ use Rattle.table.proofs.Places.{serial-is}
 use Rattle.search.proofs.Finds.{find-below, find-serial, find-nonzero}
 use Rattle.keeps.proofs.Keeps.{Held, facts}
 use Rattle.payload.specs.declared.Command.{Command}
-use Rattle.payload.specs.declared.Command.the-variants.{Unsupported, Invalid, Create, Rekey, GetUsageAllocation, Activate, Revoke, Destroy, GetAttributes, Get}
+use Rattle.payload.specs.declared.Command.the-variants.{Unsupported, Invalid, Create, Rekey, GetUsageAllocation, Activate, Revoke, Destroy, GetAttributes, Get, Locate}
 use Rattle.plans.specs.declared.Outcome.{Outcome}
 use Rattle.plans.specs.Plans.{Did}
 use Rattle.act.specs.Act.{sought}
@@ -99,6 +99,7 @@ module _ (n : ℕ) (log : List Event) (t : List ℕ) (inv : Inv n log t) (e : Ev
       by-command (Destroy target) d = refl
       by-command (GetAttributes target) d = refl
       by-command (Get target) d = refl
+      by-command (Locate name) d = refl
 
   -- the counts, with what the event says in place of what was done
   counted : Counted n t (did .table) s g (beginsWith n t (e .held) (commandOf e) (q .place))

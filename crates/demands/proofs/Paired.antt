@@ -17,9 +17,9 @@ use Rattle.rules.specs.declared.Offset.{Offset}
 use Rattle.target_read.specs.declared.Target.{Target}
 use Rattle.payload.specs.declared.Command.{Command}
 use Rattle.payload.specs.declared.Command.the-variants.{Rekey, GetUsageAllocation}
-use Rattle.plans.specs.Plans.{Env, Did, envAt, createPlan, rekeyPlan}
+use Rattle.plans.specs.Plans.{Env, Did, envAt, createPlan, rekeyPlan, locatePlan}
 use Rattle.act.specs.Act.{step}
-use Rattle.act.proofs.Went.{Moving, activating, revoking, destroying, Kind, fails, creates, rekeys, grants, moves, shows, gets, step-kind}
+use Rattle.act.proofs.Went.{Moving, activating, revoking, destroying, Kind, fails, creates, rekeys, grants, moves, shows, gets, locates, step-kind}
 use Rattle.answer.specs.Respond.{Answer}
 use Rattle.engine.specs.Batch.{Ran, answerTo, lastly, firstly, endsBatch, batch}
 use Rattle.engine.proofs.Commands.{Commanded, to-rekey, to-allocate, to-activate, to-revoke, to-destroy, commanded}
@@ -48,14 +48,15 @@ move-not destroying (to-destroy o) e = let z : destroy ≡ rekey = sym o ∙ e i
 
 -- the placeholder that the answers set is the one that the item left
 kind-holder : (env : Env) (holder : ℕ) (t : List ℕ) (a : Answer) (c : Command) (did : Did) → Kind env holder t c did → Commanded (a .operation) c → heldAfter holder a (did .outcome) ≡ did .holder
-unfolding heldAfter createPlan rekeyPlan
+unfolding heldAfter createPlan rekeyPlan locatePlan
 kind-holder env holder t a c did (fails reason) m = refl
-kind-holder env holder t a c did (creates wanted room) m = refl
+kind-holder env holder t a c did (creates wanted free room) m = refl
 kind-holder env holder t a c did (rekeys target offset i e alive single right room) m = ifb-true (eqb (a .operation) rekey) _ holder (eq-eqb (a .operation) rekey (rekey-is m))
 kind-holder env holder t a c did (grants target amount i e g) m = ifb-false (eqb (a .operation) rekey) _ holder (ne-eqb (a .operation) rekey (allocation-not m))
 kind-holder env holder t a c did (moves v i next e late g) m = ifb-false (eqb (a .operation) rekey) _ holder (ne-eqb (a .operation) rekey (move-not v m))
 kind-holder env holder t a c did (shows target i e) m = refl
 kind-holder env holder t a c did (gets target i e live) m = refl
+kind-holder env holder t a c did (locates name) m = refl
 
 -- ---- a batch
 

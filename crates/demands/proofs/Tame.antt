@@ -10,6 +10,9 @@ use mathlib.Core.List.{List}
 use lib.ListN.{length}
 use lib.Dec.{eqb}
 use borrow.Author.Tests.{eqb-true, eq-eqb, ne-eqb}
+use Rattle.name_search.proofs.Finds.{found-name-below}
+use Rattle.name_search.specs.Names.{findName}
+use Rattle.names.specs.declared.Name.{Name}
 use Rattle.octets.specs.Octets.{Bytes}
 use Rattle.octets.proofs.Bools.{and-i, and-no, or-l, or-r}
 use Rattle.table.specs.declared.Record.{Record}
@@ -31,14 +34,14 @@ use Rattle.batch_item.specs.Item.{Asked}
 use Rattle.target_read.specs.declared.Target.{Target}
 use Rattle.payload.specs.declared.Command.{Command}
 use Rattle.payload.specs.Payload.{command}
-use Rattle.plans.specs.Plans.{Env, Did, envAt, createPlan, rekeyPlan, shownOf, keyOf, isFailed}
+use Rattle.plans.specs.Plans.{Env, Did, envAt, createPlan, rekeyPlan, locatePlan, serialFound, shownOf, keyOf, isFailed}
 use Rattle.act.specs.Act.{sought, step}
-use Rattle.act.proofs.Went.{Moving, activating, revoking, destroying, Kind, fails, creates, rekeys, grants, moves, shows, gets, step-kind}
+use Rattle.act.proofs.Went.{Moving, activating, revoking, destroying, Kind, fails, creates, rekeys, grants, moves, shows, gets, locates, step-kind}
 use Rattle.engine.specs.Batch.{answerTo}
 use Rattle.engine.proofs.Steps.{step-latest}
 use Rattle.engine.proofs.Commands.{Commanded, to-activate, to-revoke, to-destroy, commanded}
 use Rattle.demands.specs.Log.{Event, issuedBy, handedBy}
-use Rattle.demands.specs.Demand3.{namedBy, isUnderstood, movesState, asksKey, carries, codeOf, bornBy, foundIn, listed, Tame}
+use Rattle.demands.specs.Demand3.{namedBy, isUnderstood, movesState, asksKey, asksName, carries, codeOf, bornBy, foundIn, listed, Tame}
 use Rattle.demands.proofs.Counted.{create-allowed, no-issue, move-issues, Counts, kind-counts}
 
 -- ---- the listed transitions
@@ -186,11 +189,12 @@ module _ (env : Env) (holder : ℕ) (t : List ℕ) (held : Held (env .places) t)
   here u q e = ap (placeAt n u) q ∙ e
 
   pub kind-tame : {operation : ℕ} (c : Command) (did : Did) → Kind env holder t c did → Commanded operation c → TameAt (env .places) holder t operation c did i
-  unfolding createPlan rekeyPlan newRecord heirOf heirDated linkedTo withCount movedTo withDates inState namedBy movesState isFailed issuedBy bornBy foundAt
+  unfolding createPlan rekeyPlan locatePlan newRecord heirOf heirDated linkedTo withCount movedTo withDates inState namedBy movesState isFailed issuedBy bornBy foundAt
   kind-tame c did (fails reason) m = stayed i refl (none-taken n t c did i (no-issue c reason)) (λ a f z. true≢false f)
   kind-tame c did (shows target k e) m = stayed i refl refl (λ a f z. false≢true z)
   kind-tame c did (gets target k e live) m = stayed i refl refl (λ a f z. false≢true z)
-  kind-tame c did (creates wanted room) m =
+  kind-tame c did (locates name) m = stayed i refl refl (λ a f z. false≢true z)
+  kind-tame c did (creates wanted free room) m =
       let b = born-leaves n t held room (env .fresh) fresh-bytes wanted (create-allowed m) in
       elim (ℕ-discrete i (b .place)) [
         | no q ↦ stayed i (other n t (b .place) _ _ _ (b .stored) i low q) (not-taken n t c did i (b .place) (b .due) q) (λ a f z. false≢true z)
@@ -242,9 +246,9 @@ module _ (env : Env) (holder : ℕ) (t : List ℕ) (held : Held (env .places) t)
 -- what is issued stands
 kind-stands : (env : Env) (holder : ℕ) (t : List ℕ) → Held (env .places) t → Bytes (env .fresh) → {operation : ℕ} (c : Command) (did : Did) → Kind env holder t c did → Commanded operation c
     → (issuedBy c (did .outcome) ≡ 0 → ⊥) → (i : ℕ) × (i < env .places) × (placeAt (env .places) (did .table) i .serial ≡ issuedBy c (did .outcome))
-unfolding createPlan rekeyPlan newRecord heirOf heirDated issuedBy
+unfolding createPlan rekeyPlan locatePlan newRecord heirOf heirDated issuedBy
 kind-stands env holder t held fresh-bytes c did (fails reason) m h = absurd (h (no-issue c reason))
-kind-stands env holder t held fresh-bytes c did (creates wanted room) m h =
+kind-stands env holder t held fresh-bytes c did (creates wanted free room) m h =
     let b = born-leaves (env .places) t held room (env .fresh) fresh-bytes wanted (create-allowed m) in
     (b .place, b .below, ap (λ (r : Record). r .serial) (b .stored .here))
 kind-stands env holder t held fresh-bytes c did (rekeys target offset k e alive single right room) m h =
@@ -255,6 +259,7 @@ kind-stands env holder t held fresh-bytes c did (grants target amount k e g) m h
 kind-stands env holder t held fresh-bytes c did (moves v k next e late g) m h = absurd (h (move-issues v (did .outcome)))
 kind-stands env holder t held fresh-bytes c did (shows target k e) m h = absurd (h refl)
 kind-stands env holder t held fresh-bytes c did (gets target k e live) m h = absurd (h refl)
+kind-stands env holder t held fresh-bytes c did (locates name) m h = absurd (h refl)
 
 -- a success that issues nothing is about a record that stands, and carries its identifier
 module _ (env : Env) (holder : ℕ) (t : List ℕ) where
@@ -263,16 +268,40 @@ module _ (env : Env) (holder : ℕ) (t : List ℕ) where
   named-there c did x k e n s =
       (k, find-below (env .places) t x k e, is-at k k _ (ap (find (env .places) t) n ∙ e) refl, s ∙ sym (serial-is (env .places) t k))
 
-  kind-about : {operation : ℕ} (c : Command) (did : Did) → Kind env holder t c did → Commanded operation c → isFailed (did .outcome) ≡ false → issuedBy c (did .outcome) ≡ 0
+  kind-about : {operation : ℕ} (c : Command) (did : Did) → Kind env holder t c did → Commanded operation c → isFailed (did .outcome) ≡ false → issuedBy c (did .outcome) ≡ 0 → asksName c ≡ false
       → (i : ℕ) × (i < env .places) × (isAt i (find (env .places) t (namedBy holder c)) ≡ true) × (carries (did .outcome) ≡ serialAt t i)
-  unfolding createPlan rekeyPlan withCount movedTo withDates inState shownOf keyOf isFailed issuedBy namedBy carries
-  kind-about c did (fails reason) m f z = absurd (true≢false f)
-  kind-about c did (creates wanted room) m f z = absurd (let y : lastSerial t + 1 ≡ 0 = z in omega arith)
-  kind-about c did (rekeys target offset k e live single right room) m f z = absurd (let y : lastSerial t + 1 ≡ 0 = z in omega arith)
-  kind-about c did (grants target amount k e g) m f z = named-there c did (sought holder target) k e refl refl
-  kind-about c did (moves {target = target} v k next e late g) m f z = named-there c did (sought holder target) k e (move-code holder v m .2) refl
-  kind-about c did (shows target k e) m f z = named-there c did (sought holder target) k e refl refl
-  kind-about c did (gets target k e live) m f z = named-there c did (sought holder target) k e refl refl
+  unfolding createPlan rekeyPlan locatePlan withCount movedTo withDates inState shownOf keyOf isFailed issuedBy namedBy carries asksName
+  kind-about c did (fails reason) m f z a = absurd (true≢false f)
+  kind-about c did (creates wanted free room) m f z a = absurd (let y : lastSerial t + 1 ≡ 0 = z in omega arith)
+  kind-about c did (rekeys target offset k e live single right room) m f z a = absurd (let y : lastSerial t + 1 ≡ 0 = z in omega arith)
+  kind-about c did (grants target amount k e g) m f z a = named-there c did (sought holder target) k e refl refl
+  kind-about c did (moves {target = target} v k next e late g) m f z a = named-there c did (sought holder target) k e (move-code holder v m .2) refl
+  kind-about c did (shows target k e) m f z a = named-there c did (sought holder target) k e refl refl
+  kind-about c did (gets target k e live) m f z a = named-there c did (sought holder target) k e refl refl
+  kind-about c did (locates name) m f z a = absurd (true≢false a)
+
+  -- what a search for a name found stands
+  named-found : (name : Name) (f : Found) → findName (env .places) t name ≡ f → (serialFound t f ≡ 0 → ⊥) → (i : ℕ) × (i < env .places) × (serialAt t i ≡ serialFound t f)
+  unfolding serialFound
+  named-found name (At i) e h = (i, found-name-below (env .places) t name i e, refl)
+  named-found name Nothing e h = absurd (h refl)
+
+  moving-named : {c : Command} {operation code : ℕ} {target : Target} → Moving c operation code target → asksName c ≡ false
+  unfolding asksName
+  moving-named activating = refl
+  moving-named revoking = refl
+  moving-named destroying = refl
+
+  kind-located : (c : Command) (did : Did) → Kind env holder t c did → asksName c ≡ true → (carries (did .outcome) ≡ 0 → ⊥) → (i : ℕ) × (i < env .places) × (serialAt t i ≡ carries (did .outcome))
+  unfolding createPlan rekeyPlan locatePlan asksName carries
+  kind-located c did (fails reason) a h = absurd (h refl)
+  kind-located c did (creates wanted free room) a h = absurd (false≢true a)
+  kind-located c did (rekeys target offset k e live single right room) a h = absurd (false≢true a)
+  kind-located c did (grants target amount k e g) a h = absurd (false≢true a)
+  kind-located c did (moves v k next e late g) a h = absurd (true≢false (sym a ∙ moving-named v))
+  kind-located c did (shows target k e) a h = absurd (false≢true a)
+  kind-located c did (gets target k e live) a h = absurd (false≢true a)
+  kind-located c did (locates name) a h = named-found name (findName (env .places) t name) refl h
 
 -- a key that is handed out is not destroyed
 moving-asks : {c : Command} {operation code : ℕ} {target : Target} → Moving c operation code target → asksKey c ≡ false
@@ -282,36 +311,39 @@ moving-asks revoking = refl
 moving-asks destroying = refl
 
 kind-hands : (env : Env) (holder : ℕ) (t : List ℕ) (c : Command) (did : Did) → Kind env holder t c did → (handedBy (did .outcome) ≡ 0 → ⊥) → asksKey c ≡ true
-unfolding createPlan rekeyPlan handedBy asksKey
+unfolding createPlan rekeyPlan locatePlan handedBy asksKey
 kind-hands env holder t c did (fails reason) h = absurd (h refl)
-kind-hands env holder t c did (creates wanted room) h = absurd (h refl)
+kind-hands env holder t c did (creates wanted free room) h = absurd (h refl)
 kind-hands env holder t c did (rekeys target offset k e live single right room) h = absurd (h refl)
 kind-hands env holder t c did (grants target amount k e g) h = absurd (h refl)
 kind-hands env holder t c did (moves v k next e late g) h = absurd (h refl)
 kind-hands env holder t c did (shows target k e) h = absurd (h refl)
 kind-hands env holder t c did (gets target k e live) h = refl
+kind-hands env holder t c did (locates name) h = absurd (h refl)
 
 kind-alive : (env : Env) (holder : ℕ) (t : List ℕ) (c : Command) (did : Did) → Kind env holder t c did → (i : ℕ) → isAt i (find (env .places) t (namedBy holder c)) ≡ true → isFailed (did .outcome) ≡ false
     → asksKey c ≡ true → isDestroyed (placeAt (env .places) t i .state) ≡ false
-unfolding createPlan rekeyPlan isFailed namedBy asksKey
+unfolding createPlan rekeyPlan locatePlan isFailed namedBy asksKey
 kind-alive env holder t c did (fails reason) i a f k = absurd (true≢false f)
-kind-alive env holder t c did (creates wanted room) i a f k = absurd (false≢true k)
+kind-alive env holder t c did (creates wanted free room) i a f k = absurd (false≢true k)
 kind-alive env holder t c did (rekeys target offset j e live single right room) i a f k = absurd (false≢true k)
 kind-alive env holder t c did (grants target amount j e g) i a f k = absurd (false≢true k)
 kind-alive env holder t c did (moves v j next e late g) i a f k = absurd (true≢false (sym k ∙ moving-asks v))
 kind-alive env holder t c did (shows target j e) i a f k = absurd (false≢true k)
 kind-alive env holder t c did (gets target j e live) i a f k = ap (λ (l : ℕ). isDestroyed (placeAt (env .places) t l .state)) (at-is i j _ e a) ∙ live
+kind-alive env holder t c did (locates name) i a f k = absurd (false≢true k)
 
 -- a failed item leaves the table
 kind-failed : (env : Env) (holder : ℕ) (t : List ℕ) (c : Command) (did : Did) → Kind env holder t c did → isFailed (did .outcome) ≡ true → did .table ≡ t
-unfolding createPlan rekeyPlan isFailed
+unfolding createPlan rekeyPlan locatePlan isFailed
 kind-failed env holder t c did (fails reason) h = refl
-kind-failed env holder t c did (creates wanted room) h = absurd (false≢true h)
+kind-failed env holder t c did (creates wanted free room) h = absurd (false≢true h)
 kind-failed env holder t c did (rekeys target offset k e alive single right room) h = absurd (false≢true h)
 kind-failed env holder t c did (grants target amount k e g) h = absurd (false≢true h)
 kind-failed env holder t c did (moves v k next e late g) h = absurd (false≢true h)
 kind-failed env holder t c did (shows target k e) h = refl
 kind-failed env holder t c did (gets target k e live) h = refl
+kind-failed env holder t c did (locates name) h = refl
 
 -- what was not understood fails
 moving-understood : {c : Command} {operation code : ℕ} {target : Target} → Moving c operation code target → isUnderstood c ≡ true
@@ -323,12 +355,13 @@ moving-understood destroying = refl
 kind-understood : (env : Env) (holder : ℕ) (t : List ℕ) (c : Command) (did : Did) → Kind env holder t c did → isUnderstood c ≡ false → isFailed (did .outcome) ≡ true
 unfolding isUnderstood isFailed
 kind-understood env holder t c did (fails reason) h = refl
-kind-understood env holder t c did (creates wanted room) h = absurd (true≢false h)
+kind-understood env holder t c did (creates wanted free room) h = absurd (true≢false h)
 kind-understood env holder t c did (rekeys target offset k e alive single right room) h = absurd (true≢false h)
 kind-understood env holder t c did (grants target amount k e g) h = absurd (true≢false h)
 kind-understood env holder t c did (moves v k next e late g) h = absurd (true≢false (sym (moving-understood v) ∙ h))
 kind-understood env holder t c did (shows target k e) h = absurd (true≢false h)
 kind-understood env holder t c did (gets target k e live) h = absurd (true≢false h)
+kind-understood env holder t c did (locates name) h = absurd (true≢false h)
 
 -- ---- one item, as an event
 
@@ -359,7 +392,8 @@ module _ (strip : List ℕ) (k holder : ℕ) (t : List ℕ) (asked : Asked) wher
     obeys = λ i low a f m. at i low .obeys a f m;
     taken = λ i low y. (let w = at i low .taken y in record { was = w .0; serial = serial-is placeCount (did .table) i ∙ w .1; state = w .2 ∙ ap (bornBy (latestClock t) c) (found-same t _) });
     stands = λ h. (let w = kind-stands own holder t held fresh-bytes c did went (commanded (asked .operation) (asked .payload)) h in (w .0, record { below = w .1; serial = serial-is placeCount (did .table) (w .0) ∙ w .2 }));
-    about = λ f z. (let w = kind-about own holder t c did went (commanded (asked .operation) (asked .payload)) f z in record { place = w .0; below = w .1; named = w .2; serial = w .3 });
+    about = λ f z a. (let w = kind-about own holder t c did went (commanded (asked .operation) (asked .payload)) f z a in record { place = w .0; below = w .1; named = w .2; serial = w .3 });
+    located = λ a h. (let w = kind-located own holder t c did went a h in (w .0, record { below = w .1; serial = w .2 }));
     hands = kind-hands own holder t c did went;
     alive = λ i low a f k. kind-alive own holder t c did went i a f k;
     latest = step-latest own holder t held fresh-bytes long asked;

@@ -18,7 +18,10 @@ use Rattle.fields.specs.Fields.{startsWith, bytesOf, bodyOf, numberOf, optional
 use Rattle.identifier.specs.Identifier.{digits, identifier, fromDigitsAfter, serialOf}
 use Rattle.table.specs.Layout.{placeCount}
 use Rattle.table.specs.declared.Record.{Record}
-use Rattle.table.specs.Records.{line, body, recordOf, placeAt, withPlace, serialAt, stateAt, blank, latestClock}
+use Rattle.words.specs.Words.{wordsOf, wordBytes, filled}
+use Rattle.names.specs.Names.{noName, nameField, storedName, nameOf, nameOk}
+use Rattle.name_read.specs.Name.{nameBody, nameFirst, onlyNameIn, orNoName, lastNameIn}
+use Rattle.table.specs.Records.{line, body, recordOf, placeAt, withPlace, serialAt, stateAt, nameAt, blank, latestClock}
 use Rattle.search.specs.declared.Found.the-variants.{At, Nothing}
 use Rattle.search.specs.Search.{firstFrom, orElse, find, freePlace, destroyedPlace, newPlace}
 use Rattle.soundness.specs.Checked.{isAt}
@@ -28,22 +31,22 @@ use Rattle.rules.specs.declared.Offset.{Offset}
 use Rattle.rules.specs.declared.Offset.the-variants.{NoOffset, Seconds}
 use Rattle.target_read.specs.declared.Target.the-variants.{Placeholder, Serial}
 use Rattle.payload.specs.declared.Command.{Command}
-use Rattle.payload.specs.declared.Command.the-variants.{Unsupported, Invalid, Create, Rekey, GetUsageAllocation, Activate, Revoke, Destroy, GetAttributes, Get}
-use Rattle.attributes_read.specs.Attributes.{limitIn, limitFirst, dateFirst, orUnset, datesIn, wantedOf, limitedIn, maskedIn, attributesIn}
-use Rattle.payload.specs.Payload.{createIn, offsetOf, rekeyIn, aloneIn, allocationIn, revokeIn, orInvalid, command}
+use Rattle.payload.specs.declared.Command.the-variants.{Unsupported, Invalid, Create, Rekey, GetUsageAllocation, Activate, Revoke, Destroy, GetAttributes, Get, Locate}
+use Rattle.attributes_read.specs.Attributes.{limitIn, limitFirst, dateFirst, orUnset, datedIn, wantedOf, limitedIn, maskedIn, attributesIn}
+use Rattle.payload.specs.Payload.{createIn, offsetOf, rekeyIn, aloneIn, allocationIn, revokeIn, locateIn, orInvalid, command}
 use Rattle.date_rules.specs.Dates.{startedState, stoppedState, datedState}
 use Rattle.changes.specs.Records.{heirActivation, heirDeactivation}
 use Rattle.target_read.specs.Target.{targetOf, targetIn}
 use Rattle.plans.specs.declared.Key.{Key}
 use Rattle.plans.specs.declared.Outcome.{Outcome}
-use Rattle.plans.specs.declared.Outcome.the-variants.{Failed, Created, Done, Showed, Got}
+use Rattle.plans.specs.declared.Outcome.the-variants.{Failed, Created, Done, Showed, Got, Located}
 use Rattle.act.specs.Act.{sought}
 use Rattle.plans.specs.Plans.{isFailed}
 use Rattle.answer.specs.Respond.{Answer}
 use Rattle.demands.specs.Box.{Call, counted}
 use Rattle.demands.specs.Demand2.{Link, ofFrame, lowest, goesOn, linkAt, answerFor, answersFor}
 use Rattle.demands.specs.Log.{Event, heldAfter, paired, orNoItems, orNoAnswers, onto, issuedBy, issued, grantBy, granted, limitBy, limit, handedBy, destroyedBy, wasDestroyed, handedDead}
-use Rattle.demands.specs.Demand3.{namedBy, isUnderstood, movesState, asksKey, carries, codeOf, names, takes, mayTake, bornBy, foundIn, bornState, listed, listedFor, listedBy}
+use Rattle.demands.specs.Demand3.{namedBy, isUnderstood, movesState, asksKey, asksName, carries, codeOf, names, takes, mayTake, bornBy, foundIn, bornState, listed, listedFor, listedBy}
 use Rattle.demands.specs.Hope.{largest}
 
 -- ---- commands and outcomes
@@ -53,7 +56,7 @@ commands : List Command
 commands =
     Unsupported
     ∷ Invalid
-    ∷ Create (record { bits = 128; mask = 4; unit = 2; total = 100; activation = 0; deactivation = 0 })
+    ∷ Create (record { bits = 128; mask = 4; unit = 2; total = 100; activation = 0; deactivation = 0; name = noName })
     ∷ Rekey (Serial 7) NoOffset
     ∷ GetUsageAllocation (Serial 7) 60
     ∷ Activate (Serial 7)
@@ -61,6 +64,7 @@ commands =
     ∷ Destroy (Serial 7)
     ∷ GetAttributes (Serial 7)
     ∷ Get (Serial 7)
+    ∷ Locate noName
     ∷ []
 
 -- by the placeholder
@@ -77,8 +81,9 @@ outcomes =
     Failed UsageLimitExceeded
     ∷ Created 8
     ∷ Done 8
-    ∷ Showed (record { serial = 8; bits = 128; mask = 4; state = 1; activation = 0; deactivation = 0; unit = 2; total = 100; count = 100; replaced = 0; replacement = 0 })
+    ∷ Showed (record { serial = 8; bits = 128; mask = 4; state = 1; activation = 0; deactivation = 0; unit = 2; total = 100; count = 100; replaced = 0; replacement = 0; name = noName })
     ∷ Got (key 8)
+    ∷ Located 8
     ∷ []
 
 flag : Bool → ℕ
@@ -90,26 +95,28 @@ matrix f [] = []
 matrix f (c ∷ cs) = map (f c) outcomes ++ matrix f cs
 
 none-of : List ℕ
-none-of = 0 ∷ 0 ∷ 0 ∷ 0 ∷ 0 ∷ []
+none-of = 0 ∷ 0 ∷ 0 ∷ 0 ∷ 0 ∷ 0 ∷ []
 
 commandCases : List Bool
 commandCases =
-    same (map (namedBy 3) commands) (0 ∷ 0 ∷ 0 ∷ 7 ∷ 7 ∷ 7 ∷ 7 ∷ 7 ∷ 7 ∷ 7 ∷ [])
+    same (map (namedBy 3) commands) (0 ∷ 0 ∷ 0 ∷ 7 ∷ 7 ∷ 7 ∷ 7 ∷ 7 ∷ 7 ∷ 7 ∷ 0 ∷ [])
     ∷ same (map (namedBy 3) heldCommands) (3 ∷ 3 ∷ 3 ∷ 3 ∷ 3 ∷ 3 ∷ 3 ∷ [])
-    ∷ same (map (λ c. flag (isUnderstood c)) commands) (0 ∷ 0 ∷ 1 ∷ 1 ∷ 1 ∷ 1 ∷ 1 ∷ 1 ∷ 1 ∷ 1 ∷ [])
-    ∷ same (map (λ c. flag (movesState c)) commands) (0 ∷ 0 ∷ 0 ∷ 0 ∷ 0 ∷ 1 ∷ 1 ∷ 1 ∷ 0 ∷ 0 ∷ [])
-    ∷ same (map codeOf commands) (0 ∷ 0 ∷ 0 ∷ 0 ∷ 0 ∷ 0 ∷ 5 ∷ 0 ∷ 0 ∷ 0 ∷ [])
+    ∷ same (map (λ c. flag (isUnderstood c)) commands) (0 ∷ 0 ∷ 1 ∷ 1 ∷ 1 ∷ 1 ∷ 1 ∷ 1 ∷ 1 ∷ 1 ∷ 1 ∷ [])
+    ∷ same (map (λ c. flag (movesState c)) commands) (0 ∷ 0 ∷ 0 ∷ 0 ∷ 0 ∷ 1 ∷ 1 ∷ 1 ∷ 0 ∷ 0 ∷ 0 ∷ [])
+    ∷ same (map codeOf commands) (0 ∷ 0 ∷ 0 ∷ 0 ∷ 0 ∷ 0 ∷ 5 ∷ 0 ∷ 0 ∷ 0 ∷ 0 ∷ [])
     -- Get alone asks for the key itself
-    ∷ same (map (λ c. flag (asksKey c)) commands) (0 ∷ 0 ∷ 0 ∷ 0 ∷ 0 ∷ 0 ∷ 0 ∷ 0 ∷ 0 ∷ 1 ∷ [])
+    ∷ same (map (λ c. flag (asksKey c)) commands) (0 ∷ 0 ∷ 0 ∷ 0 ∷ 0 ∷ 0 ∷ 0 ∷ 0 ∷ 0 ∷ 1 ∷ 0 ∷ [])
+    -- and Locate alone for a record by its name
+    ∷ same (map (λ c. flag (asksName c)) commands) (0 ∷ 0 ∷ 0 ∷ 0 ∷ 0 ∷ 0 ∷ 0 ∷ 0 ∷ 0 ∷ 0 ∷ 1 ∷ [])
     -- Create issues by Created, Re-key by Done, and nothing else issues
-    ∷ same (matrix issuedBy commands) (none-of ++ (none-of ++ ((0 ∷ 8 ∷ 0 ∷ 0 ∷ 0 ∷ []) ++ ((0 ∷ 0 ∷ 8 ∷ 0 ∷ 0 ∷ []) ++ replicate 30 0))))
+    ∷ same (matrix issuedBy commands) (none-of ++ (none-of ++ ((0 ∷ 8 ∷ 0 ∷ 0 ∷ 0 ∷ 0 ∷ []) ++ ((0 ∷ 0 ∷ 8 ∷ 0 ∷ 0 ∷ 0 ∷ []) ++ replicate 42 0))))
     -- Get Usage Allocation grants by Done, to the identifier that is carried, and nothing else grants
-    ∷ same (matrix (grantBy 8) commands) (replicate 20 0 ++ ((0 ∷ 0 ∷ 60 ∷ 0 ∷ 0 ∷ []) ++ replicate 25 0))
-    ∷ same (matrix (grantBy 7) commands) (replicate 50 0)
+    ∷ same (matrix (grantBy 8) commands) (replicate 24 0 ++ ((0 ∷ 0 ∷ 60 ∷ 0 ∷ 0 ∷ 0 ∷ []) ++ replicate 36 0))
+    ∷ same (matrix (grantBy 7) commands) (replicate 66 0)
     -- what an answer carries; a key is handed out by Got, and Destroy alone destroys, by Done
-    ∷ same (map carries outcomes) (0 ∷ 8 ∷ 8 ∷ 8 ∷ 8 ∷ [])
-    ∷ same (map handedBy outcomes) (0 ∷ 0 ∷ 0 ∷ 0 ∷ 8 ∷ [])
-    ∷ same (map (destroyedBy 0x14) outcomes) (0 ∷ 0 ∷ 8 ∷ 0 ∷ 0 ∷ [])
+    ∷ same (map carries outcomes) (0 ∷ 8 ∷ 8 ∷ 8 ∷ 8 ∷ 8 ∷ [])
+    ∷ same (map handedBy outcomes) (0 ∷ 0 ∷ 0 ∷ 0 ∷ 8 ∷ 0 ∷ [])
+    ∷ same (map (destroyedBy 0x14) outcomes) (0 ∷ 0 ∷ 8 ∷ 0 ∷ 0 ∷ 0 ∷ [])
     ∷ same (map (destroyedBy 0x13) outcomes) none-of
     ∷ []
 
@@ -168,6 +175,7 @@ datedKey activation deactivation state = record {
   material = [];
   activation = activation;
   deactivation = deactivation;
+  name = noName;
 }
 
 -- the listed changes by these dates, as two digits
@@ -228,7 +236,7 @@ answers =
     ∷ answering 0x11 (Failed UsageLimitExceeded)
     ∷ answering 0x04 (Done 2)
     ∷ answering 0x11 (Done 2)
-    ∷ answering 0x0B (Showed (record { serial = 2; bits = 128; mask = 4; state = 1; activation = 0; deactivation = 0; unit = 2; total = 100; count = 90; replaced = 1; replacement = 0 }))
+    ∷ answering 0x0B (Showed (record { serial = 2; bits = 128; mask = 4; state = 1; activation = 0; deactivation = 0; unit = 2; total = 100; count = 90; replaced = 1; replacement = 0; name = noName }))
     ∷ answering 0x04 (Done 3)
     ∷ answering 0x14 (Done 3)
     ∷ []
@@ -265,9 +273,9 @@ holding held = record { held = held; asked = asking 0 []; answer = answering 0 (
 
 logCases : List Bool
 logCases =
-    -- Create and Re-key set the placeholder, a failed item empties it, others keep it
-    same (map (heldAfter 3 (answering 0x04 (Done 8))) outcomes) (0 ∷ 8 ∷ 8 ∷ 3 ∷ 3 ∷ [])
-    ∷ same (map (heldAfter 3 (answering 0x12 (Done 8))) outcomes) (0 ∷ 8 ∷ 3 ∷ 3 ∷ 3 ∷ [])
+    -- Create, Re-key and Locate set the placeholder, a failed item empties it, others keep it
+    same (map (heldAfter 3 (answering 0x04 (Done 8))) outcomes) (0 ∷ 8 ∷ 8 ∷ 3 ∷ 3 ∷ 8 ∷ [])
+    ∷ same (map (heldAfter 3 (answering 0x12 (Done 8))) outcomes) (0 ∷ 8 ∷ 3 ∷ 3 ∷ 3 ∷ 8 ∷ [])
     ∷ same (heldIn events) (0 ∷ 1 ∷ 1 ∷ 1 ∷ 0 ∷ 2 ∷ 2 ∷ 2 ∷ 3 ∷ [])
     -- the latest first
     ∷ same (heldIn log) (3 ∷ 2 ∷ 2 ∷ 2 ∷ 0 ∷ 1 ∷ 1 ∷ 1 ∷ 0 ∷ [])
@@ -286,7 +294,7 @@ logCases =
     ∷ same (ofEach issued []) of-none
     ∷ same (ofEach granted []) of-none
     ∷ same (ofEach limit []) of-none
-    ∷ same (map (limitOf (holding 3)) commands) (0 ∷ 0 ∷ 100 ∷ 507 ∷ 0 ∷ 0 ∷ 0 ∷ 0 ∷ 0 ∷ 0 ∷ [])
+    ∷ same (map (limitOf (holding 3)) commands) (0 ∷ 0 ∷ 100 ∷ 507 ∷ 0 ∷ 0 ∷ 0 ∷ 0 ∷ 0 ∷ 0 ∷ 0 ∷ [])
     ∷ same (map (limitOf (holding 3)) heldCommands) (503 ∷ 0 ∷ 0 ∷ 0 ∷ 0 ∷ 0 ∷ 0 ∷ [])
     -- 3 was destroyed; what was handed out of it before does not count, and each time after does
     ∷ same (ofEach destroyedIn log) (0 ∷ 0 ∷ 1 ∷ 0 ∷ [])
@@ -303,7 +311,7 @@ logCases =
 
 -- a table with one key, identifier 7 at place 1 in a state
 keyed : ℕ → List ℕ
-keyed state = withPlace placeCount (blank placeCount) 1 (record { serial = 7; state = state; unit = 0; bits = 128; replaced = 0; replacement = 0; total = 0; count = 0; mask = 4; material = replicate 32 0; activation = 0; deactivation = 0 })
+keyed state = withPlace placeCount (blank placeCount) 1 (record { serial = 7; state = state; unit = 0; bits = 128; replaced = 0; replacement = 0; total = 0; count = 0; mask = 4; material = replicate 32 0; activation = 0; deactivation = 0; name = noName })
 
 activating : Event
 activating = record { held = 7; asked = asking 0x12 []; answer = answering 0x12 (Done 7) }
@@ -330,7 +338,7 @@ placeCases =
     ∷ same (ofPlaces (listedFor activating (keyed 2) (keyed 1))) (0 ∷ 0 ∷ 0 ∷ [])
     ∷ same (bornState activating (keyed 2) ∷ []) (1 ∷ [])
     -- at clock 5 a replacement begins as its dates make it, copied or moved by an Offset, and everything else Pre-Active
-    ∷ same (map (λ c. bornBy 5 c (datedKey 4 5 2)) commands) (1 ∷ 1 ∷ 1 ∷ 3 ∷ 1 ∷ 1 ∷ 1 ∷ 1 ∷ 1 ∷ 1 ∷ [])
+    ∷ same (map (λ c. bornBy 5 c (datedKey 4 5 2)) commands) (1 ∷ 1 ∷ 1 ∷ 3 ∷ 1 ∷ 1 ∷ 1 ∷ 1 ∷ 1 ∷ 1 ∷ 1 ∷ [])
     ∷ same (map (λ (o : Offset). bornBy 5 (Rekey (Serial 7) o) (datedKey 4 6 2)) (NoOffset ∷ Seconds 0 ∷ Seconds 1 ∷ [])) (2 ∷ 2 ∷ 1 ∷ [])
     ∷ same (map (λ (o : Offset). bornBy 5 (Rekey (Serial 7) o) (datedKey 4 4 3)) (NoOffset ∷ Seconds 0 ∷ Seconds 1 ∷ [])) (3 ∷ 3 ∷ 1 ∷ [])
     -- a free place may be taken, and one in state 5 or 6
@@ -358,8 +366,8 @@ callCases =
     same (lowest 1 [] ∷ lowest 1 (false ∷ false ∷ []) ∷ lowest 1 (false ∷ true ∷ true ∷ []) ∷ lowest 5 (true ∷ []) ∷ []) (0 ∷ 0 ∷ 2 ∷ 5 ∷ [])
     ∷ same (flag (ofFrame (λ f. true) none) ∷ []) (0 ∷ [])
     -- under Continue (1) a batch goes on behind each outcome, under Stop (2) not behind a failure
-    ∷ same (map (λ o. flag (goesOn 1 o)) outcomes) (1 ∷ 1 ∷ 1 ∷ 1 ∷ 1 ∷ [])
-    ∷ same (map (λ o. flag (goesOn 2 o)) outcomes) (0 ∷ 1 ∷ 1 ∷ 1 ∷ 1 ∷ [])
+    ∷ same (map (λ o. flag (goesOn 1 o)) outcomes) (1 ∷ 1 ∷ 1 ∷ 1 ∷ 1 ∷ 1 ∷ [])
+    ∷ same (map (λ o. flag (goesOn 2 o)) outcomes) (0 ∷ 1 ∷ 1 ∷ 1 ∷ 1 ∷ 1 ∷ [])
     -- item 1 takes bytes 32 to 63 of the strip and the placeholder, the clock that counts is the later one, and the answer has its operation and ID
     ∷ same (second .env .fresh) (replicate 32 8)
     ∷ same (second .holder ∷ counted call ∷ counted before ∷ []) (5 ∷ 9 ∷ 7 ∷ [])
@@ -374,5 +382,5 @@ cases = commandCases ++ (stateCases ++ (dateCases ++ (logCases ++ (placeCases ++
 
 -- every case holds
 pub worked : all (λ b. b) cases ≡ true
-unfolding cases bornBy foundIn heirActivation heirDeactivation datedState stoppedState startedState dateCases datedKey dueTo dueFrom listedBy largest before latestClock key of-none destroyedIn got asksKey carries handedBy destroyedBy wasDestroyed handedDead commandCases stateCases logCases placeCases callCases commands heldCommands outcomes flag matrix none-of eight waysTo waysFrom ways itemsRead asking items answering answers events log ofEach heldIn limitOf holding keyed activating rekeying ofPlaces call second goesOn isFailed answerFor namedBy isUnderstood movesState codeOf listed isAt heldAfter paired orNoItems orNoAnswers onto issuedBy issued grantBy granted limitBy limit ofFrame lowest sought ifb _>>=_ _>>_ isSome be fromBeAfter fromBe all same lengthOk text valueOk encode itemOk wellFormed ended headed firstOf putValue putGroup more walk parse startsWith bytesOf bodyOf numberOf optional digits identifier fromDigitsAfter serialOf limitIn limitFirst dateFirst orUnset datesIn wantedOf limitedIn maskedIn attributesIn createIn targetOf targetIn offsetOf rekeyIn aloneIn allocationIn revokeIn orInvalid command line body recordOf placeAt withPlace serialAt stateAt blank firstFrom orElse find freePlace destroyedPlace newPlace
+unfolding cases bornBy foundIn heirActivation heirDeactivation datedState stoppedState startedState dateCases datedKey dueTo dueFrom listedBy largest before latestClock key of-none destroyedIn got asksKey asksName carries handedBy destroyedBy wasDestroyed handedDead commandCases stateCases logCases placeCases callCases commands heldCommands outcomes flag matrix none-of eight waysTo waysFrom ways itemsRead asking items answering answers events log ofEach heldIn limitOf holding keyed activating rekeying ofPlaces call second goesOn isFailed answerFor namedBy isUnderstood movesState codeOf listed isAt heldAfter paired orNoItems orNoAnswers onto issuedBy issued grantBy granted limitBy limit ofFrame lowest sought ifb _>>=_ _>>_ isSome be fromBeAfter fromBe all same lengthOk text valueOk encode itemOk wellFormed ended headed firstOf putValue putGroup more walk parse startsWith bytesOf bodyOf numberOf optional digits identifier fromDigitsAfter serialOf limitIn limitFirst dateFirst orUnset datedIn lastNameIn nameFirst nameBody orNoName nameOf nameOk wantedOf limitedIn maskedIn attributesIn createIn targetOf targetIn offsetOf rekeyIn aloneIn allocationIn revokeIn locateIn onlyNameIn orInvalid command line body recordOf placeAt withPlace serialAt stateAt nameAt nameField storedName wordsOf wordBytes filled blank firstFrom orElse find freePlace destroyedPlace newPlace
 worked = refl

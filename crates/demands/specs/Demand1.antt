@@ -16,9 +16,9 @@ pub record Untouched (c : Call) (e : Effect) : Type 0 where
   pub table : e .table ≡ c .table
   pub output : e .output ≡ c .output
 
--- a call that is answered: "a response of at most 5,336 bytes", and the output past it as it was
+-- a call that is answered: "a response of at most 6,360 bytes", and the output past it as it was
 pub record Within (c : Call) (e : Effect) : Type 0 where
-  pub short : e .length ≤ 5336
+  pub short : e .length ≤ 6360
   pub room : e .length ≤ length (c .output)
   pub same-room : length (e .output) ≡ length (c .output)
   pub past : drop (e .length) (e .output) ≡ drop (e .length) (c .output)

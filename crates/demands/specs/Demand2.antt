@@ -43,7 +43,7 @@ ofFrame test (some f) = test f
 -- 01's table with 02's tenth line: the conditions of refusals 1 to 10; a clock below 1 is 0 or, by its 64 bits, negative
 unfoldable pub refusalConditions : Call → List Bool
 refusalConditions c =
-    ltb (length (c .output)) 5336
+    ltb (length (c .output)) 6360
     ∷ not (eqb (length (c .strip)) 512)
     ∷ not (sound (placesOf (c .table)) (c .table))
     ∷ (eqb (length (c .request)) 0 || ltb 4096 (length (c .request)))

@@ -21,9 +21,9 @@ use Rattle.rules.specs.States.{isCompromise}
 use Rattle.date_rules.specs.Dates.{hasCome, datedState}
 use Rattle.changes.specs.Records.{inState, heirActivation, heirDeactivation}
 use Rattle.payload.specs.declared.Command.{Command}
-use Rattle.payload.specs.declared.Command.the-variants.{Unsupported, Invalid, Create, Rekey, GetUsageAllocation, Activate, Revoke, Destroy, GetAttributes, Get}
+use Rattle.payload.specs.declared.Command.the-variants.{Unsupported, Invalid, Create, Rekey, GetUsageAllocation, Activate, Revoke, Destroy, GetAttributes, Get, Locate}
 use Rattle.plans.specs.declared.Outcome.{Outcome}
-use Rattle.plans.specs.declared.Outcome.the-variants.{Failed, Created, Done, Showed, Got}
+use Rattle.plans.specs.declared.Outcome.the-variants.{Failed, Created, Done, Showed, Got, Located}
 use Rattle.act.specs.Act.{sought}
 use Rattle.plans.specs.Plans.{isFailed}
 use Rattle.engine.specs.Effects.{Effect}
@@ -56,6 +56,7 @@ namedBy holder (Revoke target code) = sought holder target
 namedBy holder (Destroy target) = sought holder target
 namedBy holder (GetAttributes target) = sought holder target
 namedBy holder (Get target) = sought holder target
+namedBy holder (Locate name) = 0
 
 -- whether the operation of an item is one that there is, and its payload reads as that of its operation
 unfoldable pub isUnderstood : Command → Bool
@@ -69,6 +70,7 @@ isUnderstood (Revoke target code) = true
 isUnderstood (Destroy target) = true
 isUnderstood (GetAttributes target) = true
 isUnderstood (Get target) = true
+isUnderstood (Locate name) = true
 
 -- whether a command is there to move a state
 unfoldable pub movesState : Command → Bool
@@ -82,6 +84,7 @@ movesState (Revoke target code) = true
 movesState (Destroy target) = true
 movesState (GetAttributes target) = false
 movesState (Get target) = false
+movesState (Locate name) = false
 
 -- the revocation code of a command
 unfoldable pub codeOf : Command → ℕ
@@ -95,6 +98,7 @@ codeOf (Revoke target code) = code
 codeOf (Destroy target) = 0
 codeOf (GetAttributes target) = 0
 codeOf (Get target) = 0
+codeOf (Locate name) = 0
 
 -- whether a command asks for the key itself
 unfoldable pub asksKey : Command → Bool
@@ -108,14 +112,30 @@ asksKey (Revoke target code) = false
 asksKey (Destroy target) = false
 asksKey (GetAttributes target) = false
 asksKey (Get target) = true
+asksKey (Locate name) = false
 
--- the serial that an answer carries; 0 where it failed
+-- whether a command asks for a record by its name
+unfoldable pub asksName : Command → Bool
+asksName Unsupported = false
+asksName Invalid = false
+asksName (Create wanted) = false
+asksName (Rekey target offset) = false
+asksName (GetUsageAllocation target amount) = false
+asksName (Activate target) = false
+asksName (Revoke target code) = false
+asksName (Destroy target) = false
+asksName (GetAttributes target) = false
+asksName (Get target) = false
+asksName (Locate name) = true
+
+-- the serial that an answer carries; 0 where it failed, or found nothing
 unfoldable pub carries : Outcome → ℕ
 carries (Failed reason) = 0
 carries (Created serial) = serial
 carries (Done serial) = serial
 carries (Showed shown) = shown .serial
 carries (Got key) = key .serial
+carries (Located serial) = serial
 
 -- the record at place i is the one that the item names
 abbrev pub names : Event → List ℕ → ℕ → Bool
@@ -141,6 +161,7 @@ bornBy clock (Revoke target code) r = preActive
 bornBy clock (Destroy target) r = preActive
 bornBy clock (GetAttributes target) r = preActive
 bornBy clock (Get target) r = preActive
+bornBy clock (Locate name) r = preActive
 
 -- the record that a search found; where it found none, that of place 0 stands in
 unfoldable pub foundIn : List ℕ → Found → Record
@@ -204,8 +225,10 @@ pub record Tame (ev : Event) (t u : List ℕ) : Type 0 where
   pub taken : (i : ℕ) → i < placesOf t → takes ev t i ≡ true → Taken ev t u i
   -- an identifier that is issued has its record
   pub stands : (issuedBy (commandOf ev) (ev .answer .outcome) ≡ 0 → ⊥) → (i : ℕ) × Stands (issuedBy (commandOf ev) (ev .answer .outcome)) u i
-  -- a success that issues nothing "answers the identifier" of a record that stands
-  pub about : isFailed (ev .answer .outcome) ≡ false → issuedBy (commandOf ev) (ev .answer .outcome) ≡ 0 → About ev t
+  -- a success that issues nothing and asks for no name "answers the identifier" of the record that it names
+  pub about : isFailed (ev .answer .outcome) ≡ false → issuedBy (commandOf ev) (ev .answer .outcome) ≡ 0 → asksName (commandOf ev) ≡ false → About ev t
+  -- one that asks for a name answers that of a record that stands, or none
+  pub located : asksName (commandOf ev) ≡ true → (carries (ev .answer .outcome) ≡ 0 → ⊥) → (i : ℕ) × Stands (carries (ev .answer .outcome)) t i
   -- only Get hands out a key
   pub hands : (handedBy (ev .answer .outcome) ≡ 0 → ⊥) → asksKey (commandOf ev) ≡ true
   -- "once an identifier is in a destroyed state, no later Get for it succeeds": what is handed out is not destroyed

@@ -6,3 +6,4 @@ pub mod Demand2
 pub mod Log
 pub mod Demand3
 pub mod Hope
+pub mod Names

@@ -13,10 +13,10 @@ use Rattle.rules.specs.Numbers.{rekey, destroy}
 use Rattle.batch_item.specs.Item.{Asked}
 use Rattle.frame.specs.Frame.{Frame, frameIn}
 use Rattle.payload.specs.declared.Command.{Command}
-use Rattle.payload.specs.declared.Command.the-variants.{Unsupported, Invalid, Create, Rekey, GetUsageAllocation, Activate, Revoke, Destroy, GetAttributes, Get}
+use Rattle.payload.specs.declared.Command.the-variants.{Unsupported, Invalid, Create, Rekey, GetUsageAllocation, Activate, Revoke, Destroy, GetAttributes, Get, Locate}
 use Rattle.payload.specs.Payload.{command}
 use Rattle.plans.specs.declared.Outcome.{Outcome}
-use Rattle.plans.specs.declared.Outcome.the-variants.{Failed, Created, Done, Showed, Got}
+use Rattle.plans.specs.declared.Outcome.the-variants.{Failed, Created, Done, Showed, Got, Located}
 use Rattle.act.specs.Act.{sought}
 use Rattle.answer.specs.Respond.{Answer, Response}
 use Rattle.answer.specs.Read.{answersIn}
@@ -35,13 +35,14 @@ commandOf e = command (e .asked .operation) (e .asked .payload)
 
 -- ---- events from bytes
 
--- "Create and Re-key set the placeholder, a failed item empties it, others keep it"
+-- "Create and Re-key set the placeholder, a failed item empties it, others keep it"; 02, L6: Locate "sets the placeholder when it finds one, and empties it when not"
 unfoldable pub heldAfter : ℕ → Answer → Outcome → ℕ
 heldAfter held a (Failed reason) = 0
 heldAfter held a (Created serial) = serial
 heldAfter held a (Done serial) = ifb (eqb (a .operation) rekey) serial held
 heldAfter held a (Showed shown) = held
 heldAfter held a (Got key) = held
+heldAfter held a (Located serial) = serial
 
 -- item i with answer i, in order
 unfoldable pub paired : ℕ → List Asked → List Answer → List Event
@@ -86,11 +87,13 @@ issuedBy (Create wanted) (Failed reason) = 0
 issuedBy (Create wanted) (Done serial) = 0
 issuedBy (Create wanted) (Showed shown) = 0
 issuedBy (Create wanted) (Got key) = 0
+issuedBy (Create wanted) (Located serial) = 0
 issuedBy (Rekey target offset) (Done serial) = serial
 issuedBy (Rekey target offset) (Failed reason) = 0
 issuedBy (Rekey target offset) (Created serial) = 0
 issuedBy (Rekey target offset) (Showed shown) = 0
 issuedBy (Rekey target offset) (Got key) = 0
+issuedBy (Rekey target offset) (Located serial) = 0
 issuedBy Unsupported outcome = 0
 issuedBy Invalid outcome = 0
 issuedBy (GetUsageAllocation target amount) outcome = 0
@@ -99,6 +102,7 @@ issuedBy (Revoke target code) outcome = 0
 issuedBy (Destroy target) outcome = 0
 issuedBy (GetAttributes target) outcome = 0
 issuedBy (Get target) outcome = 0
+issuedBy (Locate name) outcome = 0
 
 -- whether an event issued identifier x
 abbrev pub issues : ℕ → Event → Bool
@@ -116,6 +120,7 @@ grantBy x (GetUsageAllocation target amount) (Failed reason) = 0
 grantBy x (GetUsageAllocation target amount) (Created serial) = 0
 grantBy x (GetUsageAllocation target amount) (Showed shown) = 0
 grantBy x (GetUsageAllocation target amount) (Got key) = 0
+grantBy x (GetUsageAllocation target amount) (Located serial) = 0
 grantBy x Unsupported outcome = 0
 grantBy x Invalid outcome = 0
 grantBy x (Create wanted) outcome = 0
@@ -125,6 +130,7 @@ grantBy x (Revoke target code) outcome = 0
 grantBy x (Destroy target) outcome = 0
 grantBy x (GetAttributes target) outcome = 0
 grantBy x (Get target) outcome = 0
+grantBy x (Locate name) outcome = 0
 
 -- the units granted to x
 unfoldable pub granted : ℕ → List Event → ℕ
@@ -143,6 +149,7 @@ limitBy e (Revoke target code) before = 0
 limitBy e (Destroy target) before = 0
 limitBy e (GetAttributes target) before = 0
 limitBy e (Get target) before = 0
+limitBy e (Locate name) before = 0
 
 -- the total that x began with
 unfoldable pub limit : ℕ → List Event → ℕ
@@ -156,6 +163,7 @@ handedBy (Created serial) = 0
 handedBy (Done serial) = 0
 handedBy (Showed shown) = 0
 handedBy (Got key) = key .serial
+handedBy (Located serial) = 0
 
 -- the serial that a successful answer to Destroy carries; 0 for every other answer
 unfoldable pub destroyedBy : ℕ → Outcome → ℕ
@@ -164,6 +172,7 @@ destroyedBy operation (Created serial) = 0
 destroyedBy operation (Done serial) = ifb (eqb operation destroy) serial 0
 destroyedBy operation (Showed shown) = 0
 destroyedBy operation (Got key) = 0
+destroyedBy operation (Located serial) = 0
 
 -- whether x was destroyed
 unfoldable pub wasDestroyed : ℕ → List Event → Bool

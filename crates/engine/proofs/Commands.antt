@@ -12,15 +12,21 @@ use Rattle.octets.proofs.Bools.{and-r, or-cases}
 use Rattle.ttlv.specs.Items.{Items}
 use Rattle.values.specs.Values.{bitsOk, maskOk, unitOk, totalOk}
 use Rattle.rules.specs.declared.Attributes.{Attributes}
-use Rattle.rules.specs.Numbers.{create, rekey, get, getAttributes, getUsageAllocation, activate, revoke, destroy}
+use Rattle.rules.specs.Numbers.{create, locate, rekey, get, getAttributes, getUsageAllocation, activate, revoke, destroy}
 use Rattle.keeps.proofs.Begun.{Allowed}
 use Rattle.rules.specs.declared.Offset.{Offset}
 use Rattle.target_read.specs.declared.Target.{Target}
 use Rattle.payload.specs.declared.Command.{Command}
-use Rattle.payload.specs.declared.Command.the-variants.{Unsupported, Invalid, Create, Rekey, GetUsageAllocation, Activate, Revoke, Destroy, GetAttributes, Get}
+use Rattle.payload.specs.declared.Command.the-variants.{Unsupported, Invalid, Create, Rekey, GetUsageAllocation, Activate, Revoke, Destroy, GetAttributes, Get, Locate}
 use Rattle.fields.specs.Fields.{optional}
-use Rattle.tags.specs.Tags.{activationDate, deactivationDate, usageLimits}
-use Rattle.attributes_read.specs.Attributes.{Limit, limitIn, limitFirst, dateFirst, orUnset, datesIn, wantedOf, limitedIn, maskedIn, attributesIn}
+use Rattle.utf8.specs.Text.{text}
+use Rattle.names.specs.declared.Name.{Name}
+use Rattle.names.specs.Names.{nameText, shapeRight}
+use Rattle.names.proofs.Stored.{NameRange, none-range}
+use Rattle.names.proofs.Texts.{of-range, of-shape, of-text, ok-bytes, none-shape, none-text}
+use Rattle.name_read.specs.Name.{nameBody, nameFirst, orNoName, lastNameIn}
+use Rattle.tags.specs.Tags.{activationDate, deactivationDate, nameTag, usageLimits}
+use Rattle.attributes_read.specs.Attributes.{Limit, limitIn, limitFirst, dateFirst, orUnset, datedIn, wantedOf, limitedIn, maskedIn, attributesIn}
 use Rattle.payload.specs.Payload.{createIn, orInvalid, command}
 use Rattle.payload.specs.Reasons.{operationOf, reasonOf}
 use Rattle.payload.proofs.Commands.{of-create}
@@ -40,6 +46,7 @@ pub data Commanded (operation : ℕ) : Command → Type 0 where
   to-destroy : {target : Target} → operation ≡ destroy → Commanded operation (Destroy target)
   to-show : {target : Target} → operation ≡ getAttributes → Commanded operation (GetAttributes target)
   to-get : {target : Target} → operation ≡ get → Commanded operation (Get target)
+  to-locate : {name : Name} → operation ≡ locate → Commanded operation (Locate name)
 
 -- ---- Create
 
@@ -55,13 +62,39 @@ record Dates (a d : ℕ) : Type 0 where
   deactivation : d < 2 ^ 63
   order : (d ≡ 0) ⊎ (a ≤ d)
 
-wanted-ok : (bits mask activation deactivation : ℕ) → bitsOk bits ≡ true → maskOk mask ≡ true → Dates activation deactivation → (o : Option Limit)
-    → ((limit : Limit) → o ≡ some limit → (unitOk (limit .unit) ≡ true) × (totalOk (limit .total) ≡ true)) → Allowed (wantedOf bits mask o activation deactivation)
+-- a name that Create allows: none, or one as a sound table has it
+record Called (m : Name) : Type 0 where
+  range : NameRange m
+  shape : shapeRight m ≡ true
+  is : text (nameText m) ≡ true
+
+wanted-ok : (bits mask activation deactivation : ℕ) (name : Name) → bitsOk bits ≡ true → maskOk mask ≡ true → Dates activation deactivation → Called name → (o : Option Limit)
+    → ((limit : Limit) → o ≡ some limit → (unitOk (limit .unit) ≡ true) × (totalOk (limit .total) ≡ true)) → Allowed (wantedOf bits mask o activation deactivation name)
 unfolding wantedOf
-wanted-ok bits mask activation deactivation b m d none h =
-    record { bits = b; mask = m; limit = inl (refl, refl); activation = d .activation; deactivation = d .deactivation; order = d .order }
-wanted-ok bits mask activation deactivation b m d (some limit) h =
-    record { bits = b; mask = m; limit = inr (h limit refl); activation = d .activation; deactivation = d .deactivation; order = d .order }
+wanted-ok bits mask activation deactivation name b m d c none h =
+    record { bits = b; mask = m; limit = inl (refl, refl); activation = d .activation; deactivation = d .deactivation; order = d .order; name = c .range; shape = c .shape; text = c .is }
+wanted-ok bits mask activation deactivation name b m d c (some limit) h =
+    record { bits = b; mask = m; limit = inr (h limit refl); activation = d .activation; deactivation = d .deactivation; order = d .order; name = c .range; shape = c .shape; text = c .is }
+
+-- a name that is given is text of 1 to 32 bytes, and one that is not is none
+body-ok : (t : Items) (m : Name) → nameBody t ≡ some m → Called m
+unfolding nameBody
+body-ok t m h =
+    on-bind h λ v e1 h1. on-test h1 λ ok h2. on-bind h2 λ kind e2 h3. on-test h3 λ one h4. on-test h4 λ end h5.
+    subst Called (some-is h5) (record { range = of-range (v .0) (ok-bytes (v .0) ok); shape = of-shape (v .0) ok; is = of-text (v .0) ok })
+
+name-first-ok : (t : Items) {a : Name × Items} → nameFirst t ≡ some a → Called (a .0)
+unfolding nameFirst
+name-first-ok t h = on-bind h λ b e1 h1. on-bind h1 λ m e2 h2. subst (λ (p : Name × Items). Called (p .0)) (some-is h2) (body-ok (b .0) m e2)
+
+name-ok : (t : Items) {m : Name} → lastNameIn t ≡ some m → Called m
+unfolding lastNameIn orNoName
+name-ok t h =
+    on-bind h λ a e1 h1. on-test h1 λ end h2.
+    subst Called (some-is h2)
+    (on-optional nameTag nameFirst t (λ (p : Option Name × Items). Called (orNoName (p .0))) e1
+    (record { range = none-range; shape = none-shape; is = none-text })
+    (λ m rest e. name-first-ok t e))
 
 -- a date that is given is above 0, and one that is not is 0
 date-ok : (tag : ℕ) (t : Items) {a : Option ℕ × Items} → optional tag (dateFirst tag) t ≡ some a → orUnset (a .0) < 2 ^ 63
@@ -71,15 +104,18 @@ date-ok tag t h =
     (λ date rest e. on-bind e λ a e1 h1. on-test h1 λ above h2.
     subst (λ (p : ℕ × Items). p .0 < 2 ^ 63) (some-is h2) (ltb-true (a .0) (2 ^ 63) (and-r (leb 1 (a .0)) (ltb (a .0) (2 ^ 63)) above)))
 
-dates-ok : (t : Items) {dates : ℕ × ℕ} → datesIn t ≡ some dates → Dates (dates .0) (dates .1)
-unfolding datesIn
-dates-ok t h =
-    on-bind h λ a e1 h1. on-bind h1 λ d e2 h2. on-test h2 λ order h3. on-test h3 λ end h4.
-    subst (λ (p : ℕ × ℕ). Dates (p .0) (p .1)) (some-is h4) (record {
-      activation = date-ok activationDate t e1;
-      deactivation = date-ok deactivationDate (a .1) e2;
-      order = ⊎-elim (λ z. inl (eqb-true (orUnset (d .0)) 0 z)) (λ z. inr (leb-true (orUnset (a .0)) (orUnset (d .0)) z)) (or-cases _ _ order);
-    })
+dated-ok : (t : Items) {a : ℕ × ℕ × Name} → datedIn t ≡ some a → Dates (a .0) (a .1) × Called (a .2)
+unfolding datedIn
+dated-ok t h =
+    on-bind h λ a e1 h1. on-bind h1 λ d e2 h2. on-test h2 λ order h3. on-bind h3 λ m e4 h4.
+    subst (λ (p : ℕ × ℕ × Name). Dates (p .0) (p .1) × Called (p .2)) (some-is h4) (
+      record {
+        activation = date-ok activationDate t e1;
+        deactivation = date-ok deactivationDate (a .1) e2;
+        order = ⊎-elim (λ z. inl (eqb-true (orUnset (d .0)) 0 z)) (λ z. inr (leb-true (orUnset (a .0)) (orUnset (d .0)) z)) (or-cases _ _ order);
+      },
+      name-ok (d .1) e4,
+    )
 
 first-ok : (t : Items) (a : Limit × Items) → limitFirst t ≡ some a → (unitOk (a .0 .unit) ≡ true) × (totalOk (a .0 .total) ≡ true)
 unfolding limitFirst
@@ -91,11 +127,11 @@ masked-ok : (bits : ℕ) (t : Items) (wanted : Attributes) → bitsOk bits ≡ t
 unfolding maskedIn limitedIn
 masked-ok bits t wanted good h =
     on-bind h λ m e1 h1. on-test h1 λ mask h2. on-bind h2 λ l e2 h3. on-bind h3 λ dates e3 h4.
-    let right = dates-ok (l .1) e3 in
+    let right = dated-ok (l .1) e3 in
     subst Allowed (some-is h4)
-    (on-optional usageLimits limitFirst (m .1) (λ (p : Option Limit × Items). Allowed (wantedOf bits (m .0) (p .0) (dates .0) (dates .1))) e2
-    (wanted-ok bits (m .0) (dates .0) (dates .1) good mask right none (λ limit z. absurd (not-some z)))
-    (λ x rest e. wanted-ok bits (m .0) (dates .0) (dates .1) good mask right (some x)
+    (on-optional usageLimits limitFirst (m .1) (λ (p : Option Limit × Items). Allowed (wantedOf bits (m .0) (p .0) (dates .0) (dates .1) (dates .2))) e2
+    (wanted-ok bits (m .0) (dates .0) (dates .1) (dates .2) good mask (right .0) (right .1) none (λ limit z. absurd (not-some z)))
+    (λ x rest e. wanted-ok bits (m .0) (dates .0) (dates .1) (dates .2) good mask (right .0) (right .1) (some x)
     (λ limit z. subst (λ (y : Limit). (unitOk (y .unit) ≡ true) × (totalOk (y .total) ≡ true)) (some-is z) (first-ok (m .1) (x, rest) e))))
 
 attributes-ok : (t : Items) (wanted : Attributes) → attributesIn t ≡ some wanted → Allowed wanted
@@ -137,6 +173,7 @@ module _ (operation : ℕ) (t : Items) where
   by-command (Destroy target) e = to-destroy (is e refl refl)
   by-command (GetAttributes target) e = to-show (is e refl refl)
   by-command (Get target) e = to-get (is e refl refl)
+  by-command (Locate name) e = to-locate (is e refl refl)
 
   pub commanded : Commanded operation (command operation t)
   commanded = by-command (command operation t) refl

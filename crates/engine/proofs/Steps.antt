@@ -4,7 +4,7 @@ use Prim.Native.Nat.{ℕ, _/_, _^_, _≤_, _<_}
 use native.Mathlib.Omega.{arith}
 use mathlib.Core.Path.{_≡_, refl, sym, ap, _∙_}
 use mathlib.Core.Logic.{_⊎_, inl, inr, ⊎-elim}
-use mathlib.Core.Bool.{true, false, _&&_}
+use mathlib.Core.Bool.{Bool, true, false, _&&_}
 use mathlib.Core.List.{List}
 use lib.ListN.{length, drop}
 use lib.Dec.{leb, ltb, eqb}
@@ -12,9 +12,19 @@ use borrow.Author.Tests.{le-leb, lt-ltb, eq-eqb, ne-eqb}
 use Rattle.octets.specs.If.{ifb}
 use Rattle.octets.specs.Octets.{Bytes, allZero}
 use Rattle.table.specs.declared.Record.{Record}
-use Rattle.search.specs.declared.Found.the-variants.{At}
+use Rattle.search.specs.declared.Found.{Found}
+use Rattle.search.specs.declared.Found.the-variants.{At, Nothing}
+use Rattle.utf8.specs.Text.{text}
+use Rattle.names.specs.declared.Name.{Name}
+use Rattle.names.specs.Names.{noName, nameText, nameOf, shapeRight}
+use Rattle.names.proofs.Stored.{NameRange}
+use Rattle.names.proofs.Same.{same-of}
+use Rattle.names.proofs.Texts.{name-again, text-ok, unnamed-none}
+use Rattle.name_search.specs.Names.{findName}
+use Rattle.name_search.proofs.Finds.{found-name-below}
+use Rattle.octets.proofs.If.{on-if}
 use Rattle.table.specs.Layout.{materialSize}
-use Rattle.table.specs.Records.{placeAt, lastSerial, latestClock}
+use Rattle.table.specs.Records.{placeAt, serialAt, lastSerial, latestClock}
 use Rattle.search.specs.Search.{find}
 use Rattle.table.proofs.Lines.{InRange}
 use Rattle.table.proofs.Places.{serial-is}
@@ -22,12 +32,12 @@ use Rattle.search.proofs.Finds.{find-below}
 use Rattle.values.specs.Values.{bitsOk, maskOk, unitOk, totalOk, notNegative, inOrder}
 use Rattle.octets.proofs.Bools.{and-i, or-l, or-r}
 use Rattle.record_rules.proofs.Fit.{Unlimited, Limited, Fit, Dated}
-use Rattle.rules.specs.Numbers.{create, get, getAttributes}
+use Rattle.rules.specs.Numbers.{create, locate, get, getAttributes}
 use Rattle.changes.specs.Records.{inState, withDates, movedTo, withCount}
 use Rattle.changes.specs.Changes.{serialMost, nextSerial}
 use Rattle.rules.specs.declared.Attributes.{Attributes}
 use Rattle.keeps.proofs.Begun.{Allowed}
-use Rattle.keeps.proofs.Keeps.{Held, found-stands, range, fit, dated, next-fits, keeps-moved, keeps-count, keeps-born, keeps-heir}
+use Rattle.keeps.proofs.Keeps.{Held, facts, last-fits, found-stands, range, fit, dated, next-fits, keeps-moved, keeps-count, keeps-born, keeps-heir}
 use Rattle.keeps.proofs.Leaves.{moved-leaves, count-leaves, born-leaves, heir-leaves}
 use Rattle.words.specs.Words.{wordsOf, wordBytes, wordsOk}
 use Rattle.words.proofs.Laws.{words-back, words-fit}
@@ -35,13 +45,13 @@ use Rattle.batch_item.specs.Item.{Asked, idMost}
 use Rattle.rules.specs.declared.Offset.{Offset}
 use Rattle.target_read.specs.declared.Target.{Target}
 use Rattle.payload.specs.declared.Command.{Command}
-use Rattle.payload.specs.declared.Command.the-variants.{Create, Rekey, GetUsageAllocation, GetAttributes, Get}
-use Rattle.plans.specs.Plans.{Env, Did, createPlan, rekeyPlan, shownOf, keyOf}
+use Rattle.payload.specs.declared.Command.the-variants.{Create, Rekey, GetUsageAllocation, GetAttributes, Get, Locate}
+use Rattle.plans.specs.Plans.{Env, Did, createPlan, rekeyPlan, locatePlan, serialFound, shownOf, keyOf}
 use Rattle.act.specs.Act.{sought, step}
-use Rattle.act.proofs.Went.{Moving, activating, revoking, destroying, Kind, fails, creates, rekeys, grants, moves, shows, gets, step-kind}
-use Rattle.answer.specs.Read.{answersDone, serialOk, linkOk, shownOk, keyOk, outcomeOk, answerOk}
+use Rattle.act.proofs.Went.{Moving, activating, revoking, destroying, Kind, fails, creates, rekeys, grants, moves, shows, gets, locates, step-kind}
+use Rattle.answer.specs.Read.{answersDone, serialOk, linkOk, nameShownOk, shownOk, keyOk, outcomeOk, answerOk}
 use Rattle.engine.specs.Batch.{answerTo}
-use Rattle.engine.proofs.Commands.{Commanded, to-create, to-rekey, to-allocate, to-activate, to-revoke, to-destroy, to-show, to-get, commanded}
+use Rattle.engine.proofs.Commands.{Commanded, to-create, to-rekey, to-allocate, to-activate, to-revoke, to-destroy, to-show, to-get, to-locate, commanded}
 
 -- ---- what a command's operation answers
 
@@ -65,6 +75,9 @@ show-operation (to-show o) = o
 get-operation : {operation : ℕ} {target : Target} → Commanded operation (Get target) → operation ≡ get
 get-operation (to-get o) = o
 
+locate-operation : {operation : ℕ} {name : Name} → Commanded operation (Locate name) → operation ≡ locate
+locate-operation (to-locate o) = o
+
 -- ---- serials and records that may be answered
 
 serial-ok : (s : ℕ) → (s ≡ 0 → ⊥) → s < 256 ^ 4 → serialOk s ≡ true
@@ -86,10 +99,19 @@ limit-ok r (inr l) =
     no-unit : unitOk 0 ≡ true → ⊥
     no-unit e = let y : _≡_ {A = ℕ} 0 1 = cc in omega arith
 
+-- a name as a sound table has it is none, or one that its own text makes
+name-ok : (m : Name) → NameRange m → shapeRight m ≡ true → text (nameText m) ≡ true → nameShownOk m ≡ true
+unfolding nameShownOk
+name-ok m g shape is =
+    on-if (λ (b : Bool). b ≡ true)
+    (λ e. and-i _ _ (text-ok m g shape e is) (same-of (nameOf (nameText m)) m (name-again m g shape)))
+    (λ e. same-of noName m (sym (unnamed-none m g shape e)))
+
 shown-ok : (last latest : ℕ) (r : Record) → (r .serial ≡ 0 → ⊥) → InRange r → Fit last r → Dated latest r → shownOk (shownOf r) ≡ true
 unfolding shownOk shownOf
 shown-ok last latest r z g f d =
-    and-i _ (linkOk (r .replacement))
+    and-i _ (nameShownOk (r .name))
+    (and-i _ (linkOk (r .replacement))
     (and-i _ (linkOk (r .replaced))
     (and-i _ _
     (and-i _ (inOrder (r .activation) (r .deactivation))
@@ -105,7 +127,8 @@ shown-ok last latest r z g f d =
     (⊎-elim (λ e. or-l _ _ (eq-eqb (r .deactivation) 0 e)) (λ e. or-r (eqb (r .deactivation) 0) _ (le-leb (r .activation) (r .deactivation) e)) (d .order)))
     (limit-ok r (f .limit)))
     (link-ok (r .replaced) (g .replaced)))
-    (link-ok (r .replacement) (g .replacement))
+    (link-ok (r .replacement) (g .replacement)))
+    (name-ok (r .name) (g .name) (f .shape) (f .text))
 
 key-ok : (last : ℕ) (r : Record) → (r .serial ≡ 0 → ⊥) → InRange r → Fit last r → keyOk (keyOf r) ≡ true
 unfolding keyOk keyOf
@@ -130,9 +153,9 @@ module _ (env : Env) (holder : ℕ) (t : List ℕ) (held : Held (env .places) t)
       (range (env .places) t held i (find-below (env .places) t s i e) (found-stands (env .places) t s i e) .serial)
 
   kind-held : {operation : ℕ} (c : Command) (did : Did) → Kind env holder t c did → Commanded operation c → Held (env .places) (did .table)
-  unfolding createPlan rekeyPlan
+  unfolding createPlan rekeyPlan locatePlan
   kind-held c did (fails reason) m = held
-  kind-held c did (creates wanted room) m = keeps-born (env .places) t held room (env .fresh) fresh-bytes long wanted (create-allowed m .1)
+  kind-held c did (creates wanted free room) m = keeps-born (env .places) t held room (env .fresh) fresh-bytes long wanted (create-allowed m .1) free
   kind-held c did (rekeys target offset i e alive none right room) m =
       keeps-heir (env .places) t held room (env .fresh) fresh-bytes long offset i (find-below (env .places) t (sought holder target) i e) (found-stands (env .places) t (sought holder target) i e) alive none right
   kind-held c did (grants target amount i e g) m =
@@ -141,12 +164,13 @@ module _ (env : Env) (holder : ℕ) (t : List ℕ) (held : Held (env .places) t)
       keeps-moved (env .places) t held i (find-below (env .places) t (sought holder target) i e) (found-stands (env .places) t (sought holder target) i e) operation code next g late
   kind-held c did (shows target i e) m = held
   kind-held c did (gets target i e alive) m = held
+  kind-held c did (locates name) m = held
 
   -- no item moves the clock
   kind-latest : {operation : ℕ} (c : Command) (did : Did) → Kind env holder t c did → Commanded operation c → latestClock (did .table) ≡ latestClock t
-  unfolding createPlan rekeyPlan
+  unfolding createPlan rekeyPlan locatePlan
   kind-latest c did (fails reason) m = refl
-  kind-latest c did (creates wanted room) m = born-leaves (env .places) t held room (env .fresh) fresh-bytes wanted (create-allowed m .1) .stored .latest
+  kind-latest c did (creates wanted free room) m = born-leaves (env .places) t held room (env .fresh) fresh-bytes wanted (create-allowed m .1) .stored .latest
   kind-latest c did (rekeys target offset i e alive none right room) m =
       heir-leaves (env .places) t held room (env .fresh) fresh-bytes offset i (find-below (env .places) t (sought holder target) i e) (found-stands (env .places) t (sought holder target) i e) alive right .latest
   kind-latest c did (grants target amount i e g) m =
@@ -155,11 +179,20 @@ module _ (env : Env) (holder : ℕ) (t : List ℕ) (held : Held (env .places) t)
       moved-leaves (env .places) t held i (find-below (env .places) t (sought holder target) i e) (found-stands (env .places) t (sought holder target) i e) operation code next g .latest
   kind-latest c did (shows target i e) m = refl
   kind-latest c did (gets target i e alive) m = refl
+  kind-latest c did (locates name) m = refl
+
+  -- what a search for a name found is a place of the table; 0 is answered for nothing
+  found-ok : (name : Name) (f : Found) → findName (env .places) t name ≡ f → linkOk (serialFound t f) ≡ true
+  unfolding serialFound
+  found-ok name (At i) e =
+      let last = last-fits (env .places) t held in
+      link-ok (serialAt t i) (omega (arith, facts (env .places) t held .issued i (found-name-below (env .places) t name i e)))
+  found-ok name Nothing e = refl
 
   kind-ok : {operation : ℕ} (c : Command) (did : Did) → Kind env holder t c did → Commanded operation c → outcomeOk operation (did .outcome) ≡ true
-  unfolding outcomeOk createPlan rekeyPlan withCount movedTo withDates inState
+  unfolding outcomeOk createPlan rekeyPlan locatePlan withCount movedTo withDates inState
   kind-ok c did (fails reason) m = refl
-  kind-ok {operation} c did (creates wanted room) m =
+  kind-ok {operation} c did (creates wanted free room) m =
       and-i (eqb operation create) (serialOk (nextSerial t)) (eq-eqb operation create (create-allowed m .0)) (serial-ok (nextSerial t) (λ z. omega arith) (next-fits (env .places) t held room))
   kind-ok {operation} c did (rekeys target offset i e alive none right room) m =
       and-i (answersDone operation) (serialOk (nextSerial t)) (rekey-done m) (serial-ok (nextSerial t) (λ z. omega arith) (next-fits (env .places) t held room))
@@ -178,6 +211,8 @@ module _ (env : Env) (holder : ℕ) (t : List ℕ) (held : Held (env .places) t)
       (key-ok (lastSerial t) (placeAt (env .places) t i) (found-serial (sought holder target) i e)
       (range (env .places) t held i (find-below (env .places) t (sought holder target) i e) (found-stands (env .places) t (sought holder target) i e))
       (fit (env .places) t held i (find-below (env .places) t (sought holder target) i e) (found-stands (env .places) t (sought holder target) i e)))
+  kind-ok {operation} c did (locates name) m =
+      and-i (eqb operation locate) (linkOk (serialFound t (findName (env .places) t name))) (eq-eqb operation locate (locate-operation m)) (found-ok name (findName (env .places) t name) refl)
 
   module _ (asked : Asked) where
     -- an item leaves a sound table of bytes

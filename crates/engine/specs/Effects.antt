@@ -8,7 +8,7 @@ use Rattle.answer.specs.Front.{responseMost}
 
 -- ---- sizes
 
--- "output room below 5,336 bytes": the longest response has to fit
+-- "output room below 6,360 bytes": the longest response has to fit
 abbrev pub roomLeast : ℕ
 roomLeast = responseMost
 

@@ -12,7 +12,7 @@ ghost use Rattle.engine.specs.Serving.{earlyRefusal};
 ghost use Rattle.engine.specs.Calls.{askedIn, RunsOne, ItemIs, Runs, RanIs, ranOver, RunsWhole, acceptedOver, AcceptedIs, ServedIs};
 
 // The sizes that a caller keeps to; the table's are those of `table::Layout`.
-pub const ROOM_LEAST: usize = 5336;
+pub const ROOM_LEAST: usize = 6360;
 
 pub const STRIP_SIZE: usize = 512;
 

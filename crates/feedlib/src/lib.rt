@@ -11,7 +11,7 @@ ghost use Rattle.feedlib.specs.Head.{headOf};
 const HEAD: usize = 24;
 
 // The most that the buffers of request, table and output hold.
-const MOST: usize = 8192;
+const MOST: usize = 9216;
 
 // The most that the buffer of the strip holds.
 const STRIP_MOST: usize = 1024;
@@ -52,7 +52,7 @@ fn read_head(s: &[u8]) -> Head
 fn too_large() -> bool {
     io::write_all(
         2,
-        b"feed: a length is above what is held: 8192 for request, table and output, 1024 for the strip\n",
+        b"feed: a length is above what is held: 9216 for request, table and output, 1024 for the strip\n",
     );
     false
 }

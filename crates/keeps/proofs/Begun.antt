@@ -10,6 +10,9 @@ use lib.ListN.{length}
 use lib.Dec.{leb, eqb}
 use borrow.Author.Tests.{eqb-true, leb-true, le-leb}
 use Rattle.octets.specs.Octets.{Bytes}
+use Rattle.utf8.specs.Text.{text}
+use Rattle.names.specs.Names.{nameText, shapeRight}
+use Rattle.names.proofs.Stored.{NameRange}
 use Rattle.table.specs.declared.Record.{Record}
 use Rattle.table.specs.Layout.{materialSize}
 use Rattle.table.proofs.Lines.{InRange}
@@ -25,7 +28,7 @@ use Rattle.changes.specs.Records.{materialFrom, newRecord, heirActivation, heir
 use Rattle.changes.proofs.Heirs.{heir-activation, heir-deactivation, heir-order, first-range, first-started}
 use Rattle.changes.proofs.Material.{length-material, bytes-material, material-tail}
 
--- "Length, mask, total and unit (1 or 2) as a sound table allows", or no limit; dates not negative and in order
+-- "Length, mask, total and unit (1 or 2) as a sound table allows", or no limit; dates not negative and in order; no name, or one as a sound table has it
 pub record Allowed (wanted : Attributes) : Type 0 where
   pub bits : bitsOk (wanted .bits) ≡ true
   pub mask : maskOk (wanted .mask) ≡ true
@@ -33,6 +36,9 @@ pub record Allowed (wanted : Attributes) : Type 0 where
   pub activation : wanted .activation < 2 ^ 63
   pub deactivation : wanted .deactivation < 2 ^ 63
   pub order : (wanted .deactivation ≡ 0) ⊎ (wanted .activation ≤ wanted .deactivation)
+  pub name : NameRange (wanted .name)
+  pub shape : shapeRight (wanted .name) ≡ true
+  pub text : text (nameText (wanted .name)) ≡ true
 
 -- ---- the values
 
@@ -79,6 +85,7 @@ begun serial state wanted replaced fresh = record {
   material = materialFrom (wanted .bits) fresh;
   activation = wanted .activation;
   deactivation = wanted .deactivation;
+  name = wanted .name;
 }
 
 pub new-begun : (serial : ℕ) (wanted : Attributes) (fresh : List ℕ) → newRecord serial wanted fresh ≡ begun serial preActive wanted 0 fresh
@@ -97,6 +104,7 @@ module _ (clock : ℕ) (offset : Offset) (old : Record) where
     total = old .total;
     activation = heirActivation clock offset old;
     deactivation = heirDeactivation clock offset old;
+    name = old .name;
   }
 
   -- and its state is what these make of a Pre-Active key
@@ -126,8 +134,8 @@ not-destroyed : (state : ℕ) → state ≤ 3 → isDestroyed state ≡ true →
 not-destroyed state h e = ⊎-elim (λ p. omega (arith, eqb-true state 5 p)) (λ p. omega (arith, eqb-true state 6 p)) (or-cases (eqb state 5) (eqb state 6) e)
 
 -- what a sound table allows, a replacement may have, where its Offset is not wrong
-pub allowed-of : (last clock : ℕ) (offset : Offset) (r : Record) → offsetWrong clock offset r ≡ false → Fit last r → Dated clock r → Allowed (heirWanted clock offset r)
-allowed-of last clock offset r right f d = record {
+pub allowed-of : (last clock : ℕ) (offset : Offset) (r : Record) → offsetWrong clock offset r ≡ false → NameRange (r .name) → Fit last r → Dated clock r → Allowed (heirWanted clock offset r)
+allowed-of last clock offset r right g f d = record {
   bits = f .bits;
   mask = le-leb (r .mask) 0x00FFFFFF (f .mask);
   limit = ⊎-elim (λ l. inl (l .unit, l .total))
@@ -135,6 +143,9 @@ allowed-of last clock offset r right f d = record {
   activation = heir-activation clock r offset right (d .activation);
   deactivation = heir-deactivation clock r offset right (d .deactivation);
   order = heir-order clock r offset (d .order);
+  name = g;
+  shape = f .shape;
+  text = f .text;
 }
 
 module _ (latest serial state : ℕ) (wanted : Attributes) (replaced : ℕ) (fresh : List ℕ) (a : Allowed wanted) (f : First latest state (wanted .activation)) where
@@ -153,6 +164,7 @@ module _ (latest serial state : ℕ) (wanted : Attributes) (replaced : ℕ) (fre
     bytes = bytes-material (wanted .bits) fresh b;
     activation = omega (arith, a .activation);
     deactivation = omega (arith, a .deactivation);
+    name = a .name;
   }
 
   begun-limit : Unlimited (begun serial state wanted replaced fresh) ⊎ Limited (begun serial state wanted replaced fresh)
@@ -174,6 +186,8 @@ module _ (latest serial state : ℕ) (wanted : Attributes) (replaced : ℕ) (fre
     wiped = λ e. absurd (not-destroyed state (f .high) e);
     replaced = link;
     replacement = inl refl;
+    shape = a .shape;
+    text = a .text;
   }
 
   pub begun-dated : Dated latest (begun serial state wanted replaced fresh)

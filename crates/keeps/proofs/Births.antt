@@ -4,16 +4,20 @@ use mathlib.Core.Path.{_≡_, refl, sym, ap, subst, _∙_}
 use mathlib.Core.Logic.{inr, ⊎-elim}
 use Prim.Native.Nat.{ℕ, _^_, _≤_, _<_}
 use native.Mathlib.Omega.{arith}
+use mathlib.Core.Bool.{false≢true}
 use mathlib.Core.List.{List}
+use Rattle.names.specs.Names.{isNamed}
+use Rattle.names.proofs.Stored.{none-range}
+use Rattle.names.proofs.Texts.{none-shape, none-text}
 use Rattle.table.specs.declared.Record.{Record}
-use Rattle.table.specs.Records.{placeAt, withPlace, serialAt, lastSerial, withLast, latestClock}
+use Rattle.table.specs.Records.{placeAt, withPlace, serialAt, nameAt, lastSerial, withLast, latestClock}
 use Rattle.table.proofs.Lines.{InRange}
-use Rattle.table.proofs.Places.{serial-is, length-with, with-swap}
+use Rattle.table.proofs.Places.{serial-is, name-is, length-with, with-swap}
 use Rattle.table.proofs.Lead.{last-swap}
 use Rattle.record_rules.proofs.Fit.{Fit, Dated}
 use Rattle.soundness.proofs.SoundIs.{Stands, Sound}
 use Rattle.changes.specs.Records.{linkedTo}
-use Rattle.keeps.proofs.Stores.{Stored, stored, stored-last, Mutual, LinkedBut, LinkedAll, Bare, bare, linked, joined, other-serial, each-standing, bare-stored, linked-stored}
+use Rattle.keeps.proofs.Stores.{Stored, stored, stored-last, Mutual, LinkedBut, LinkedAll, Bare, bare, linked, joined, other-serial, each-standing, bare-stored, linked-stored, Nameless, NamedWhere, NamedApart, named-stored, named-all}
 use Rattle.keeps.proofs.Edits.{mutual-as, limit-as}
 
 -- a table with a record born at place k
@@ -54,9 +58,9 @@ module _ (n : ℕ) (t : List ℕ) (k : ℕ) (r : Record) (s : Sound n t) (lo : k
       bare-stored n t k r (r .serial) (born n t k r) born-stored (λ z. omega arith) (bare n t s)
       (λ j l ne q. omega (arith, s .issued j l)) (omega arith) (omega arith) fit dated
 
-  -- a record that names no other
-  pub born-sound : r .replaced ≡ 0 → r .replacement ≡ 0 → Sound n (born n t k r)
-  born-sound p q =
+  -- a record that names no other, and whose name no other has
+  pub born-sound : r .replaced ≡ 0 → r .replacement ≡ 0 → Nameless r k n t → Sound n (born n t k r)
+  born-sound p q alone =
       joined n (born n t k r) born-bare
       (linked-stored n t k r (r .serial) (born n t k r) born-stored
       (λ a b h g na nb sa sb. linked n t s a b h g sa sb)
@@ -71,6 +75,7 @@ module _ (n : ℕ) (t : List ℕ) (k : ℕ) (r : Record) (s : Sound n t) (lo : k
         },
       ))
       (record { back = λ e. absurd (omega arith); forth = λ e. absurd (omega arith) }))
+      (named-all n (born n t k r) (named-stored n t k r (r .serial) (born n t k r) born-stored (λ j. Unit {0}) (λ a b h g pa pb. s .named a b h g) (λ j l pj. alone j l)))
 
 -- ---- a replacement, linked both ways
 
@@ -90,6 +95,7 @@ linked-range s r h g = record {
   bytes = g .bytes;
   activation = g .activation;
   deactivation = g .deactivation;
+  name = none-range;
 }
 
 pub linked-fit : (last s : ℕ) (r : Record) → r .serial < s → Fit last r → Fit s (linkedTo s r)
@@ -104,6 +110,8 @@ linked-fit last s r new f = record {
   wiped = f .wiped;
   replaced = f .replaced;
   replacement = inr (new, omega arith);
+  shape = none-shape;
+  text = none-text;
 }
 
 pub linked-dated : (latest s : ℕ) (r : Record) → Dated latest r → Dated latest (linkedTo s r)
@@ -113,7 +121,7 @@ linked-dated latest s r d = record { activation = d .activation; deactivation = 
 module _ (n : ℕ) (t : List ℕ) (i k : ℕ) (heir : Record) (s : Sound n t) (lo : i < n) (stands : Stands t i) (lok : k < n) (apart : k ≡ i → ⊥)
     (range : InRange (placeAt n t i)) (none : placeAt n t i .replacement ≡ 0)
     (heir-range : InRange heir) (new : lastSerial t < heir .serial) (heir-fit : Fit (heir .serial) heir) (heir-dated : Dated (latestClock t) heir)
-    (names : heir .replaced ≡ placeAt n t i .serial) (last-of : heir .replacement ≡ 0) where
+    (names : heir .replaced ≡ placeAt n t i .serial) (last-of : heir .replacement ≡ 0) (moves : heir .name ≡ placeAt n t i .name) where
   abbrev old : Record
   old = placeAt n t i
 
@@ -214,9 +222,24 @@ module _ (n : ℕ) (t : List ℕ) (i k : ℕ) (heir : Record) (s : Sound n t) (l
       (λ no. link-heir) (λ j l no st ne. link-other j l ne st) j l st ne)
       link-self
 
+  -- the heir has the old record's name, which no other has; and then the old one has none
+  half-named : NamedWhere (λ j. j ≡ i → ⊥) n half
+  half-named =
+      named-stored n t k heir (heir .serial) half half-stored (λ j. j ≡ i → ⊥) (λ a b h g pa pb. s .named a b h g)
+      (λ j l away ne there e.
+      let here : nameAt n t i ≡ heir .name = name-is n t i ∙ sym moves in
+      away (sym (s .named i j lo l (ap isNamed here ∙ there) (here ∙ sym e))))
+
+  whole-named : NamedApart n (withPlace n half i link)
+  unfolding linkedTo
+  whole-named =
+      named-all n (withPlace n half i link)
+      (named-stored n half i link (heir .serial) (withPlace n half i link) whole-stored (λ j. Unit {0}) (λ a b h g pa pb. half-named a b h g (pa .1) (pb .1))
+      (λ j l pj ne there. absurd (false≢true there)))
+
   pub heir-sound : Sound n (withLast (withPlace n (withPlace n t i link) k heir) (heir .serial))
   heir-sound =
       subst (Sound n)
       (sym (ap (λ (u : List ℕ). withLast u (heir .serial)) (with-swap n t i k link heir (linked-range (heir .serial) old (heir-range .serial) range .long) (heir-range .long) lo lok (λ e. apart (sym e)))
       ∙ last-swap n (withPlace n t k heir) i link (heir .serial)))
-      (joined n (withPlace n half i link) whole-bare whole-linked)
+      (joined n (withPlace n half i link) whole-bare whole-linked whole-named)

@@ -13,11 +13,12 @@ use borrow.Author.Tests.{eqb-true, eqb-false, not-true}
 use Rattle.octets.specs.Octets.{allZero}
 use Rattle.octets.proofs.If.{on-if}
 use Rattle.octets.proofs.Bools.{and-l}
+use Rattle.names.specs.Names.{isNamed}
 use Rattle.table.specs.declared.Record.{Record}
 use Rattle.table.specs.Records.{placeAt, withPlace, serialAt, isFree, lastSerial, latestClock, withClock}
 use Rattle.table.proofs.Blank.{zero-place}
 use Rattle.table.proofs.Places.{place-range}
-use Rattle.table.proofs.Lead.{length-clock, bytes-clock, latest-clock, last-clock, said-clock, line-clock, serial-clock, body-clock, zeros-clock, place-clock}
+use Rattle.table.proofs.Lead.{length-clock, bytes-clock, latest-clock, last-clock, said-clock, line-clock, serial-clock, body-clock, zeros-clock, place-clock, name-clock}
 use Rattle.search.specs.Search.{isDestroyed}
 use Rattle.record_rules.proofs.Fit.{Fit, Dated, dated-later}
 use Rattle.soundness.proofs.SoundIs.{Stands, Sound, sound-of}
@@ -55,6 +56,7 @@ module _ (n : ℕ) (t : List ℕ) (held : Held n t) (clock : ℕ) (later : lates
         (was .replaced i j h g (λ z. s (serial-clock t clock i ∙ z)) (λ z. u (serial-clock t clock j ∙ z)) (rw (place-clock t clock i n, serial-clock t clock j) at e));
     replacement = λ i j h g s u e. rw (place-clock t clock j n, serial-clock t clock i)
         (was .replacement i j h g (λ z. s (serial-clock t clock i ∙ z)) (λ z. u (serial-clock t clock j ∙ z)) (rw (place-clock t clock i n, serial-clock t clock j) at e));
+    named = λ i j h g s e. was .named i j h g (ap isNamed (sym (name-clock t clock i n)) ∙ s) (sym (name-clock t clock i n) ∙ e ∙ name-clock t clock j n);
   }
 
   pub keeps-clock : Held n (withClock t clock)

@@ -21,6 +21,8 @@ use Rattle.table.proofs.Lines.{InRange, bytes-part}
 use Rattle.table.proofs.Places.{serial-is, state-is, place-range, bytes-with}
 use Rattle.table.proofs.Lead.{bytes-last}
 use Rattle.search.proofs.First.{on-found, isNothing-none}
+use Rattle.name_search.specs.Names.{isTaken}
+use Rattle.name_search.proofs.Finds.{none-named, untaken}
 use Rattle.search.proofs.Finds.{find-nonzero, find-serial, new-below, new-at}
 use Rattle.table.proofs.Blank.{bytes-blank}
 use Rattle.soundness.specs.Sound.{sound}
@@ -107,7 +109,7 @@ module _ (n : ℕ) (t : List ℕ) (held : Held n t) where
 
   -- ---- a record that is new
 
-  last-fits : lastSerial t < 256 ^ 4
+  pub last-fits : lastSerial t < 256 ^ 4
   unfolding lastSerial
   last-fits =
       let l : length (part t lastIn 4) ≡ 4 = length-part t lastIn 4 (omega (arith, facts .size)) in
@@ -125,9 +127,9 @@ module _ (n : ℕ) (t : List ℕ) (held : Held n t) where
 
     module _ (fresh : List ℕ) (fresh-bytes : Bytes fresh) (long : materialSize ≤ length fresh) where
       -- Create
-      pub keeps-born : (wanted : Attributes) → Allowed wanted → Held n (withBorn n t (newRecord (nextSerial t) wanted fresh))
+      pub keeps-born : (wanted : Attributes) → Allowed wanted → isTaken n t (wanted .name) ≡ false → Held n (withBorn n t (newRecord (nextSerial t) wanted fresh))
       unfolding withBorn bornAt
-      keeps-born wanted a =
+      keeps-born wanted a free =
           let latest : ℕ = latestClock t in
           let serial : ℕ = nextSerial t in
           let first = first-new latest (wanted .activation) in
@@ -135,7 +137,7 @@ module _ (n : ℕ) (t : List ℕ) (held : Held n t) where
           let g : InRange r = begun-range latest serial preActive wanted 0 fresh a first next-fits (omega arith) fresh-bytes in
           with-place (λ k e. rw (new-begun serial wanted fresh, e) (record {
             right = sound-of n _ (born-sound n t k r facts (new-below n t k e) g (omega arith) (begun-fit latest serial preActive wanted 0 fresh a first long (inl refl))
-                (begun-dated latest serial preActive wanted 0 fresh a first) refl refl);
+                (begun-dated latest serial preActive wanted 0 fresh a first) refl refl (λ j l ne there. none-named n t (wanted .name) there (untaken n t (wanted .name) free) j l));
             bytes = bytes-last _ _ (bytes-with n t k r (held .bytes) (g .bytes));
           }))
 
@@ -150,13 +152,13 @@ module _ (n : ℕ) (t : List ℕ) (held : Held n t) where
             let serial : ℕ = nextSerial t in
             let wanted : Attributes = heirWanted latest offset old in
             let state : ℕ = heirState latest offset old in
-            let a : Allowed wanted = allowed-of (lastSerial t) latest offset old right (fit i lo stands) (dated i lo stands) in
+            let a : Allowed wanted = allowed-of (lastSerial t) latest offset old right (range i lo stands .name) (fit i lo stands) (dated i lo stands) in
             let first = first-heir latest offset old in
             let below : old .serial < serial = omega (arith, facts .issued i lo, serial-is n t i) in
             let heir : Record = begun serial state wanted (old .serial) fresh in
             let g : InRange heir = begun-range latest serial state wanted (old .serial) fresh a first next-fits (range i lo stands .serial) fresh-bytes in
             with-place (λ k e. rw (heir-begun latest offset old serial fresh, e) (record {
               right = sound-of n _ (heir-sound n t i k heir facts lo stands (new-below n t k e) (not-here i lo stands alive k e) (range i lo stands) none g (omega arith)
-                  (begun-fit latest serial state wanted (old .serial) fresh a first long (inr below)) (begun-dated latest serial state wanted (old .serial) fresh a first) refl refl);
+                  (begun-fit latest serial state wanted (old .serial) fresh a first long (inr below)) (begun-dated latest serial state wanted (old .serial) fresh a first) refl refl refl);
               bytes = bytes-last _ _ (bytes-with n _ k heir (bytes-with n t i _ (held .bytes) (linked-range serial old next-fits (range i lo stands) .bytes)) (g .bytes));
             }))

@@ -109,7 +109,7 @@ module _ (n : ℕ) (t : List ℕ) (held : Held n t) where
           let was : InRange old = range n t held i lo stands in
           let serial : nextSerial t < 256 ^ 4 = next-fits n t held room in
           let wanted : Attributes = heirWanted latest offset old in
-          let a : Allowed wanted = allowed-of (lastSerial t) latest offset old right (fit n t held i lo stands) (dated n t held i lo stands) in
+          let a : Allowed wanted = allowed-of (lastSerial t) latest offset old right (range n t held i lo stands .name) (fit n t held i lo stands) (dated n t held i lo stands) in
           let heir : Record = begun (nextSerial t) (heirState latest offset old) wanted (old .serial) fresh in
           let g : InRange heir = begun-range latest (nextSerial t) (heirState latest offset old) wanted (old .serial) fresh a (first-heir latest offset old) serial (was .serial) fresh-bytes in
           let link : Record = linkedTo (nextSerial t) old in

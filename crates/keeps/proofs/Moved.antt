@@ -47,6 +47,7 @@ module _ (next : ℕ) (m : List ℕ) (r : Record) where
     bytes = b;
     activation = g .activation;
     deactivation = g .deactivation;
+    name = g .name;
   }
 
   pub in-state-fit : (last : ℕ) → 1 ≤ next → next ≤ 6 → allZero (drop (r .bits / 8) m) ≡ true → (isDestroyed next ≡ true → allZero m ≡ true) → Fit last r → Fit last (inState next m r)
@@ -61,11 +62,13 @@ module _ (next : ℕ) (m : List ℕ) (r : Record) where
     wiped = wiped;
     replaced = f .replaced;
     replacement = f .replacement;
+    shape = f .shape;
+    text = f .text;
   }
 
   pub in-state-stays : Stays (inState next m r) r
   unfolding inState
-  in-state-stays = record { serial = refl; replaced = refl; replacement = refl }
+  in-state-stays = record { serial = refl; replaced = refl; replacement = refl; name = refl }
 
 module _ (activation deactivation : ℕ) (r : Record) where
   with-dates-range : activation < 256 ^ 8 → deactivation < 256 ^ 8 → InRange r → InRange (withDates activation deactivation r)
@@ -84,6 +87,7 @@ module _ (activation deactivation : ℕ) (r : Record) where
     bytes = g .bytes;
     activation = a;
     deactivation = d;
+    name = g .name;
   }
 
   with-dates-fit : (last : ℕ) → Fit last r → Fit last (withDates activation deactivation r)
@@ -98,6 +102,8 @@ module _ (activation deactivation : ℕ) (r : Record) where
     wiped = f .wiped;
     replaced = f .replaced;
     replacement = f .replacement;
+    shape = f .shape;
+    text = f .text;
   }
 
 module _ (operation code clock next : ℕ) (r : Record) (is : Move operation code (r .state) next) where
@@ -123,7 +129,7 @@ module _ (operation code clock next : ℕ) (r : Record) (is : Move operation cod
 
 pub moved-stays : (operation code clock next : ℕ) (r : Record) → Stays (movedTo operation code clock next r) r
 unfolding movedTo withDates inState
-moved-stays operation code clock next r = record { serial = refl; replaced = refl; replacement = refl }
+moved-stays operation code clock next r = record { serial = refl; replaced = refl; replacement = refl; name = refl }
 
 -- ---- the dates of a record that moves
 
@@ -237,6 +243,7 @@ module _ (count : ℕ) (r : Record) (less : count ≤ r .count) where
     bytes = g .bytes;
     activation = g .activation;
     deactivation = g .deactivation;
+    name = g .name;
   }
 
   pub count-fit : (last : ℕ) → Fit last r → Fit last (withCount count r)
@@ -251,6 +258,8 @@ module _ (count : ℕ) (r : Record) (less : count ≤ r .count) where
     wiped = f .wiped;
     replaced = f .replaced;
     replacement = f .replacement;
+    shape = f .shape;
+    text = f .text;
   }
 
 pub count-dated : (latest count : ℕ) (r : Record) → Dated latest r → Dated latest (withCount count r)
@@ -259,4 +268,4 @@ count-dated latest count r d = record { activation = d .activation; deactivation
 
 pub count-stays : (count : ℕ) (r : Record) → Stays (withCount count r) r
 unfolding withCount
-count-stays count r = record { serial = refl; replaced = refl; replacement = refl }
+count-stays count r = record { serial = refl; replaced = refl; replacement = refl; name = refl }

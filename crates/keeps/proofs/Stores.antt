@@ -9,11 +9,12 @@ use mathlib.Core.Bool.{true}
 use mathlib.Core.List.{List}
 use lib.ListN.{length}
 use Rattle.octets.specs.Octets.{be, part, allZero}
+use Rattle.names.specs.Names.{isNamed}
 use Rattle.table.specs.declared.Record.{Record}
 use Rattle.table.specs.Layout.{lineSize, bodySize, lineStart, bodyStart, Table, zerosIn}
-use Rattle.table.specs.Records.{recordOf, placeAt, withPlace, serialAt, lastSerial, withLast, placesSaid, latestClock}
+use Rattle.table.specs.Records.{recordOf, placeAt, withPlace, serialAt, nameAt, lastSerial, withLast, placesSaid, latestClock}
 use Rattle.table.proofs.Lines.{InRange}
-use Rattle.table.proofs.Places.{serial-is, length-with, place-same, line-other, body-other, zeros-other, zeros-with}
+use Rattle.table.proofs.Places.{serial-is, name-is, length-with, place-same, line-other, body-other, zeros-other, zeros-with}
 use Rattle.table.proofs.Lead.{last-with, said-with, latest-with, length-last, last-last, said-last, latest-last, line-last, body-last, zeros-last, place-last}
 use Rattle.table.proofs.Blank.{zeros-test}
 use Rattle.record_rules.proofs.Fit.{Fit, Dated}
@@ -79,7 +80,24 @@ LinkedAll n t = (i j : ℕ) → i < n → j < n → Stands t i → Stands t j �
 abbrev pub LinkedTo : Record → ℕ → ℕ → List ℕ → Type 0
 LinkedTo r k n t = (j : ℕ) → j < n → (j ≡ k → ⊥) → Stands t j → Mutual r (placeAt n t j) × Mutual (placeAt n t j) r
 
--- ---- a sound table but for the links
+-- ---- names
+
+-- "names differ": among the places of which P holds
+abbrev pub NamedWhere : (ℕ → Type 0) → ℕ → List ℕ → Type 0
+NamedWhere P n t = (i j : ℕ) → i < n → j < n → P i → P j → isNamed (nameAt n t i) ≡ true → nameAt n t i ≡ nameAt n t j → i ≡ j
+
+-- among all
+abbrev pub NamedApart : ℕ → List ℕ → Type 0
+NamedApart n t = (i j : ℕ) → i < n → j < n → isNamed (nameAt n t i) ≡ true → nameAt n t i ≡ nameAt n t j → i ≡ j
+
+pub named-all : (n : ℕ) (t : List ℕ) → NamedWhere (λ j. Unit {0}) n t → NamedApart n t
+named-all n t h i j a b = h i j a b tt tt
+
+-- no place but k has the name of r, if it has one
+abbrev pub Nameless : Record → ℕ → ℕ → List ℕ → Type 0
+Nameless r k n t = (j : ℕ) → j < n → (j ≡ k → ⊥) → isNamed (r .name) ≡ true → nameAt n t j ≡ r .name → ⊥
+
+-- ---- a sound table but for the links and the names
 
 pub record Bare (n : ℕ) (t : List ℕ) : Type 0 where
   pub size : Table n t
@@ -112,8 +130,8 @@ module _ (n : ℕ) (t : List ℕ) where
     forth = λ e. s .replacement j i g h b a (e ∙ sym (serial-is n t i)) ∙ serial-is n t j;
   }
 
-  pub joined : Bare n t → LinkedAll n t → Sound n t
-  joined b l = record {
+  pub joined : Bare n t → LinkedAll n t → NamedApart n t → Sound n t
+  joined b l m = record {
     size = b .size;
     count = b .count;
     latest = b .latest;
@@ -125,6 +143,7 @@ module _ (n : ℕ) (t : List ℕ) where
     dated = b .dated;
     replaced = λ i j h g a c e. l i j h g a c .back (e ∙ serial-is n t j) ∙ sym (serial-is n t i);
     replacement = λ i j h g a c e. l j i g h c a .forth (e ∙ serial-is n t j) ∙ sym (serial-is n t i);
+    named = m;
   }
 
 -- ---- what a store keeps
@@ -141,6 +160,8 @@ fit-later last next r h f = record {
   wiped = f .wiped;
   replaced = f .replaced;
   replacement = ⊎-elim (λ e. inl e) (λ p. inr (p .0, omega arith)) (f .replacement);
+  shape = f .shape;
+  text = f .text;
 }
 
 -- another place is as it was, and the place itself holds r
@@ -154,6 +175,30 @@ module _ (n : ℕ) (t : List ℕ) (k : ℕ) (r : Record) (last : ℕ) (u : List 
 
   pub here-serial : serialAt u k ≡ r .serial
   here-serial = serial-is n u k ∙ ap (λ (q : Record). q .serial) (e .here)
+
+  other-name : (j : ℕ) → j < n → (j ≡ k → ⊥) → nameAt n u j ≡ nameAt n t j
+  other-name j l ne = name-is n u j ∙ ap (λ (q : Record). q .name) (other j l ne) ∙ sym (name-is n t j)
+
+  here-name : nameAt n u k ≡ r .name
+  here-name = name-is n u k ∙ ap (λ (q : Record). q .name) (e .here)
+
+  -- names that differ away from place k, and from that of r, differ
+  pub named-stored : (P : ℕ → Type 0) → NamedWhere (λ j. P j × (j ≡ k → ⊥)) n t
+      → ((j : ℕ) → j < n → P j → (j ≡ k → ⊥) → isNamed (r .name) ≡ true → nameAt n t j ≡ r .name → ⊥) → NamedWhere P n u
+  named-stored P among alone i j h g pi pj there q = elim (ℕ-discrete i k) [
+    | yes a ↦ elim (ℕ-discrete j k) [
+      | yes c ↦ a ∙ sym c
+      | no c ↦ (
+          let mine : nameAt n u i ≡ r .name = ap (nameAt n u) a ∙ here-name in
+          absurd (alone j g pj c (ap isNamed (sym mine) ∙ there) (sym (other-name j g c) ∙ sym q ∙ mine)))
+    ]
+    | no a ↦ elim (ℕ-discrete j k) [
+      | yes c ↦ (
+          let its : nameAt n u j ≡ r .name = ap (nameAt n u) c ∙ here-name in
+          absurd (alone i h pi a (ap isNamed (sym (q ∙ its)) ∙ there) (sym (other-name i h a) ∙ q ∙ its)))
+      | no c ↦ among i j h g (pi, a) (pj, c) (ap isNamed (sym (other-name i h a)) ∙ there) (sym (other-name i h a) ∙ q ∙ other-name j g c)
+    ]
+  ]
 
   -- what holds at place k, and at each other place, holds at every place
   by-place : (P : ℕ → Type 0) → P k → ((j : ℕ) → j < n → (j ≡ k → ⊥) → P j) → (j : ℕ) → j < n → P j

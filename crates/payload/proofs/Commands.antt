@@ -6,7 +6,7 @@ use borrow.Author.Tests.{ne-eqb}
 use Rattle.octets.specs.If.{ifb}
 use Rattle.octets.proofs.If.{ifb-false}
 use Rattle.ttlv.specs.Items.{Items}
-use Rattle.payload.specs.Payload.{createIn, rekeyIn, aloneIn, allocationIn, revokeIn, orInvalid, command}
+use Rattle.payload.specs.Payload.{createIn, rekeyIn, aloneIn, allocationIn, revokeIn, locateIn, orInvalid, command}
 use Rattle.payload.specs.Readers.{aloneOf}
 use Rattle.payload.specs.declared.Command.{Command}
 use Rattle.payload.specs.declared.Command.the-variants.{Unsupported}
@@ -47,9 +47,14 @@ module _ (operation : ℕ) (t : Items) where
   unfolding command aloneOf ifb
   of-get e = ap (λ (n : ℕ). command n t) e ∙ sym (ap byAlone e)
 
-  pub of-none : (operation ≡ 0x01 → ⊥) → (operation ≡ 0x04 → ⊥) → (operation ≡ 0x11 → ⊥) → (operation ≡ 0x12 → ⊥) → (operation ≡ 0x13 → ⊥) → (operation ≡ 0x14 → ⊥) → (operation ≡ 0x0B → ⊥) → (operation ≡ 0x0A → ⊥) → command operation t ≡ Unsupported
+  pub of-locate : operation ≡ 0x08 → command operation t ≡ orInvalid (locateIn t)
+  unfolding command ifb
+  of-locate e = ap (λ (n : ℕ). command n t) e
+
+  pub of-none : (operation ≡ 0x01 → ⊥) → (operation ≡ 0x04 → ⊥) → (operation ≡ 0x11 → ⊥) → (operation ≡ 0x12 → ⊥) → (operation ≡ 0x13 → ⊥) → (operation ≡ 0x14 → ⊥) → (operation ≡ 0x0B → ⊥) → (operation ≡ 0x0A → ⊥) → (operation ≡ 0x08 → ⊥)
+      → command operation t ≡ Unsupported
   unfolding command
-  of-none a b c d e f g h =
+  of-none a b c d e f g h i =
       ifb-false _ _ _ (ne-eqb operation 0x01 a)
       ∙ (ifb-false _ _ _ (ne-eqb operation 0x04 b)
       ∙ (ifb-false _ _ _ (ne-eqb operation 0x11 c)
@@ -57,4 +62,5 @@ module _ (operation : ℕ) (t : Items) where
       ∙ (ifb-false _ _ _ (ne-eqb operation 0x13 e)
       ∙ (ifb-false _ _ _ (ne-eqb operation 0x14 f)
       ∙ (ifb-false _ _ _ (ne-eqb operation 0x0B g)
-      ∙ ifb-false _ _ _ (ne-eqb operation 0x0A h)))))))
+      ∙ (ifb-false _ _ _ (ne-eqb operation 0x0A h)
+      ∙ ifb-false _ _ _ (ne-eqb operation 0x08 i))))))))

@@ -3,6 +3,7 @@
 pub mod Targets
 pub mod Offsets
 pub mod Create
+pub mod Locate
 pub mod Commands
 pub mod Reasons
 pub mod Unique

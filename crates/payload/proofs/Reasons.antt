@@ -10,8 +10,8 @@ use borrow.Author.Tests.{eqb-true}
 use Rattle.octets.proofs.If.{on-if}
 use Rattle.octets.proofs.Maybe.{some-is, on-bind, on-test}
 use Rattle.ttlv.specs.Items.{Items}
-use Rattle.rules.specs.Numbers.{create, rekey, get, getAttributes, getUsageAllocation, activate, revoke, destroy}
-use Rattle.payload.specs.Payload.{createIn, rekeyIn, aloneIn, allocationIn, revokeIn, orInvalid, command}
+use Rattle.rules.specs.Numbers.{create, rekey, locate, get, getAttributes, getUsageAllocation, activate, revoke, destroy}
+use Rattle.payload.specs.Payload.{createIn, rekeyIn, aloneIn, allocationIn, revokeIn, locateIn, orInvalid, command}
 use Rattle.payload.specs.Reasons.{operationOf, reasonOf}
 use Rattle.target_read.specs.declared.Target.{Target}
 use Rattle.payload.specs.declared.Command.{Command}
@@ -46,6 +46,10 @@ revoke-of t c h =
     on-bind h λ a e1 h1. on-bind h1 λ b e2 h2. on-test h2 λ end h3. on-bind h3 λ code e3 h4. on-test h4 λ good h5. on-test h5 λ end2 h6.
     ap operationOf (sym (some-is h6))
 
+locate-of : (t : Items) → Of locate (locateIn t)
+unfolding Of locateIn operationOf
+locate-of t c h = on-bind h λ a e1 h1. on-test h1 λ end h2. on-bind h2 λ name e2 h3. ap operationOf (sym (some-is h3))
+
 -- a command is of the operation that asked for it, unless it fails by itself
 Asked : ℕ → Command → Type 0
 Asked operation c = reasonOf c ≡ none → operationOf c ≡ some operation
@@ -66,4 +70,5 @@ command-operation operation t =
     (λ _. on-if (Asked operation) (λ e. asked operation destroy _ e (alone-of Destroy (λ target. refl) t))
     (λ _. on-if (Asked operation) (λ e. asked operation getAttributes _ e (alone-of GetAttributes (λ target. refl) t))
     (λ _. on-if (Asked operation) (λ e. asked operation get _ e (alone-of Get (λ target. refl) t))
-    (λ _ h. let z : _≡_ {A = ℕ} 0 1 = cc in absurd (omega arith)))))))))
+    (λ _. on-if (Asked operation) (λ e. asked operation locate _ e (locate-of t))
+    (λ _ h. let z : _≡_ {A = ℕ} 0 1 = cc in absurd (omega arith))))))))))

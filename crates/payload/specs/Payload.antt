@@ -1,4 +1,4 @@
--- 01, "Operations", and 02, L4: each payload's shape and allowed values. "A payload holds what its line names, in that order, and nothing else."
+-- 01, "Operations", and 02, L4 and L6: each payload's shape and allowed values. "A payload holds what its line names, in that order, and nothing else."
 -- Assumes nothing. "One of wrong shape or with a value not allowed here fails with Invalid Field."
 use Prim.Native.Nat.{ℕ}
 use mathlib.Core.Option.{Option, none, some}
@@ -10,15 +10,16 @@ use Rattle.ttlv.specs.Items.{Items, ended}
 use Rattle.fields.specs.Fields.{bodyOf, numberOf, optional}
 use Rattle.tags.specs.Tags.{attributes, objectType, offset, revocationReason, revocationReasonCode, usageLimitsCount}
 use Rattle.attributes_read.specs.Attributes.{attributesIn}
+use Rattle.name_read.specs.Name.{onlyNameIn}
 use Rattle.values.specs.Values.{aboveZero}
-use Rattle.rules.specs.Numbers.{create, rekey, get, getAttributes, getUsageAllocation, activate, revoke, destroy}
+use Rattle.rules.specs.Numbers.{create, rekey, locate, get, getAttributes, getUsageAllocation, activate, revoke, destroy}
 use Rattle.rules.specs.States.{codeOk}
 use Rattle.rules.specs.declared.Offset.{Offset}
 use Rattle.rules.specs.declared.Offset.the-variants.{NoOffset, Seconds}
 use Rattle.target_read.specs.declared.Target.{Target}
 use Rattle.target_read.specs.Target.{targetIn}
 use Rattle.payload.specs.declared.Command.{Command}
-use Rattle.payload.specs.declared.Command.the-variants.{Unsupported, Invalid, Create, Rekey, GetUsageAllocation, Activate, Revoke, Destroy, GetAttributes, Get}
+use Rattle.payload.specs.declared.Command.the-variants.{Unsupported, Invalid, Create, Rekey, GetUsageAllocation, Activate, Revoke, Destroy, GetAttributes, Get, Locate}
 
 -- ---- Create
 
@@ -77,6 +78,16 @@ revokeIn t = do
   ended u
   some (Revoke target code)
 
+-- ---- Locate
+
+-- "Attributes with the Name alone"
+unfoldable pub locateIn : Items → Option Command
+locateIn t = do
+  (body, r) ← bodyOf attributes t
+  ended r
+  name ← onlyNameIn body
+  some (Locate name)
+
 -- ---- all of them
 
 unfoldable pub orInvalid : Option Command → Command
@@ -94,4 +105,5 @@ command operation t =
     (ifb (eqb operation destroy) (orInvalid (aloneIn Destroy t))
     (ifb (eqb operation getAttributes) (orInvalid (aloneIn GetAttributes t))
     (ifb (eqb operation get) (orInvalid (aloneIn Get t))
-    Unsupported)))))))
+    (ifb (eqb operation locate) (orInvalid (locateIn t))
+    Unsupported))))))))

@@ -2,11 +2,11 @@
 -- Assumes nothing. The laws that tie these to the reader's promise stand in the proofs of the same name.
 use Prim.Native.Nat.{ℕ}
 use mathlib.Core.Option.{Option, none, some}
-use Rattle.rules.specs.Numbers.{create, rekey, get, getAttributes, getUsageAllocation, activate, revoke, destroy}
+use Rattle.rules.specs.Numbers.{create, rekey, locate, get, getAttributes, getUsageAllocation, activate, revoke, destroy}
 use Rattle.rules.specs.declared.Reason.{Reason}
 use Rattle.rules.specs.declared.Reason.the-variants.{OperationNotSupported, InvalidField}
 use Rattle.payload.specs.declared.Command.{Command}
-use Rattle.payload.specs.declared.Command.the-variants.{Unsupported, Invalid, Create, Rekey, GetUsageAllocation, Activate, Revoke, Destroy, GetAttributes, Get}
+use Rattle.payload.specs.declared.Command.the-variants.{Unsupported, Invalid, Create, Rekey, GetUsageAllocation, Activate, Revoke, Destroy, GetAttributes, Get, Locate}
 
 -- the number of the operation that a command carries out
 unfoldable pub operationOf : Command → Option ℕ
@@ -20,6 +20,7 @@ operationOf (Revoke target code) = some revoke
 operationOf (Destroy target) = some destroy
 operationOf (GetAttributes target) = some getAttributes
 operationOf (Get target) = some get
+operationOf (Locate name) = some locate
 
 -- the reason with which it fails before any record is looked at
 unfoldable pub reasonOf : Command → Option Reason
@@ -33,3 +34,4 @@ reasonOf (Revoke target code) = none
 reasonOf (Destroy target) = none
 reasonOf (GetAttributes target) = none
 reasonOf (Get target) = none
+reasonOf (Locate name) = none

@@ -4,6 +4,8 @@
 use attributes_read::AttributesRead;
 use fields::BodyField;
 use fields::NumberField;
+use name_read::NameRead;
+use names::Name;
 use rules::Attributes;
 use rules::Offset;
 use target_read::Target;
@@ -12,13 +14,15 @@ ghost use mathlib.Core.Path.{_≡_};
 ghost use mathlib.Core.Bool.{true};
 ghost use Rattle.ttlv.specs.Tree.{isRun, treeOf};
 ghost use Rattle.rules.specs.States.{codeOk};
-ghost use Rattle.payload.specs.Payload.{createIn, rekeyIn, aloneIn, allocationIn, revokeIn, orInvalid, command};
+ghost use Rattle.payload.specs.Payload.{createIn, rekeyIn, aloneIn, allocationIn, revokeIn, locateIn, orInvalid, command};
 ghost use Rattle.payload.specs.Readers.{aloneOf};
 
 // The operations.
 const CREATE: u32 = 0x01;
 
 const REKEY: u32 = 0x04;
+
+const LOCATE: u32 = 0x08;
 
 const GET: u32 = 0x0A;
 
@@ -43,6 +47,7 @@ pub enum Command {
     Destroy { target: Target },
     GetAttributes { target: Target },
     Get { target: Target },
+    Locate { name: Name },
 }
 
 // The payload of Create.
@@ -198,6 +203,20 @@ fn read_revoke(s: &[u8]) -> Command
     }
 }
 
+// The payload of Locate.
+fn read_locate(s: &[u8]) -> Command
+    requires { ⌜ isRun (now s) ≡ true ⌝ }
+    ensures { λ r. ⌜ r ≡ orInvalid (locateIn (treeOf (now (s .entry)))) ⌝ }
+{
+    let BodyField::Body { next: end } = last_field::only_body(s, tags::ATTRIBUTES) else {
+        return Command::Invalid;
+    };
+    let NameRead::Named { name } = name_read::read_only_name(&s[8..end]) else {
+        return Command::Invalid;
+    };
+    Command::Locate { name }
+}
+
 // What an item with this operation and this payload asks for. The frame's reader shows that a
 // payload is a run of items.
 pub fn read_command(operation: u32, s: &[u8]) -> Command
@@ -227,6 +246,9 @@ pub fn read_command(operation: u32, s: &[u8]) -> Command
     }
     if operation == GET {
         return read_alone(operation, s);
+    }
+    if operation == LOCATE {
+        return read_locate(s);
     }
     Command::Unsupported
 }

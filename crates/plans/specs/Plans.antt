@@ -8,10 +8,14 @@ use lib.Dec.{eqb}
 use Rattle.octets.specs.Octets.{part}
 use Rattle.table.specs.declared.Record.{Record}
 use Rattle.table.specs.Layout.{materialSize}
-use Rattle.table.specs.Records.{withPlace, latestClock}
+use Rattle.table.specs.Records.{withPlace, serialAt, latestClock}
+use Rattle.search.specs.declared.Found.{Found}
+use Rattle.search.specs.declared.Found.the-variants.{At, Nothing}
 use Rattle.search.specs.Search.{isDestroyed}
+use Rattle.names.specs.declared.Name.{Name}
+use Rattle.name_search.specs.Names.{findName, isTaken}
 use Rattle.rules.specs.declared.Reason.{Reason}
-use Rattle.rules.specs.declared.Reason.the-variants.{InvalidField, ObjectDestroyed, PermissionDenied, ServerLimitExceeded, WrongKeyLifecycleState}
+use Rattle.rules.specs.declared.Reason.the-variants.{InvalidField, ObjectDestroyed, PermissionDenied, ServerLimitExceeded, WrongKeyLifecycleState, NonUniqueName}
 use Rattle.rules.specs.declared.Attributes.{Attributes}
 use Rattle.rules.specs.declared.Offset.{Offset}
 use Rattle.rules.specs.Numbers.{activate, revoke, destroy}
@@ -24,7 +28,7 @@ use Rattle.words.specs.Words.{wordsOf}
 use Rattle.plans.specs.declared.Shown.{Shown}
 use Rattle.plans.specs.declared.Key.{Key}
 use Rattle.plans.specs.declared.Outcome.{Outcome}
-use Rattle.plans.specs.declared.Outcome.the-variants.{Failed, Created, Done, Showed, Got}
+use Rattle.plans.specs.declared.Outcome.the-variants.{Failed, Created, Done, Showed, Got, Located}
 use Rattle.plans.specs.declared.Performed.{Performed}
 
 -- ---- what an item meets
@@ -89,6 +93,7 @@ isFailed (Created serial) = false
 isFailed (Done serial) = false
 isFailed (Showed shown) = false
 isFailed (Got key) = false
+isFailed (Located serial) = false
 
 -- ---- the operations, each as its line of 01 says
 
@@ -106,17 +111,24 @@ shownOf r = record {
   count = r .count;
   replaced = r .replaced;
   replacement = r .replacement;
+  name = r .name;
 }
 
 -- what Get hands out
 unfoldable pub keyOf : Record → Key
 keyOf r = record { serial = r .serial; bits = r .bits; material = wordsOf (r .material) }
 
+-- the serial at the place that was found, 0 where none was
+unfoldable pub serialFound : List ℕ → Found → ℕ
+serialFound t (At i) = serialAt t i
+serialFound t Nothing = emptyHolder
+
 module _ (env : Env) (holder : ℕ) (t : List ℕ) where
-  -- "Server Limit Exceeded"; a new record from the attributes. "Answers Object Type, identifier"
+  -- 02, L6: a name that is taken "fails with the reason 000 gives for a name that isn't unique, tested after Invalid Field"; "Server Limit Exceeded"; a new record from the
+  -- attributes. "Answers Object Type, identifier"
   unfoldable pub createPlan : Attributes → Plan
   createPlan wanted = record {
-    tests = isFull (env .places) t ⇒ ServerLimitExceeded ∷ [];
+    tests = isTaken (env .places) t (wanted .name) ⇒ NonUniqueName ∷ isFull (env .places) t ⇒ ServerLimitExceeded ∷ [];
     did = record {
       outcome = Created (nextSerial t);
       table = withBorn (env .places) t (newRecord (nextSerial t) wanted (env .fresh));
@@ -178,3 +190,7 @@ module _ (env : Env) (holder : ℕ) (t : List ℕ) where
     tests = isDestroyed (r .state) ⇒ ObjectDestroyed ∷ [];
     did = record { outcome = Got (keyOf r); table = t; holder = holder };
   }
+
+  -- 02, L6: Locate "answers the one identifier or an empty payload, sets the placeholder when it finds one, and empties it when not"
+  unfoldable pub locatePlan : Name → Plan
+  locatePlan name = let serial = serialFound t (findName (env .places) t name) in record { tests = []; did = record { outcome = Located serial; table = t; holder = serial } }

@@ -1,6 +1,7 @@
 // What became of a batch item, and what a failure answers. It touches no table and no output.
 ghost use mathlib.Core.Path.{_≡_};
 ghost use Rattle.plans.specs.Plans.{failed, isFailed};
+use names::Name;
 use rules::Reason;
 use words::Words;
 
@@ -18,6 +19,7 @@ pub struct Shown {
     pub count: u64,
     pub replaced: u32,
     pub replacement: u32,
+    pub name: Name,
 }
 
 // What Get hands out of a record: its material, as four numbers, and its length.
@@ -38,6 +40,8 @@ pub enum Outcome {
     Showed { shown: Shown },
     // Get
     Got { key: Key },
+    // Locate: the record with the name that was asked for, 0 where there is none
+    Located { serial: u32 },
 }
 
 // What became of an item, and the placeholder after it, 0 where it is empty.
@@ -56,6 +60,7 @@ pub fn is_failed(outcome: Outcome) -> bool
         Outcome::Done { serial: _ } => false,
         Outcome::Showed { shown: _ } => false,
         Outcome::Got { key: _ } => false,
+        Outcome::Located { serial: _ } => false,
     }
 }
 

@@ -10,12 +10,14 @@ use lib.ListN.{drop}
 use lib.Dec.{leb, ltb, eqb}
 use borrow.Author.Tests.{eq-eqb, ne-eqb, le-leb, lt-ltb, eqb-true, eqb-false, leb-true, ltb-true, not-true}
 use Rattle.octets.specs.Octets.{allZero}
+use Rattle.utf8.specs.Text.{text}
+use Rattle.names.specs.Names.{nameText, shapeRight}
 use Rattle.octets.proofs.If.{ifb-true, ifb-false, on-bool}
 use Rattle.octets.proofs.Bools.{and-l, and-r, and-i, or-cases, or-l, or-r, facts, tests}
 use Rattle.values.specs.Values.{bitsOk, unitOk, totalOk}
 use Rattle.table.specs.declared.Record.{Record}
 use Rattle.search.specs.Search.{isDestroyed}
-use Rattle.record_rules.specs.Rules.{stateRight, bitsRight, maskRight, limitRight, tailRight, wipedRight, replacedRight, replacementRight, datesRight, orderRight, startedRight}
+use Rattle.record_rules.specs.Rules.{stateRight, bitsRight, maskRight, limitRight, tailRight, wipedRight, replacedRight, replacementRight, datesRight, orderRight, startedRight, nameRight, nameTextRight}
 
 -- ---- the facts
 
@@ -43,6 +45,8 @@ pub record Fit (last : ℕ) (r : Record) : Type 0 where
   pub wiped : isDestroyed (r .state) ≡ true → allZero (r .material) ≡ true
   pub replaced : (r .replaced ≡ 0) ⊎ (r .replaced < r .serial)
   pub replacement : (r .replacement ≡ 0) ⊎ ((r .serial < r .replacement) × (r .replacement ≤ last))
+  pub shape : shapeRight (r .name) ≡ true
+  pub text : text (nameText (r .name)) ≡ true
 
 -- ---- each rule as a fact, and the other way
 limit-is : (r : Record) → limitRight r ≡ true → Unlimited r ⊎ Limited r
@@ -77,7 +81,7 @@ unfolding replacementRight
 replacement-of last r (inl h) = or-l _ _ (eq-eqb (r .replacement) 0 h)
 replacement-of last r (inr h) = or-r (eqb (r .replacement) 0) (ltb (r .serial) (r .replacement) && leb (r .replacement) last) (search tests)
 
--- the eight rules of a record by itself
+-- the rules of a record by itself but for those of dates, each kept
 pub record Right (last : ℕ) (r : Record) : Type 0 where
   pub state : stateRight r ≡ true
   pub bits : bitsRight r ≡ true
@@ -87,9 +91,11 @@ pub record Right (last : ℕ) (r : Record) : Type 0 where
   pub wiped : wipedRight r ≡ true
   pub replaced : replacedRight r ≡ true
   pub replacement : replacementRight last r ≡ true
+  pub name : nameRight r ≡ true
+  pub text : nameTextRight r ≡ true
 
 pub fit-is : (last : ℕ) (r : Record) → Right last r → Fit last r
-unfolding stateRight bitsRight maskRight tailRight wipedRight
+unfolding stateRight bitsRight maskRight tailRight wipedRight nameRight nameTextRight
 fit-is last r h = record {
   low = leb-true 1 (r .state) (and-l (leb 1 (r .state)) (leb (r .state) 6) (h .state));
   high = leb-true (r .state) 6 (and-r (leb 1 (r .state)) (leb (r .state) 6) (h .state));
@@ -100,10 +106,12 @@ fit-is last r h = record {
   wiped = λ d. sym (ifb-true _ _ _ d) ∙ h .wiped;
   replaced = replaced-is r (h .replaced);
   replacement = replacement-is last r (h .replacement);
+  shape = h .name;
+  text = h .text;
 }
 
 pub fit-of : (last : ℕ) (r : Record) → Fit last r → Right last r
-unfolding stateRight bitsRight maskRight tailRight wipedRight
+unfolding stateRight bitsRight maskRight tailRight wipedRight nameRight nameTextRight
 fit-of last r h = record {
   state = and-i _ _ (le-leb 1 (r .state) (h .low)) (le-leb (r .state) 6 (h .high));
   bits = h .bits;
@@ -113,6 +121,8 @@ fit-of last r h = record {
   wiped = on-bool (isDestroyed (r .state)) (λ d. ifb-true _ _ _ d ∙ h .wiped d) (λ d. ifb-false _ _ _ d);
   replaced = replaced-of r (h .replaced);
   replacement = replacement-of last r (h .replacement);
+  name = h .shape;
+  text = h .text;
 }
 
 -- ---- dates

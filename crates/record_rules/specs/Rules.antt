@@ -1,4 +1,4 @@
--- 01, "Sound", and 02, L3: those of the nineteen rules that a record answers to by itself, 7 to 14, 16, 18 and 19. The list of all, with the others, stands in soundness (specs/Sound.antt).
+-- 01, "Sound", and 02, L3 and L6: those of the rules that a record answers to by itself, 7 to 14, 16, 18 to 21. The list of all, with the others, stands in soundness (specs/Sound.antt).
 -- Assumes nothing.
 use Prim.Native.Nat.{ℕ, _/_}
 use mathlib.Core.Bool.{Bool, true, not, _&&_, _||_}
@@ -6,6 +6,8 @@ use lib.ListN.{drop}
 use lib.Dec.{leb, ltb, eqb}
 use Rattle.octets.specs.If.{ifb}
 use Rattle.octets.specs.Octets.{allZero}
+use Rattle.utf8.specs.Text.{text}
+use Rattle.names.specs.Names.{nameText, shapeRight}
 use Rattle.values.specs.Values.{bitsOk, maskOk, unitOk, totalOk, notNegative, inOrder}
 use Rattle.table.specs.declared.Record.{Record}
 use Rattle.search.specs.Search.{isDestroyed}
@@ -55,3 +57,11 @@ orderRight r = inOrder (r .activation) (r .deactivation)
 -- rule 19: "a set activation date of an Active key at most the latest clock"; one that is not set is 0, at most any clock
 unfoldable pub startedRight : ℕ → Record → Bool
 startedRight latest r = not (eqb (r .state) 2) || leb (r .activation) latest
+
+-- rule 20: "a length byte (0 means no name), seven zeros and 32 name bytes, zero past the length"
+unfoldable pub nameRight : Record → Bool
+nameRight r = shapeRight (r .name)
+
+-- rule 21: "Sound names are RFC 3629 text"; no name is the text of no bytes
+unfoldable pub nameTextRight : Record → Bool
+nameTextRight r = text (nameText (r .name))

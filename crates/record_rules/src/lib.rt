@@ -4,7 +4,7 @@ ghost use mathlib.Core.Path.{_≡_};
 ghost use Prim.Native.Nat.{min};
 ghost use Rattle.table.specs.Layout.{materialSize};
 ghost use Rattle.record_rules.specs.Rules.{limitRight};
-ghost use Rattle.record_rules.specs.Checked.{valuesRight, zerosFrom, namesRight, timesRight};
+ghost use Rattle.record_rules.specs.Checked.{valuesRight, zerosFrom, serialsRight, timesRight};
 use table::Layout;
 use table::Record;
 
@@ -18,7 +18,7 @@ fn limit_right(p: Record) -> bool
     values::unit_ok(p.unit as u64) & values::total_ok(p.total) & (p.count <= p.total)
 }
 
-// Rules 7 to 10: state, length in bits, mask and limit.
+// Rules 7 to 10, 20 and 21: state, length in bits, mask, limit and name.
 pub fn values_right(p: Record) -> bool
     ensures { λ r. ⌜ r ≡ valuesRight p ⌝ }
 {
@@ -27,12 +27,14 @@ pub fn values_right(p: Record) -> bool
         & values::bits_ok(p.bits as u64)
         & values::mask_ok(p.mask as u64)
         & limit_right(p)
+        & names::shape_right(p.name)
+        & names::text_right(p.name)
 }
 
 // Rules 6, 13 and 14: the serial and those that it is linked to, where `last` is the last one
 // issued.
-pub fn names_right(p: Record, last: u32) -> bool
-    ensures { λ r. ⌜ r ≡ namesRight last p ⌝ }
+pub fn serials_right(p: Record, last: u32) -> bool
+    ensures { λ r. ⌜ r ≡ serialsRight last p ⌝ }
 {
     let back = (p.replaced == 0) | (p.replaced < p.serial);
     let forth = (p.replacement == 0) | ((p.serial < p.replacement) & (p.replacement <= last));

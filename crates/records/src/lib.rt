@@ -40,6 +40,7 @@ pub fn load(t: &[u8], n: usize, i: usize) -> Record
     let material = material_at(t, body + Layout::MATERIAL_IN);
     let activation = octets::number_at(t, body + Layout::ACTIVATION_IN, 8);
     let deactivation = octets::number_at(t, body + Layout::DEACTIVATION_IN, 8);
+    let name = table::name_at(t, n, i);
     Record {
         serial,
         state,
@@ -53,6 +54,7 @@ pub fn load(t: &[u8], n: usize, i: usize) -> Record
         material,
         activation,
         deactivation,
+        name,
     }
 }
 

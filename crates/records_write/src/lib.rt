@@ -4,8 +4,10 @@ ghost use mathlib.Core.Path.{_≡_};
 ghost use Prim.Native.Nat.{_+_, _≤_};
 ghost use lib.ListN.{length};
 ghost use lib.Seq.{sets};
-ghost use Rattle.table.specs.Layout.{lineSize, bodySize, Place};
+ghost use Rattle.names.specs.Names.{nameSize, nameField};
+ghost use Rattle.table.specs.Layout.{lineSize, nameIn, Place};
 ghost use Rattle.table.specs.Records.{line, body, withPlace};
+use names::Name;
 use table::Layout;
 use table::Record;
 
@@ -31,7 +33,7 @@ fn put_line(
     octets::put(t, at + Layout::REPLACEMENT_IN, 4, replacement as u64);
 }
 
-// Writes a body from `at` on; its caller shows that it lies in the table.
+// Writes a body up to its name from `at` on; its caller shows that it lies in the table.
 fn put_body(
     t: &mut [u8],
     at: usize,
@@ -42,7 +44,7 @@ fn put_body(
     activation: u64,
     deactivation: u64,
 )
-    requires { ⌜ at + bodySize ≤ length (now t) ⌝ }
+    requires { ⌜ at + nameIn ≤ length (now t) ⌝ }
     ensures { λ _. ⌜ now (t .exit) ≡ sets (now (t .entry)) at (body total count mask material activation deactivation) ⌝ }
 {
     octets::put(t, at + Layout::TOTAL_IN, 8, total);
@@ -54,6 +56,17 @@ fn put_body(
     octets::put(t, at + Layout::DEACTIVATION_IN, 8, deactivation);
 }
 
+// Writes a name from `at` on; its caller shows that it lies in the table.
+fn put_name(t: &mut [u8], at: usize, name: Name)
+    requires { ⌜ at + nameSize ≤ length (now t) ⌝ }
+    ensures { λ _. ⌜ now (t .exit) ≡ sets (now (t .entry)) at (nameField name) ⌝ }
+{
+    let w = name.words;
+    octets::put(t, at, 1, name.len as u64);
+    octets::put(t, at + 1, 7, name.zeros);
+    words::put_words(t, at + 8, w);
+}
+
 // Stores a record at place i.
 pub fn store(t: &mut [u8], n: usize, i: usize, r: Record)
     requires { ⌜ Place n (now t) i ⌝ }
@@ -63,6 +76,7 @@ pub fn store(t: &mut [u8], n: usize, i: usize, r: Record)
     let layout = Layout { places: n };
     let body_at = layout.body(i);
     let material = r.material;
+    let name = r.name;
     put_line(
         t,
         line_at,
@@ -83,4 +97,5 @@ pub fn store(t: &mut [u8], n: usize, i: usize, r: Record)
         r.activation,
         r.deactivation,
     );
+    put_name(t, body_at + Layout::NAME_IN, name);
 }

@@ -2,7 +2,7 @@
 -- Assumes nothing.
 use Prim.Native.Nat.{ℕ}
 use Rattle.rules.specs.declared.Reason.{Reason}
-use Rattle.rules.specs.declared.Reason.the-variants.{OperationNotSupported, InvalidField, ObjectNotFound, ObjectDestroyed, PermissionDenied, WrongKeyLifecycleState, UsageLimitExceeded, ServerLimitExceeded}
+use Rattle.rules.specs.declared.Reason.the-variants.{OperationNotSupported, InvalidField, ObjectNotFound, ObjectDestroyed, PermissionDenied, WrongKeyLifecycleState, UsageLimitExceeded, ServerLimitExceeded, NonUniqueName}
 
 -- ---- operations
 
@@ -11,6 +11,9 @@ create = 0x01
 
 abbrev pub rekey : ℕ
 rekey = 0x04
+
+abbrev pub locate : ℕ
+locate = 0x08
 
 abbrev pub get : ℕ
 get = 0x0A
@@ -71,3 +74,4 @@ reasonNumber ObjectDestroyed = 0x36
 reasonNumber ObjectNotFound = 0x37
 reasonNumber ServerLimitExceeded = 0x3A
 reasonNumber WrongKeyLifecycleState = 0x43
+reasonNumber NonUniqueName = 0x35

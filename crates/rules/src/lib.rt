@@ -4,6 +4,7 @@
 ghost use mathlib.Core.Path.{_≡_};
 ghost use Rattle.rules.specs.Numbers.{reasonNumber};
 ghost use Rattle.rules.specs.States.{nextState, granting};
+use names::Name;
 
 // Why an item fails. `reasonNumber` gives each its number.
 pub enum Reason {
@@ -15,6 +16,7 @@ pub enum Reason {
     WrongKeyLifecycleState,
     UsageLimitExceeded,
     ServerLimitExceeded,
+    NonUniqueName,
 }
 
 // What an operation makes of a state: the next state, or the failure.
@@ -38,6 +40,7 @@ pub struct Attributes {
     pub total: u64,
     pub activation: u64,
     pub deactivation: u64,
+    pub name: Name,
 }
 
 // The Offset that a Re-key asks for, if it does: the seconds from the clock to the activation date
@@ -80,6 +83,7 @@ pub fn reason_number(reason: Reason) -> u32
         Reason::ObjectNotFound => 0x37,
         Reason::ServerLimitExceeded => 0x3A,
         Reason::WrongKeyLifecycleState => 0x43,
+        Reason::NonUniqueName => 0x35,
     }
 }
 

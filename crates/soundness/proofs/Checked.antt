@@ -6,7 +6,7 @@ use Prim.Native.Nat.{ℕ, _+_, _^_, _≤_, _<_, max}
 use native.Mathlib.Nat.{eq-or-lt-of-le, le-trans, le-max-left, le-max-right}
 use native.Mathlib.Omega.{arith}
 use native.Mathlib.Decide.{ℕ-discrete}
-use mathlib.Core.Bool.{Bool, true, false, _&&_, false≢true}
+use mathlib.Core.Bool.{Bool, true, false, _&&_}
 use mathlib.Core.List.{List}
 use lib.ListN.{length}
 use lib.Dec.{eqb}
@@ -19,24 +19,17 @@ use Rattle.search.specs.declared.Found.the-variants.{At, Nothing}
 use Rattle.table.specs.Layout.{lineStart, lineSize, sizeOf, Table, replacedIn, replacementIn}
 use Rattle.table.specs.Records.{placeAt, serialAt, lastSerial, placesSaid, latestClock}
 use Rattle.search.specs.Search.{find}
-use Rattle.table.proofs.Places.{serial-is}
-use Rattle.search.proofs.Finds.{find-is}
+use Rattle.table.proofs.Places.{serial-is, name-is}
 use Rattle.records.proofs.Links.{link-replaced, link-replacement}
-use Rattle.record_rules.specs.Checked.{valuesRight, namesRight, materialRight, timesRight}
+use Rattle.record_rules.specs.Checked.{valuesRight, serialsRight, materialRight, timesRight}
 use Rattle.record_rules.proofs.Fit.{Right, fit-is, fit-of, Timely, dated-is, dated-of}
+use Rattle.twin_rules.specs.Checked.{isAt, TopBelow, ownName}
+use Rattle.twin_rules.proofs.Serials.{at-is, at-of, Distinct, find-own, own-distinct}
+use Rattle.twin_rules.proofs.NameTwins.{name-own, own-named}
 use Rattle.soundness.specs.Sound.{sizeRight, countRight, latestRight, freeRight, zerosRight, ifStands, namesReplacement, namesReplaced, linksRight, sound}
-use Rattle.soundness.specs.Checked.{wholeRight, TopBelow, isAt, hasLink, standingRight, placeRight}
+use Rattle.soundness.specs.Checked.{wholeRight, hasLink, standingRight, placeRight}
 use Rattle.octets.proofs.Bools.{and-l, and-r, and-i, no-unless, not-both, facts, tests}
-use Rattle.soundness.proofs.SoundIs.{Sound, Stands, Linked, Distinct, find-own, own-distinct, links-is, links-of, sound-is, sound-of}
-
-at-is : (i : ℕ) (f : Found) → isAt i f ≡ true → f ≡ At i
-unfolding isAt
-at-is i (At j) e = ap At (eqb-true j i e)
-at-is i Nothing e = absurd (false≢true e)
-
-at-of : (i : ℕ) (f : Found) → f ≡ At i → isAt i f ≡ true
-unfolding isAt
-at-of i f e = ap (isAt i) e ∙ eq-eqb i i refl
+use Rattle.soundness.proofs.SoundIs.{Sound, Stands, Empty, Linked, named-stands, links-is, links-of, sound-is, sound-of}
 
 -- what the check asks of a record that stands at place i, one by one
 record Asked (n : ℕ) (t : List ℕ) (i : ℕ) (r : Record) : Type 0 where
@@ -46,17 +39,18 @@ record Asked (n : ℕ) (t : List ℕ) (i : ℕ) (r : Record) : Type 0 where
   issued : r .serial ≤ lastSerial t
   own : find n t (r .serial) ≡ At i
   links : linksRight n t r ≡ true
+  name : ownName n t i (r .name) ≡ true
 
 module _ (n : ℕ) (t : List ℕ) (i : ℕ) (r : Record) where
   asked-is : standingRight n t i r ≡ true → Asked n t i r
-  unfolding standingRight valuesRight namesRight materialRight timesRight
+  unfolding standingRight valuesRight serialsRight materialRight timesRight
   asked-is e =
-      let values : valuesRight r ≡ true = search facts in
+      let values : valuesRight r ≡ true = search facts depth 8 in
       let material : materialRight r ≡ true = search facts in
-      let names : namesRight (lastSerial t) r ≡ true = search facts in
+      let serials : serialsRight (lastSerial t) r ≡ true = search facts in
       let times : timesRight (latestClock t) r ≡ true = search facts in
       record {
-        zeros = search facts;
+        zeros = search facts depth 8;
         right = record {
           state = search facts;
           bits = search facts;
@@ -66,15 +60,18 @@ module _ (n : ℕ) (t : List ℕ) (i : ℕ) (r : Record) where
           wiped = search facts;
           replaced = search facts;
           replacement = search facts;
+          name = search facts;
+          text = search facts;
         };
         timely = record { dates = search facts; order = search facts; started = search facts };
         issued = search facts;
         own = at-is i _ (search facts);
         links = search facts;
+        name = search facts;
       }
 
   asked-of : Asked n t i r → standingRight n t i r ≡ true
-  unfolding standingRight valuesRight namesRight materialRight timesRight
+  unfolding standingRight valuesRight serialsRight materialRight timesRight
   asked-of a =
       let own : isAt i (find n t (r .serial)) ≡ true = at-of i _ (a .own) in
       search tests
@@ -106,6 +103,7 @@ module _ (n : ℕ) (t : List ℕ) where
         replaced = λ j g u q. h .replaced i j l g s u q ∙ serial-is n t i;
         replacement = λ j g u q. h .replacement i j l g s u q ∙ serial-is n t i;
       });
+      name = ap (ownName n t i) (sym (name-is n t i)) ∙ name-own n t (h .named) i l;
     })
   ]
 
@@ -116,12 +114,14 @@ module _ (n : ℕ) (t : List ℕ) where
       let asked : (i : ℕ) → i < n → Stands t i → Asked n t i (placeAt n t i) = λ i l s. asked-is n t i (placeAt n t i) (sym (place-standing i s) ∙ p i l) in
       let alone : Distinct n t = own-distinct n t (λ i l s. ap (find n t) (serial-is n t i) ∙ asked i l s .own) in
       let linked : (i : ℕ) → i < n → Stands t i → Linked n t (placeAt n t i) = λ i l s. links-is n t alone (placeAt n t i) (asked i l s .links) in
+      let sized : Table n t = search facts in
+      let empty : (i : ℕ) → i < n → serialAt t i ≡ 0 → Empty n t i = λ i l z. let g : freeRight n t i ≡ true = sym (place-free i z) ∙ p i l in
+      record { line = and-l (allZero (part t (lineStart i) lineSize)) _ g; body = and-r (allZero (part t (lineStart i) lineSize)) _ g } in
       sound-of n t (record {
-        size = search facts;
+        size = sized;
         count = search facts;
         latest = search facts;
-        free = λ i l z. let g : freeRight n t i ≡ true = sym (place-free i z) ∙ p i l in
-            record { line = and-l (allZero (part t (lineStart i) lineSize)) _ g; body = and-r (allZero (part t (lineStart i) lineSize)) _ g };
+        free = empty;
         zeros = λ i l s. asked i l s .zeros;
         distinct = alone;
         issued = λ i l. elim (ℕ-discrete (serialAt t i) 0) [ yes z ↦ omega arith | no s ↦ rw (serial-is n t i) (asked i l s .issued) ];
@@ -129,6 +129,7 @@ module _ (n : ℕ) (t : List ℕ) where
         dated = λ i l s. dated-is (latestClock t) (placeAt n t i) (asked i l s .timely);
         replaced = λ i j l g s u q. linked i l s .replaced j g u q ∙ sym (serial-is n t i);
         replacement = λ i j l g s u q. linked i l s .replacement j g u q ∙ sym (serial-is n t i);
+        named = own-named n t (λ i l c. ap (ownName n t i) (name-is n t i) ∙ asked i l (named-stands n t i sized l (empty i l) c) .name);
       })
 
   -- a table whose lead fails is unsound, and so is one with a place that fails
@@ -176,21 +177,16 @@ links-parts n t r =
     )
 
 -- the answers of the functions for the parts of a standing place's rules, put together
-pub standing-parts : (n : ℕ) (t : List ℕ) (i last latest : ℕ) (r : Record) {zeros values material names times own back forth : Bool} → last ≡ lastSerial t → latest ≡ latestClock t
-    → zeros ≡ zerosRight n t i → values ≡ valuesRight r → material ≡ materialRight r → names ≡ namesRight last r → times ≡ timesRight latest r → own ≡ isAt i (find n t (r .serial))
+pub standing-parts : (n : ℕ) (t : List ℕ) (i last latest : ℕ) (r : Record) {zeros values material serials times own back forth name : Bool} → last ≡ lastSerial t → latest ≡ latestClock t
+    → zeros ≡ zerosRight n t i → values ≡ valuesRight r → material ≡ materialRight r → serials ≡ serialsRight last r → times ≡ timesRight latest r → own ≡ isAt i (find n t (r .serial))
     → back ≡ ifStands (hasLink t (r .serial) replacementIn) (find n t (r .replaced))
     → forth ≡ ifStands (hasLink t (r .serial) replacedIn) (find n t (r .replacement))
-    → ((zeros && values && material && names && times) && own && (back && forth)) ≡ standingRight n t i r
+    → name ≡ ownName n t i (r .name)
+    → ((zeros && values && material && serials && times) && own && (back && forth) && name) ≡ standingRight n t i r
 unfolding standingRight
-standing-parts n t i last latest r l k z v m a d o b f = rw (z, v, m, a, d, o, b, f, links-parts n t r, l, k)
+standing-parts n t i last latest r l k z v m a d o b f g = rw (z, v, m, a, d, o, b, f, g, links-parts n t r, l, k)
 
--- a serial above those of all lower places is found at its own
-pub top-own : (n : ℕ) (t : List ℕ) (i top serial : ℕ) → i < n → serial ≡ serialAt t i → TopBelow t i top → top < serial → isAt i (find n t serial) ≡ true
-unfolding isAt
-top-own n t i top serial lo own below above =
-    ap (isAt i) (find-is n t serial i (λ z. omega arith) lo (sym own) (λ j l q. let h : serialAt t j ≤ top = below j l in omega arith)) ∙ eq-eqb i i refl
-
--- one place more
+-- the highest serial of the places below, one place more
 pub top-more : (t : List ℕ) (i top : ℕ) → TopBelow t i top → TopBelow t (i + 1) (max top (serialAt t i))
 top-more t i top below j l =
     ⊎-elim (λ z. rw z (le-max-right top (serialAt t i))) (λ z. le-trans (below j z) (le-max-left top (serialAt t i))) (eq-or-lt-of-le (let m : j ≤ i = omega arith in m))

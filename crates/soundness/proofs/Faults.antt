@@ -69,7 +69,7 @@ module _ (n : ℕ) (t : List ℕ) where
   from-first k (ofTable rule ∷ later) fault (past-whole h f) = ifb-true _ _ _ h ∙ from-first (suc k) later fault f
   from-first k (ofPlaces broken ∷ later) fault (past-places h f) = ap (orLater k _) (fails-none n (broken n t) h) ∙ from-first (suc k) later fault f
 
-  -- ---- the nineteen rules
+  -- ---- the list of all rules
 
   pub fault-none : firstFault n t ≡ none → Kept n t rules
   unfolding firstFault

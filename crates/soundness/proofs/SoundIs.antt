@@ -4,34 +4,35 @@ use mathlib.Core.Path.{_≡_, refl, sym, ap, _∙_}
 use Prim.Native.Nat.{ℕ, _+_, _^_, _≤_, _<_}
 use native.Mathlib.Omega.{arith}
 use native.Mathlib.Decide.{ℕ-discrete}
-use mathlib.Core.Bool.{Bool, true, false, not, false≢true}
+use mathlib.Core.Bool.{Bool, true, false, not, false≢true, true≢false}
 use mathlib.Core.Option.{Option, none, some}
 use mathlib.Core.List.{List}
 use lib.ListN.{length}
-use lib.Dec.{eqb}
 use borrow.Author.Tests.{eq-eqb, ne-eqb, le-leb, lt-ltb, eqb-true, eqb-false, leb-true, ltb-true, not-true}
 use Rattle.octets.specs.Maybe.{isSome}
 use Rattle.octets.specs.Octets.{part, allZero}
 use Rattle.table.specs.declared.Record.{Record}
 use Rattle.search.specs.declared.Found.{Found}
 use Rattle.search.specs.declared.Found.the-variants.{At, Nothing}
+use Rattle.names.specs.declared.Name.{Name}
+use Rattle.names.specs.Names.{isNamed, noName}
 use Rattle.table.specs.Layout.{lineSize, bodySize, lineStart, bodyStart, sizeOf, Table, zerosIn}
-use Rattle.table.specs.Records.{placeAt, serialAt, isFree, lastSerial, placesSaid, latestClock}
-use Rattle.search.specs.Search.{isNothing, find}
-use Rattle.search.proofs.First.{isNothing-is, none-fails, fails-none}
-use Rattle.table.proofs.Places.{serial-is}
-use Rattle.search.proofs.Finds.{find-nonzero, find-below, find-serial, find-only}
-use Rattle.record_rules.specs.Rules.{stateRight, bitsRight, maskRight, limitRight, tailRight, wipedRight, replacedRight, replacementRight, datesRight, orderRight, startedRight}
+use Rattle.table.specs.Records.{placeAt, serialAt, nameAt, isFree, lastSerial, placesSaid, latestClock}
+use Rattle.table.proofs.Places.{serial-is, name-is}
+use Rattle.table.proofs.Blank.{zero-place}
+use Rattle.search.specs.Search.{find}
+use Rattle.search.proofs.Finds.{find-nonzero, find-below, find-serial}
+use Rattle.record_rules.specs.Rules.{stateRight, bitsRight, maskRight, limitRight, tailRight, wipedRight, replacedRight, replacementRight, datesRight, orderRight, startedRight, nameRight, nameTextRight}
 use Rattle.record_rules.proofs.Fit.{Fit, Right, fit-is, fit-of, Dated, Timely, dated-is, dated-of}
-use Rattle.soundness.specs.Sound.{Fault, rules, sizeRight, countRight, latestRight, freeRight, zerosRight, isTwin, distinctRight, issuedRight, ifStands, namesReplaced, namesReplacement, linksRight, breaksFree, breaksStanding, firstFault, sound}
+use Rattle.twin_rules.specs.Twins.{namesDiffer}
+use Rattle.twin_rules.proofs.Serials.{Distinct, distinct-is, distinct-of, find-own}
+use Rattle.twin_rules.proofs.NameTwins.{named-is, named-of}
+pub use Rattle.twin_rules.proofs.Serials.{Stands}
+use Rattle.soundness.specs.Sound.{Fault, rules, sizeRight, countRight, latestRight, freeRight, zerosRight, distinctRight, issuedRight, ifStands, namesReplaced, namesReplacement, linksRight, breaksFree, breaksStanding, firstFault, sound}
 use Rattle.octets.proofs.Bools.{and-l, and-r, and-i, yes-unless, no-unless, not-both}
 use Rattle.soundness.proofs.Faults.{Nowhere, Kept, end, holds, nowhere, fault-none, none-fault}
 
 -- ---- the facts
-
--- a record stands at place i
-abbrev pub Stands : List ℕ → ℕ → Type 0
-Stands t i = serialAt t i ≡ 0 → ⊥
 
 -- a place with nothing in it
 pub record Empty (n : ℕ) (t : List ℕ) (i : ℕ) : Type 0 where
@@ -51,26 +52,17 @@ pub record Sound (n : ℕ) (t : List ℕ) : Type 0 where
   pub dated : (i : ℕ) → i < n → Stands t i → Dated (latestClock t) (placeAt n t i)
   pub replaced : (i j : ℕ) → i < n → j < n → Stands t i → Stands t j → placeAt n t i .replaced ≡ serialAt t j → placeAt n t j .replacement ≡ serialAt t i
   pub replacement : (i j : ℕ) → i < n → j < n → Stands t i → Stands t j → placeAt n t i .replacement ≡ serialAt t j → placeAt n t j .replaced ≡ serialAt t i
+  pub named : (i j : ℕ) → i < n → j < n → isNamed (nameAt n t i) ≡ true → nameAt n t i ≡ nameAt n t j → i ≡ j
 
--- ---- searches by serial
+-- a place with nothing in it has no name, so where a name is a record stands
+module _ (n : ℕ) (t : List ℕ) (i : ℕ) (size : Table n t) (low : i < n) where
+  pub empty-unnamed : Empty n t i → nameAt n t i ≡ noName
+  empty-unnamed empty = name-is n t i ∙ ap (λ (r : Record). r .name) (zero-place n t i size low (empty .line) (empty .body))
 
-module _ (n : ℕ) (t : List ℕ) where
-  -- the serials of records that stand are distinct
-  abbrev pub Distinct : Type 0
-  Distinct = (i j : ℕ) → i < n → j < n → Stands t i → serialAt t i ≡ serialAt t j → i ≡ j
+  pub named-stands : (serialAt t i ≡ 0 → Empty n t i) → isNamed (nameAt n t i) ≡ true → Stands t i
+  named-stands free c z = true≢false (sym c ∙ ap (λ (name : Name). isNamed name) (empty-unnamed (free z)))
 
-  -- so each record is found by its serial
-  pub find-own : Distinct → (i : ℕ) → i < n → Stands t i → find n t (serialAt t i) ≡ At i
-  find-own d i h s = find-only n t (serialAt t i) i s h refl (λ j g e. sym (d i j h g s (sym e)))
-
-  -- and where each record is found by its serial the serials are distinct
-  pub own-distinct : ((i : ℕ) → i < n → Stands t i → find n t (serialAt t i) ≡ At i) → Distinct
-  own-distinct own i j h g s e =
-      let a : find n t (serialAt t i) ≡ At i = own i h s in
-      let b : find n t (serialAt t j) ≡ At j = own j g (λ z. s (e ∙ z)) in
-      cc
-
--- ---- the rules on two places
+-- ---- the rules of links
 
 stands-is : (test : ℕ → Bool) (f : Found) (j : ℕ) → ifStands test f ≡ true → f ≡ At j → test j ≡ true
 unfolding ifStands
@@ -83,24 +75,6 @@ stands-of test (At i) h = h i refl
 stands-of test Nothing h = refl
 
 module _ (n : ℕ) (t : List ℕ) where
-  pub distinct-is : ((i : ℕ) → i < n → Stands t i → distinctRight n t i ≡ true) → Distinct n t
-  unfolding distinctRight
-  distinct-is right i j h g s e =
-      let none : isTwin t i j ≡ false = none-fails n (isTwin t i) (isNothing-is _ (right i h s)) j g in
-      elim (ℕ-discrete j i) [
-        | yes q ↦ sym q
-        | no q ↦ absurd (not-both _ (and-i (not (eqb j i)) (eqb (serialAt t j) (serialAt t i)) (ap not (ne-eqb j i q)) (eq-eqb (serialAt t j) (serialAt t i) (sym e))) none)
-      ]
-
-  pub distinct-of : Distinct n t → (i : ℕ) → i < n → Stands t i → distinctRight n t i ≡ true
-  unfolding distinctRight isNothing
-  distinct-of d i h s =
-      let none : (j : ℕ) → j < n → isTwin t i j ≡ false = λ j g. no-unless (isTwin t i j) (λ e.
-      let q : j ≡ i → ⊥ = eqb-false j i (not-true (eqb j i) (and-l (not (eqb j i)) (eqb (serialAt t j) (serialAt t i)) e)) in
-      let p : serialAt t j ≡ serialAt t i = eqb-true _ _ (and-r (not (eqb j i)) (eqb (serialAt t j) (serialAt t i)) e) in
-      q (sym (d i j h g s (sym p)))) in
-      ap isNothing (fails-none n (isTwin t i) none)
-
   -- the links of one record
   pub record Linked (r : Record) : Type 0 where
     pub replaced : (j : ℕ) → j < n → Stands t j → r .replaced ≡ serialAt t j → placeAt n t j .replacement ≡ r .serial
@@ -172,15 +146,17 @@ module _ (n : ℕ) (t : List ℕ) where
   sound-is e = go (fault-none n t (no-fault (firstFault n t) e))
     where
       go : Kept n t rules → Sound n t
-      go (holds size (holds count (nowhere free (nowhere zeros (nowhere distinct (nowhere issued (nowhere state (nowhere bits (nowhere mask (nowhere limit (nowhere tail (nowhere wiped (nowhere replaced (nowhere replacement (nowhere links (nowhere dates (holds latest (nowhere order (nowhere started end))))))))))))))))))) =
+      go (holds size (holds count (nowhere free (nowhere zeros (nowhere distinct (nowhere issued (nowhere state (nowhere bits (nowhere mask (nowhere limit (nowhere tail (nowhere wiped (nowhere replaced (nowhere replacement (nowhere links (nowhere dates (holds latest (nowhere order (nowhere started (nowhere name (nowhere text (nowhere differ end)))))))))))))))))))))) =
           let alone : Distinct n t = distinct-is n t (at-each distinctRight distinct) in
           let linked : (i : ℕ) → i < n → Stands t i → Linked n t (placeAt n t i) = λ i l s. links-is n t alone (placeAt n t i) (at-each (λ n t i. linksRight n t (placeAt n t i)) links i l s) in
+          let sized : Table n t = eqb-true (length t) (sizeOf n) size in
+          let empty : (i : ℕ) → i < n → serialAt t i ≡ 0 → Empty n t i = λ i l z. let g : freeRight n t i ≡ true = free-kept n t i (free i l) z in
+          record { line = and-l (allZero (part t (lineStart i) lineSize)) _ g; body = and-r (allZero (part t (lineStart i) lineSize)) _ g } in
           record {
-            size = eqb-true (length t) (sizeOf n) size;
+            size = sized;
             count = eqb-true (placesSaid t) n count;
             latest = ltb-true (latestClock t) (2 ^ 63) latest;
-            free = λ i l z. let g : freeRight n t i ≡ true = free-kept n t i (free i l) z in
-                record { line = and-l (allZero (part t (lineStart i) lineSize)) _ g; body = and-r (allZero (part t (lineStart i) lineSize)) _ g };
+            free = empty;
             zeros = at-each zerosRight zeros;
             distinct = alone;
             issued = λ i l. elim (ℕ-discrete (serialAt t i) 0) [
@@ -196,6 +172,8 @@ module _ (n : ℕ) (t : List ℕ) where
               wiped = at-each (λ n t i. wipedRight (placeAt n t i)) wiped i l s;
               replaced = at-each (λ n t i. replacedRight (placeAt n t i)) replaced i l s;
               replacement = at-each (λ n t i. replacementRight (lastSerial t) (placeAt n t i)) replacement i l s;
+              name = at-each (λ n t i. nameRight (placeAt n t i)) name i l s;
+              text = at-each (λ n t i. nameTextRight (placeAt n t i)) text i l s;
             });
             dated = λ i l s. dated-is (latestClock t) (placeAt n t i) (record {
               dates = at-each (λ n t i. datesRight (placeAt n t i)) dates i l s;
@@ -204,6 +182,7 @@ module _ (n : ℕ) (t : List ℕ) where
             });
             replaced = λ i j h g s u q. linked i h s .replaced j g u q ∙ sym (serial-is n t i);
             replacement = λ i j h g s u q. linked i h s .replacement j g u q ∙ sym (serial-is n t i);
+            named = named-is n t (λ i l c. at-each namesDiffer differ i l (named-stands n t i sized l (empty i l) c));
           }
 
   pub sound-of : Sound n t → sound n t ≡ true
@@ -235,5 +214,8 @@ module _ (n : ℕ) (t : List ℕ) where
       (nowhere (each-at _ (λ i l s. timely i l s .dates))
       (holds (lt-ltb (latestClock t) (2 ^ 63) (h .latest))
       (nowhere (each-at _ (λ i l s. timely i l s .order))
-      (nowhere (each-at _ (λ i l s. timely i l s .started)) end)))))))))))))))))) in
+      (nowhere (each-at _ (λ i l s. timely i l s .started))
+      (nowhere (each-at _ (λ i l s. right i l s .name))
+      (nowhere (each-at _ (λ i l s. right i l s .text))
+      (nowhere (each-at namesDiffer (λ i l s. named-of n t (h .named) i l)) end))))))))))))))))))))) in
       ap (λ (o : Option Fault). not (isSome o)) (none-fault n t kept)

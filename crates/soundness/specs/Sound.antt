@@ -1,4 +1,4 @@
--- 01, "Sound": an ordered, numbered list of rules, each of the whole table or of its places. A table is sound if none is broken.
+-- 01, "Sound", and 02, L3 and L6: an ordered, numbered list of rules, each of the whole table or of its places. A table is sound if none is broken.
 -- Assumes nothing. A free place answers to the free-place rule alone.
 use Prim.Native.Nat.{ℕ, suc, _+_}
 use mathlib.Core.Bool.{Bool, true, not, _&&_}
@@ -14,9 +14,10 @@ use Rattle.search.specs.declared.Found.{Found}
 use Rattle.search.specs.declared.Found.the-variants.{At, Nothing}
 use Rattle.table.specs.Layout.{lineSize, bodySize, lineStart, bodyStart, sizeOf, zerosIn}
 use Rattle.table.specs.Records.{placeAt, serialAt, isFree, lastSerial, placesSaid, latestClock}
-use Rattle.search.specs.Search.{first, isNothing, find}
+use Rattle.search.specs.Search.{first, find}
 use Rattle.values.specs.Values.{notNegative}
-use Rattle.record_rules.specs.Rules.{stateRight, bitsRight, maskRight, limitRight, tailRight, wipedRight, replacedRight, replacementRight, datesRight, orderRight, startedRight}
+use Rattle.record_rules.specs.Rules.{stateRight, bitsRight, maskRight, limitRight, tailRight, wipedRight, replacedRight, replacementRight, datesRight, orderRight, startedRight, nameRight, nameTextRight}
+unfoldable pub use Rattle.twin_rules.specs.Twins.{distinctRight, namesDiffer}
 
 -- ---- rules of the whole table
 
@@ -42,19 +43,13 @@ freeRight n t i = allZero (part t (lineStart i) lineSize) && allZero (part t (bo
 unfoldable pub zerosRight : ℕ → List ℕ → ℕ → Bool
 zerosRight n t i = allZero (part t (bodyStart n i + zerosIn) 4)
 
--- another place has the serial of place i
-abbrev pub isTwin : List ℕ → ℕ → ℕ → Bool
-isTwin t i j = not (eqb j i) && eqb (serialAt t j) (serialAt t i)
-
--- rule 5: "serials distinct"
-unfoldable pub distinctRight : ℕ → List ℕ → ℕ → Bool
-distinctRight n t i = isNothing (first n (isTwin t i))
+-- rules 5 and 22 are of two places at once and stand in twin_rules (specs/Twins.antt): `distinctRight` and `namesDiffer`
 
 -- rule 6: "and at most the last issued"
 unfoldable pub issuedRight : ℕ → List ℕ → ℕ → Bool
 issuedRight n t i = leb (serialAt t i) (lastSerial t)
 
--- rules 7 to 14, 16, 18 and 19 are of the record by itself and stand in record_rules (specs/Rules.antt): `stateRight` to `replacementRight`, in this order in the list below, and `datesRight`, `orderRight`, `startedRight`
+-- rules 7 to 14, 16 and 18 to 21 are of the record by itself and stand in record_rules (specs/Rules.antt): `stateRight` to `replacementRight`, in this order in the list below, and `datesRight`, `orderRight`, `startedRight`, `nameRight`, `nameTextRight`
 
 -- what a record that stands has to pass; where none stands there is nothing to pass
 unfoldable pub ifStands : (ℕ → Bool) → Found → Bool
@@ -98,7 +93,7 @@ ofStanding rule = ofPlaces (breaksStanding rule)
 abbrev pub ofRecord : (Record → Bool) → Rule
 ofRecord rule = ofStanding (λ n t i. rule (placeAt n t i))
 
--- rules 1 to 19: 01's, and then L3's
+-- rules 1 to 22: 01's, then L3's, then L6's
 abbrev pub rules : List Rule
 rules =
     ofTable sizeRight
@@ -120,6 +115,9 @@ rules =
     ∷ ofTable latestRight
     ∷ ofRecord orderRight
     ∷ ofStanding (λ n t i. startedRight (latestClock t) (placeAt n t i))
+    ∷ ofRecord nameRight
+    ∷ ofRecord nameTextRight
+    ∷ ofStanding namesDiffer
     ∷ []
 
 -- ---- the first broken rule

@@ -1,13 +1,14 @@
-// The soundness check of a stored table. Its rules of a record by itself are those of record_rules.
+// The soundness check of a stored table. Its rules of a record by itself are those of record_rules,
+// those that two places break together of twin_rules.
 // It writes nothing, and takes a table of any size and any content.
 ghost use mathlib.Core.Path.{_≡_};
 ghost use Prim.Native.Nat.{max};
 ghost use lib.Dec.{eqb};
-ghost use Rattle.table.specs.Layout.{sizeOf, Table, Place};
+ghost use Rattle.table.specs.Layout.{sizeOf, Place};
 ghost use Rattle.search.specs.Search.{find};
 ghost use Rattle.record_rules.specs.Checked.{materialRight};
 ghost use Rattle.soundness.specs.Sound.{freeRight, zerosRight, ifStands, sound};
-ghost use Rattle.soundness.specs.Checked.{wholeRight, isAt, standingRight, placeRight, hasLink, LinkAsked, RecordAt, Owns, Reached, ReachedRecord};
+ghost use Rattle.soundness.specs.Checked.{wholeRight, standingRight, placeRight, hasLink, LinkAsked, RecordAt, Reached, ReachedRecord};
 use search::Found;
 use table::Layout;
 use table::Record;
@@ -77,21 +78,6 @@ fn material_right(t: &[u8], n: usize, i: usize, p: Record) -> bool
     octets::all_zero(&t[from..end])
 }
 
-// Rule 5: the search for the serial of place i gives place i. A serial above all that stand at
-// lower places needs no search: `top` is as high as any of them.
-fn own_place(t: &[u8], n: usize, i: usize, top: u32, serial: u32) -> bool
-    requires { ⌜ Owns n (now t) i top serial ⌝ }
-    ensures { λ r. ⌜ r ≡ isAt i (find n (now (t .entry)) serial) ⌝ }
-{
-    if top < serial {
-        return true;
-    }
-    match search::find(t, n, serial) {
-        Found::At(j) => j == i,
-        Found::Nothing => false,
-    }
-}
-
 // A half of rule 15: the record with the serial `other`, if it stands, has this serial as the link
 // that stands `from` bytes into its line.
 fn end_right(t: &[u8], n: usize, serial: u32, other: u32, from: usize) -> bool
@@ -104,9 +90,9 @@ fn end_right(t: &[u8], n: usize, serial: u32, other: u32, from: usize) -> bool
     }
 }
 
-// Rules 4 to 16, 18 and 19, of the record p that stands at place i, where `last` is the
-// last serial issued and `latest` the latest clock: the check has read them, and `top` from the
-// serials of the lower places.
+// Rules 4 to 16 and 18 to 22, of the record p that stands at place i, where `last` is the last
+// serial issued and `latest` the latest clock: the check has read them, and `top` from the serials
+// of the lower places.
 fn standing_right(t: &[u8], n: usize, i: usize, last: u32, latest: u64, top: u32, p: Record) -> bool
     requires { ⌜ ReachedRecord n (now t) i last latest top p ⌝ }
     ensures { λ r. ⌜ r ≡ standingRight n (now (t .entry)) i p ⌝ }
@@ -114,14 +100,15 @@ fn standing_right(t: &[u8], n: usize, i: usize, last: u32, latest: u64, top: u32
     let alone = zeros_right(t, n, i)
         & record_rules::values_right(p)
         & material_right(t, n, i, p)
-        & record_rules::names_right(p, last)
+        & record_rules::serials_right(p, last)
         & record_rules::times_right(p, latest);
     let back = end_right(t, n, p.serial, p.replaced, Layout::REPLACEMENT_IN);
     let forth = end_right(t, n, p.serial, p.replacement, Layout::REPLACED_IN);
-    alone & own_place(t, n, i, top, p.serial) & (back & forth)
+    let serial = twin_rules::own_place(t, n, i, top, p.serial);
+    alone & serial & (back & forth) & twin_rules::own_name(t, n, i, p.name)
 }
 
-// Rules 3 to 16, 18 and 19 at place i.
+// Rules 3 to 16 and 18 to 22 at place i.
 fn place_right(t: &[u8], n: usize, i: usize, last: u32, latest: u64, top: u32) -> bool
     requires { ⌜ Reached n (now t) i last latest top ⌝ }
     ensures { λ r. ⌜ r ≡ placeRight n (now (t .entry)) i ⌝ }

@@ -9,6 +9,9 @@ use lib.ListN.{length, take, drop, replicate, length-append, length-replicate}
 use lib.Seq.{drop-drop}
 use Rattle.octets.specs.Octets.{be, fromBe, part, allZero, Bytes}
 use Rattle.octets.proofs.Numbers.{length-be, be-zero, fromBe-be, be-bytes, bytes-append}
+use Rattle.words.specs.Words.{wordBytes}
+use Rattle.names.specs.Names.{noName, nameField}
+use Rattle.names.proofs.Stored.{none-range}
 use Rattle.table.specs.declared.Record.{Record}
 use Rattle.table.specs.Layout.{lineSize, bodySize, materialSize, lineStart, bodyStart, sizeOf, Table, latestIn}
 use Rattle.table.specs.Records.{line, body, lineBytes, bodyBytes, recordOf, placeAt, serialAt, placesSaid, latestClock, blank, lastSerial}
@@ -32,6 +35,7 @@ zeroRecord = record {
   material = replicate materialSize 0;
   activation = 0;
   deactivation = 0;
+  name = noName;
 }
 
 pub zero-line : lineBytes zeroRecord ≡ replicate lineSize 0
@@ -39,7 +43,7 @@ unfolding line be
 zero-line = refl
 
 pub zero-body : bodyBytes zeroRecord ≡ replicate bodySize 0
-unfolding body be
+unfolding body nameField wordBytes be
 zero-body = refl
 
 pub zero-range : InRange zeroRecord
@@ -57,6 +61,7 @@ zero-range = record {
   bytes = bytes-zeros materialSize;
   activation = omega arith;
   deactivation = omega arith;
+  name = none-range;
 }
 
 module _ (n : ℕ) (t : List ℕ) (i : ℕ) (big : Table n t) (lo : i < n) where

@@ -10,9 +10,10 @@ use lib.Seq.{sets, length-sets}
 use Rattle.octets.specs.Octets.{be, fromBe, part, Bytes}
 use Rattle.octets.proofs.Numbers.{length-be, be-bytes, fromBe-be}
 use Rattle.octets.proofs.Stores.{part-sets-same, part-sets-below, part-sets-above}
+use Rattle.names.specs.Names.{nameSize, storedName}
 use Rattle.table.specs.declared.Record.{Record}
-use Rattle.table.specs.Layout.{lineSize, bodySize, materialSize, lineStart, bodyStart, Table, lastIn, placesIn, latestIn, serialIn, zerosIn}
-use Rattle.table.specs.Records.{lineBytes, bodyBytes, recordOf, placeAt, withPlace, serialAt, lastSerial, withLast, placesSaid, latestClock, withClock}
+use Rattle.table.specs.Layout.{lineSize, bodySize, materialSize, lineStart, bodyStart, Table, lastIn, placesIn, latestIn, serialIn, zerosIn, nameIn}
+use Rattle.table.specs.Records.{lineBytes, bodyBytes, recordOf, placeAt, withPlace, serialAt, nameAt, lastSerial, withLast, placesSaid, latestClock, withClock}
 use Rattle.octets.proofs.Zeros.{bytes-sets}
 use Rattle.table.proofs.Places.{part-with, sets-swap}
 
@@ -78,6 +79,10 @@ module _ (t : List ℕ) (s : ℕ) where
       unfolding placeAt
       place-last = ap₂ recordOf line-last body-last
 
+      pub name-last : nameAt n (withLast t s) i ≡ nameAt n t i
+      unfolding nameAt
+      name-last = ap storedName (part-last t s (bodyStart n i + nameIn) nameSize (omega arith))
+
 -- it may be stored before a record or after it
 pub last-swap : (n : ℕ) (t : List ℕ) (i : ℕ) (r : Record) (s : ℕ) → withLast (withPlace n t i r) s ≡ withPlace n (withLast t s) i r
 unfolding withLast withPlace
@@ -136,3 +141,7 @@ module _ (t : List ℕ) (c : ℕ) where
       pub place-clock : placeAt n (withClock t c) i ≡ placeAt n t i
       unfolding placeAt
       place-clock = ap₂ recordOf line-clock body-clock
+
+      pub name-clock : nameAt n (withClock t c) i ≡ nameAt n t i
+      unfolding nameAt
+      name-clock = ap storedName (part-behind (bodyStart n i + nameIn) nameSize (omega arith))

@@ -5,13 +5,15 @@ use Prim.Native.Nat.{ℕ, _+_, _-_, _^_, _≤_, _<_}
 use native.Mathlib.Nat.{add-assoc, add-zero, le-of-eq}
 use native.Mathlib.Omega.{arith}
 use mathlib.Core.List.{List, _++_}
-use lib.ListN.{length, take, drop, length-append}
-use lib.Seq.{sets, take-all, take-at, drop-at, take-add, drop-drop}
+use lib.ListN.{length, take, drop, length-append, length-drop}
+use lib.Seq.{sets, take-all, take-at, drop-at, take-add, drop-drop, take-append-le, drop-append-le}
 use Rattle.octets.specs.Octets.{be, fromBe, part, Bytes}
 use Rattle.octets.proofs.Numbers.{length-be, be-bytes, be-part, fromBe-be, fromBe-lt, bytes-append, bytes-take, bytes-drop}
 use Rattle.octets.proofs.Stores.{sets-append, length-part}
+use Rattle.names.specs.Names.{nameSize, nameField, storedName}
+use Rattle.names.proofs.Stored.{NameRange, length-field, bytes-field, stored-field, field-stored, stored-range}
 use Rattle.table.specs.declared.Record.{Record}
-use Rattle.table.specs.Layout.{lineSize, bodySize, materialSize, serialIn, stateIn, unitIn, bitsIn, replacedIn, replacementIn, totalIn, countIn, maskIn, zerosIn, materialIn, activationIn, deactivationIn}
+use Rattle.table.specs.Layout.{lineSize, bodySize, materialSize, serialIn, stateIn, unitIn, bitsIn, replacedIn, replacementIn, totalIn, countIn, maskIn, zerosIn, materialIn, activationIn, deactivationIn, nameIn}
 use Rattle.table.specs.Records.{line, body, lineBytes, bodyBytes, recordOf}
 
 pub length-line : (r : Record) → length (lineBytes r) ≡ lineSize
@@ -20,7 +22,15 @@ length-line r = simp (length-append, length-be)
 
 pub length-body : (r : Record) → length (r .material) ≡ materialSize → length (bodyBytes r) ≡ bodySize
 unfolding body
-length-body r e = simp (length-append, length-be, e)
+length-body r e = simp (length-append, length-be, length-field, e)
+
+-- what stands in front of the name
+abbrev pub bodyFront : Record → List ℕ
+bodyFront r = body (r .total) (r .count) (r .mask) (r .material) (r .activation) (r .deactivation)
+
+pub length-front : (r : Record) → length (r .material) ≡ materialSize → length (bodyFront r) ≡ nameIn
+unfolding body
+length-front r e = simp (length-append, length-be, e)
 
 -- ---- a record whose fields fit their bytes
 
@@ -38,6 +48,7 @@ pub record InRange (r : Record) : Type 0 where
   pub bytes : Bytes (r .material)
   pub activation : r .activation < 256 ^ 8
   pub deactivation : r .deactivation < 256 ^ 8
+  pub name : NameRange (r .name)
 
 -- each field, by computation: the bytes of a line or a body are written out where `be` unfolds
 module _ (r : Record) (h : InRange r) where
@@ -65,21 +76,28 @@ module _ (r : Record) (h : InRange r) where
   unfolding line be
   at-replacement = fromBe-be 4 (r .replacement) (h .replacement)
 
+  -- a field in front of the name
+  front : (at w : ℕ) → at + w ≤ nameIn → part (bodyBytes r) at w ≡ part (bodyFront r) at w
+  front at w l =
+      let e = length-front r (h .long) in
+      ap (λ (s : List ℕ). take w s) (drop-append-le at (bodyFront r) (nameField (r .name)) (omega arith))
+      ∙ take-append-le w (drop at (bodyFront r)) (nameField (r .name)) (rw length-drop (omega arith))
+
   at-total : fromBe (part (bodyBytes r) totalIn 8) ≡ r .total
   unfolding body be
-  at-total = fromBe-be 8 (r .total) (h .total)
+  at-total = ap fromBe (front totalIn 8 (omega arith)) ∙ fromBe-be 8 (r .total) (h .total)
 
   at-count : fromBe (part (bodyBytes r) countIn 8) ≡ r .count
   unfolding body be
-  at-count = fromBe-be 8 (r .count) (h .count)
+  at-count = ap fromBe (front countIn 8 (omega arith)) ∙ fromBe-be 8 (r .count) (h .count)
 
   at-mask : fromBe (part (bodyBytes r) maskIn 4) ≡ r .mask
   unfolding body be
-  at-mask = fromBe-be 4 (r .mask) (h .mask)
+  at-mask = ap fromBe (front maskIn 4 (omega arith)) ∙ fromBe-be 4 (r .mask) (h .mask)
 
   at-material : part (bodyBytes r) materialIn materialSize ≡ r .material
   unfolding body be
-  at-material = take-at (r .material) _ materialSize (h .long)
+  at-material = front materialIn materialSize (omega arith) ∙ take-at (r .material) _ materialSize (h .long)
 
   -- past the material, whose length is known by its range alone
   past : (xs : List ℕ) → drop materialSize (r .material ++ xs) ≡ xs
@@ -90,16 +108,22 @@ module _ (r : Record) (h : InRange r) where
 
   at-activation : fromBe (part (bodyBytes r) activationIn 8) ≡ r .activation
   unfolding body be dates
-  at-activation = ap (λ (l : List ℕ). fromBe (take 8 l)) (sym (drop-drop 0 materialSize (r .material ++ dates)) ∙ past dates) ∙ fromBe-be 8 (r .activation) (h .activation)
+  at-activation = ap fromBe (front activationIn 8 (omega arith)) ∙ ap (λ (l : List ℕ). fromBe (take 8 l)) (sym (drop-drop 0 materialSize (r .material ++ dates)) ∙ past dates) ∙ fromBe-be 8 (r .activation) (h .activation)
 
   at-deactivation : fromBe (part (bodyBytes r) deactivationIn 8) ≡ r .deactivation
   unfolding body be dates
-  at-deactivation = ap (λ (l : List ℕ). fromBe (take 8 l)) (sym (drop-drop 8 materialSize (r .material ++ dates)) ∙ ap (drop 8) (past dates)) ∙ fromBe-be 8 (r .deactivation) (h .deactivation)
+  at-deactivation = ap fromBe (front deactivationIn 8 (omega arith)) ∙ ap (λ (l : List ℕ). fromBe (take 8 l)) (sym (drop-drop 8 materialSize (r .material ++ dates)) ∙ ap (drop 8) (past dates)) ∙ fromBe-be 8 (r .deactivation) (h .deactivation)
+
+  at-name : storedName (part (bodyBytes r) nameIn nameSize) ≡ r .name
+  at-name =
+      ap (λ (s : List ℕ). storedName (take nameSize s)) (drop-at (bodyFront r) (nameField (r .name)) nameIn (length-front r (h .long)))
+      ∙ ap storedName (take-all nameSize (nameField (r .name)) (le-of-eq (length-field (r .name))))
+      ∙ stored-field (r .name) (h .name)
 
   -- what was written is read
   pub recordOf-bytes : recordOf (lineBytes r) (bodyBytes r) ≡ r
   unfolding recordOf
-  recordOf-bytes = simp (at-serial, at-state, at-unit, at-bits, at-replaced, at-replacement, at-total, at-count, at-mask, at-material, at-activation, at-deactivation)
+  recordOf-bytes = simp (at-serial, at-state, at-unit, at-bits, at-replaced, at-replacement, at-total, at-count, at-mask, at-material, at-activation, at-deactivation, at-name)
 
 -- the zeros of a body
 pub zeros-body : (r : Record) → part (bodyBytes r) zerosIn 4 ≡ be 4 0
@@ -107,16 +131,19 @@ unfolding body be
 zeros-body r = refl
 
 -- a field, and then the rest
-bytes-field : (w v : ℕ) (s : List ℕ) → Bytes s → Bytes (be w v ++ s)
-bytes-field w v s h = bytes-append (be w v) s (be-bytes w v) h
+bytes-number : (w v : ℕ) (s : List ℕ) → Bytes s → Bytes (be w v ++ s)
+bytes-number w v s h = bytes-append (be w v) s (be-bytes w v) h
 
 pub bytes-line : (r : Record) → Bytes (lineBytes r)
 unfolding line
-bytes-line r = bytes-field 4 (r .serial) _ (bytes-field 1 (r .state) _ (bytes-field 1 (r .unit) _ (bytes-field 2 (r .bits) _ (bytes-field 4 (r .replaced) _ (be-bytes 4 (r .replacement))))))
+bytes-line r = bytes-number 4 (r .serial) _ (bytes-number 1 (r .state) _ (bytes-number 1 (r .unit) _ (bytes-number 2 (r .bits) _ (bytes-number 4 (r .replaced) _ (be-bytes 4 (r .replacement))))))
 
 pub bytes-body : (r : Record) → Bytes (r .material) → Bytes (bodyBytes r)
 unfolding body
-bytes-body r h = bytes-field 8 (r .total) _ (bytes-field 8 (r .count) _ (bytes-field 4 (r .mask) _ (bytes-field 4 0 _ (bytes-append (r .material) _ h (bytes-field 8 (r .activation) _ (be-bytes 8 (r .deactivation)))))))
+bytes-body r h =
+    bytes-append (bodyFront r) _
+    (bytes-number 8 (r .total) _ (bytes-number 8 (r .count) _ (bytes-number 4 (r .mask) _ (bytes-number 4 0 _ (bytes-append (r .material) _ h (bytes-number 8 (r .activation) _ (be-bytes 8 (r .deactivation))))))))
+    (bytes-field (r .name))
 
 -- ---- what any bytes say
 
@@ -153,6 +180,7 @@ module _ (l b : List ℕ) (el : length l ≡ lineSize) (eb : length b ≡ bodySi
     bytes = bytes-part b materialIn materialSize hb;
     activation = field-lt b activationIn 8 (omega arith) hb;
     deactivation = field-lt b deactivationIn 8 (omega arith) hb;
+    name = stored-range (part b nameIn nameSize) (length-part b nameIn nameSize (omega arith)) (bytes-part b nameIn nameSize hb);
   }
 
   -- a line is written as it was read
@@ -171,12 +199,14 @@ module _ (l b : List ℕ) (el : length l ≡ lineSize) (eb : length b ≡ bodySi
   pub body-back : part b zerosIn 4 ≡ be 4 0 → bodyBytes (recordOf l b) ≡ b
   unfolding recordOf body
   body-back z =
-      field-back b totalIn 8 (bodySize - countIn) _ (omega arith) hb
-      (field-back b countIn 8 (bodySize - maskIn) _ (omega arith) hb
-      (field-back b maskIn 4 (bodySize - zerosIn) _ (omega arith) hb
-      (run-back b zerosIn 4 (bodySize - materialIn) _ _ (sym z)
-      (run-back b materialIn materialSize (bodySize - activationIn) _ _ refl
-      (field-back b activationIn 8 (bodySize - deactivationIn) _ (omega arith) hb (be-part 8 deactivationIn b (omega arith) hb))))))
+      run-back b 0 nameIn nameSize _ _
+      (field-back b totalIn 8 (nameIn - countIn) _ (omega arith) hb
+      (field-back b countIn 8 (nameIn - maskIn) _ (omega arith) hb
+      (field-back b maskIn 4 (nameIn - zerosIn) _ (omega arith) hb
+      (run-back b zerosIn 4 (nameIn - materialIn) _ _ (sym z)
+      (run-back b materialIn materialSize (nameIn - activationIn) _ _ refl
+      (field-back b activationIn 8 (nameIn - deactivationIn) _ (omega arith) hb (be-part 8 deactivationIn b (omega arith) hb)))))))
+      (field-stored (part b nameIn nameSize) (length-part b nameIn nameSize (omega arith)) (bytes-part b nameIn nameSize hb))
       ∙ take-all bodySize b (le-of-eq eb)
 
 -- ---- fields that are written one by one

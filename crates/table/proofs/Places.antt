@@ -3,6 +3,7 @@
 use mathlib.Core.Path.{_≡_, sym, ap, ap₂, _∙_}
 use mathlib.Core.Logic.{_⊎_, inl, inr, ⊎-elim}
 use Prim.Native.Nat.{ℕ, _+_, _≤_, _<_}
+use native.Mathlib.Nat.{add-zero}
 use native.Mathlib.Omega.{arith}
 use native.Mathlib.Decide.{decLe, ℕ-discrete}
 use mathlib.Core.List.{List}
@@ -11,9 +12,13 @@ use lib.Seq.{sets, length-sets}
 use lib.Dec.{lit≤}
 use Rattle.octets.specs.Octets.{be, fromBe, part, Bytes}
 use Rattle.octets.proofs.Stores.{sets-comm, part-sets-same, part-sets-below, part-sets-above, part-part, length-part}
+use Rattle.words.specs.declared.Words.{Words}
+use Rattle.words.specs.Words.{wordsOf}
+use Rattle.names.specs.declared.Name.{Name}
+use Rattle.names.specs.Names.{nameSize, storedName}
 use Rattle.table.specs.declared.Record.{Record}
-use Rattle.table.specs.Layout.{lineSize, bodySize, materialSize, lineStart, bodyStart, Table, serialIn, stateIn, unitIn, bitsIn, replacedIn, replacementIn, totalIn, countIn, maskIn, zerosIn, materialIn, activationIn, deactivationIn}
-use Rattle.table.specs.Records.{lineBytes, bodyBytes, recordOf, placeAt, withPlace, serialAt, stateAt}
+use Rattle.table.specs.Layout.{lineSize, bodySize, materialSize, lineStart, bodyStart, Table, serialIn, stateIn, unitIn, bitsIn, replacedIn, replacementIn, totalIn, countIn, maskIn, zerosIn, materialIn, activationIn, deactivationIn, nameIn}
+use Rattle.table.specs.Records.{lineBytes, bodyBytes, recordOf, placeAt, withPlace, serialAt, stateAt, nameAt}
 use Rattle.octets.proofs.Zeros.{bytes-sets}
 use Rattle.table.proofs.Lines.{InRange, recordOf-bytes, recordOf-range, line-back, body-back, zeros-body, length-line, length-body, bytes-line, bytes-body, bytes-part}
 
@@ -23,7 +28,7 @@ apart j i ne = elim (decLe j i) [ yes h ↦ inl (omega arith) | no h ↦ inr (om
 
 -- ---- what stands at a place, in any table
 
--- the serial and the state, read by themselves
+-- the serial, the state and the name, read by themselves
 pub serial-is : (n : ℕ) (t : List ℕ) (i : ℕ) → serialAt t i ≡ placeAt n t i .serial
 unfolding serialAt placeAt recordOf
 serial-is n t i = ap fromBe (sym (part-part t (lineStart i) lineSize serialIn 4 (lit≤ tt)))
@@ -31,6 +36,10 @@ serial-is n t i = ap fromBe (sym (part-part t (lineStart i) lineSize serialIn 4 
 pub state-is : (n : ℕ) (t : List ℕ) (i : ℕ) → stateAt t i ≡ placeAt n t i .state
 unfolding stateAt placeAt recordOf
 state-is n t i = ap fromBe (sym (part-part t (lineStart i) lineSize stateIn 1 (lit≤ tt)))
+
+pub name-is : (n : ℕ) (t : List ℕ) (i : ℕ) → nameAt n t i ≡ placeAt n t i .name
+unfolding nameAt placeAt recordOf
+name-is n t i = ap storedName (sym (part-part t (bodyStart n i) bodySize nameIn nameSize (lit≤ tt)))
 
 module _ (n : ℕ) (t : List ℕ) (i : ℕ) (big : Table n t) (lo : i < n) where
   pub length-line-at : length (part t (lineStart i) lineSize) ≡ lineSize
@@ -118,6 +127,9 @@ module _ (n : ℕ) (t : List ℕ) (i : ℕ) (r : Record) (big : Table n t) (lo :
     pub serial-other : serialAt (withPlace n t i r) j ≡ serialAt t j
     serial-other = serial-is n (withPlace n t i r) j ∙ ap (λ (x : Record). x .serial) place-other ∙ sym (serial-is n t j)
 
+    pub name-other : nameAt n (withPlace n t i r) j ≡ nameAt n t j
+    name-other = name-is n (withPlace n t i r) j ∙ ap (λ (x : Record). x .name) place-other ∙ sym (name-is n t j)
+
 module _ (n : ℕ) (t : List ℕ) (i : ℕ) (r : Record) (big : Table n t) (lo : i < n) (h : InRange r) where
   pub place-same : placeAt n (withPlace n t i r) i ≡ r
   unfolding placeAt
@@ -125,6 +137,9 @@ module _ (n : ℕ) (t : List ℕ) (i : ℕ) (r : Record) (big : Table n t) (lo :
 
   pub serial-same : serialAt (withPlace n t i r) i ≡ r .serial
   serial-same = serial-is n (withPlace n t i r) i ∙ ap (λ (x : Record). x .serial) place-same
+
+  pub name-same : nameAt n (withPlace n t i r) i ≡ r .name
+  name-same = name-is n (withPlace n t i r) i ∙ ap (λ (x : Record). x .name) place-same
 
   -- a store that keeps the serial keeps every serial
   pub serial-with : r .serial ≡ serialAt t i → (j : ℕ) → j < n → serialAt (withPlace n t i r) j ≡ serialAt t j
@@ -177,9 +192,10 @@ pub place-fields : (n : ℕ) (t : List ℕ) (i : ℕ) → let l = lineStart i in
       material = part t (b + materialIn) materialSize;
       activation = fromBe (part t (b + activationIn) 8);
       deactivation = fromBe (part t (b + deactivationIn) 8);
+      name = nameAt n t i;
     })
     (placeAt n t i)
-unfolding placeAt recordOf
+unfolding placeAt recordOf nameAt
 place-fields n t i =
     let l = lineStart i in
     let b = bodyStart n i in
@@ -196,4 +212,28 @@ place-fields n t i =
       part-part t b bodySize materialIn materialSize (lit≤ tt),
       part-part t b bodySize activationIn 8 (lit≤ tt),
       part-part t b bodySize deactivationIn 8 (lit≤ tt),
+      part-part t b bodySize nameIn nameSize (lit≤ tt),
     )
+
+-- the parts of a name, each read where it stands
+pub name-read : (n : ℕ) (t : List ℕ) (i : ℕ) {b len zeros : ℕ} {words : Words} → b ≡ bodyStart n i → len ≡ fromBe (part t (b + nameIn) 1) → zeros ≡ fromBe (part t (b + nameIn + 1) 7)
+    → words ≡ wordsOf (part t (b + nameIn + 8) 32) → _≡_ {A = Name} (record { len = len; zeros = zeros; words = words }) (nameAt n t i)
+unfolding nameAt storedName
+name-read n t i {b} e p q r =
+    let whole = part t (bodyStart n i + nameIn) nameSize in
+    let at = bodyStart n i + nameIn in
+    rw (p, q, r, e)
+    (cc (
+      part-part t at nameSize 0 1 (lit≤ tt),
+      part-part t at nameSize 1 7 (lit≤ tt),
+      part-part t at nameSize 8 32 (lit≤ tt),
+      add-zero at,
+    ))
+
+-- and its first eight bytes
+pub name-starts : (n : ℕ) (t : List ℕ) (i : ℕ) {b start : ℕ} → b ≡ bodyStart n i → start ≡ fromBe (part t (b + nameIn + 8) 8) → start ≡ nameAt n t i .words .a
+unfolding nameAt storedName wordsOf
+name-starts n t i e p =
+    let at = bodyStart n i + nameIn in
+    rw (p, e)
+    (ap fromBe (sym (part-part (part t at nameSize) 8 32 0 8 (lit≤ tt) ∙ part-part t at nameSize 8 8 (lit≤ tt))))

@@ -11,6 +11,8 @@ use Rattle.table.proofs.set_last_serial.Reads as set-last-serial-reads
 use Rattle.table.proofs.places_said.Reads as places-said-reads
 use Rattle.table.proofs.latest_clock.Reads as latest-clock-reads
 use Rattle.table.proofs.set_latest_clock.Reads as set-latest-clock-reads
+use Rattle.table.proofs.name_at.Reads as name-at-reads
+use Rattle.table.proofs.name_start.Reads as name-start-reads
 use Rattle.table.proofs.serial_at.Reads as serial-at-reads
 
 pub line-unique : OneAnswer line-reads.Post
@@ -39,3 +41,9 @@ set-latest-clock-unique κs a r r′ s s′ p q = p ∙ sym q
 
 pub serial-at-unique : OneAnswer serial-at-reads.Post
 serial-at-unique κs a r r′ s s′ p q = p ∙ sym q
+
+pub name-at-unique : OneAnswer name-at-reads.Post
+name-at-unique κs a r r′ s s′ p q = p ∙ sym q
+
+pub name-start-unique : OneAnswer name-start-reads.Post
+name-start-unique κs a r r′ s s′ p q = p ∙ sym q

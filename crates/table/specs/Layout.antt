@@ -13,9 +13,9 @@ leadSize = 16
 abbrev pub lineSize : ℕ
 lineSize = 16
 
--- "a body is 72 bytes": total (8), count (8), usage mask (4), zeros (4), material (32), Activation Date (8), Deactivation Date (8)
+-- "112 bytes a body": total (8), count (8), usage mask (4), zeros (4), material (32), Activation Date (8), Deactivation Date (8), name (40)
 abbrev pub bodySize : ℕ
-bodySize = 72
+bodySize = 112
 
 -- where the line of place i starts
 abbrev pub lineStart : ℕ → ℕ
@@ -68,7 +68,7 @@ replacedIn = 8
 abbrev pub replacementIn : ℕ
 replacementIn = 12
 
--- in a body: "total (8), count (8), usage mask (4), zeros (4), material (32)", and the two dates (8 each)
+-- in a body: "total (8), count (8), usage mask (4), zeros (4), material (32)", the two dates (8 each), and the name (40)
 abbrev pub totalIn : ℕ
 totalIn = 0
 
@@ -89,6 +89,9 @@ activationIn = 56
 
 abbrev pub deactivationIn : ℕ
 deactivationIn = 64
+
+abbrev pub nameIn : ℕ
+nameIn = 72
 
 -- ---- what the functions over a table ask
 

@@ -7,14 +7,16 @@ use lib.ListN.{replicate}
 use lib.Seq.{sets}
 use lib.Dec.{eqb}
 use Rattle.octets.specs.Octets.{be, fromBe, part}
+use Rattle.names.specs.declared.Name.{Name}
+use Rattle.names.specs.Names.{nameSize, nameField, storedName}
 use Rattle.table.specs.declared.Record.{Record}
-use Rattle.table.specs.Layout.{lineSize, bodySize, lineStart, bodyStart, sizeOf, materialSize, lastIn, placesIn, latestIn, serialIn, stateIn, unitIn, bitsIn, replacedIn, replacementIn, totalIn, countIn, maskIn, materialIn, activationIn, deactivationIn}
+use Rattle.table.specs.Layout.{lineSize, bodySize, lineStart, bodyStart, sizeOf, materialSize, lastIn, placesIn, latestIn, serialIn, stateIn, unitIn, bitsIn, replacedIn, replacementIn, totalIn, countIn, maskIn, materialIn, activationIn, deactivationIn, nameIn}
 
 -- "serial (4, zero means free), state (1), unit (1), length in bits (2), replaced serial (4), replacement serial (4)"
 unfoldable pub line : ℕ → ℕ → ℕ → ℕ → ℕ → ℕ → List ℕ
 line serial state unit bits replaced replacement = be 4 serial ++ (be 1 state ++ (be 1 unit ++ (be 2 bits ++ (be 4 replaced ++ be 4 replacement))))
 
--- "total (8), count (8), usage mask (4), zeros (4), material (32)", and "at its end an Activation Date and a Deactivation Date (8 bytes each, 0 means not set)"
+-- a body up to its name: "total (8), count (8), usage mask (4), zeros (4), material (32)", and "an Activation Date and a Deactivation Date (8 bytes each, 0 means not set)"
 unfoldable pub body : ℕ → ℕ → ℕ → List ℕ → ℕ → ℕ → List ℕ
 body total count mask material activation deactivation =
     be 8 total ++ (be 8 count ++ (be 4 mask ++ (be 4 0 ++ (material ++ (be 8 activation ++ be 8 deactivation)))))
@@ -22,8 +24,9 @@ body total count mask material activation deactivation =
 abbrev pub lineBytes : Record → List ℕ
 lineBytes r = line (r .serial) (r .state) (r .unit) (r .bits) (r .replaced) (r .replacement)
 
+-- "Bodies gain at the end" the name
 abbrev pub bodyBytes : Record → List ℕ
-bodyBytes r = body (r .total) (r .count) (r .mask) (r .material) (r .activation) (r .deactivation)
+bodyBytes r = body (r .total) (r .count) (r .mask) (r .material) (r .activation) (r .deactivation) ++ nameField (r .name)
 
 -- what a line and a body say
 unfoldable pub recordOf : List ℕ → List ℕ → Record
@@ -40,6 +43,7 @@ recordOf l b = record {
   material = part b materialIn materialSize;
   activation = fromBe (part b activationIn 8);
   deactivation = fromBe (part b deactivationIn 8);
+  name = storedName (part b nameIn nameSize);
 }
 
 -- the record at place i of a table of n places
@@ -57,6 +61,10 @@ serialAt t i = fromBe (part t (lineStart i + serialIn) 4)
 -- the state of place i, read by itself
 unfoldable pub stateAt : List ℕ → ℕ → ℕ
 stateAt t i = fromBe (part t (lineStart i + stateIn) 1)
+
+-- the name of place i, read by itself
+unfoldable pub nameAt : ℕ → List ℕ → ℕ → Name
+nameAt n t i = storedName (part t (bodyStart n i + nameIn) nameSize)
 
 -- "serial .. zero means free"
 abbrev pub isFree : List ℕ → ℕ → Bool

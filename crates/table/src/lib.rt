@@ -4,8 +4,9 @@
 ghost use mathlib.Core.Path.{_≡_};
 ghost use Prim.Native.Nat.{_+_, _^_, _≤_, _<_};
 ghost use lib.ListN.{length};
-ghost use Rattle.table.specs.Layout.{HasLead, HasLine, lineStart, bodyStart, sizeOf};
-ghost use Rattle.table.specs.Records.{serialAt, lastSerial, withLast, placesSaid, latestClock, withClock};
+ghost use Rattle.table.specs.Layout.{HasLead, HasLine, Place, lineStart, bodyStart, sizeOf};
+ghost use Rattle.table.specs.Records.{serialAt, nameAt, lastSerial, withLast, placesSaid, latestClock, withClock};
+use names::Name;
 
 // The layout of a table of so many places: constants for sizes and for where each field stands, and
 // the offsets of a place's line and body.
@@ -18,7 +19,7 @@ impl Layout {
 
     pub const LINE: usize = 16;
 
-    pub const BODY: usize = 72;
+    pub const BODY: usize = 112;
 
     pub const MATERIAL: usize = 32;
 
@@ -62,6 +63,8 @@ impl Layout {
 
     pub const DEACTIVATION_IN: usize = 64;
 
+    pub const NAME_IN: usize = 72;
+
     // Where the line of place i starts. The caller shows that the offset is a usize.
     pub fn line(i: usize) -> usize
         requires { ⌜ lineStart i < 2 ^ 64 ⌝ }
@@ -103,6 +106,7 @@ pub struct Record {
     // dates, 0 where none is set
     pub activation: u64,
     pub deactivation: u64,
+    pub name: Name,
 }
 
 // The last serial issued.
@@ -152,4 +156,27 @@ pub fn serial_at(t: &[u8], i: usize) -> u32
 {
     let at = Layout::line(i);
     octets::number_at(t, at + Layout::SERIAL_IN, 4) as u32
+}
+
+// The name of place i, read by itself.
+pub fn name_at(t: &[u8], n: usize, i: usize) -> Name
+    requires { ⌜ Place n (now t) i ⌝ }
+    ensures { λ r. ⌜ r ≡ nameAt n (now (t .entry)) i ⌝ }
+{
+    let layout = Layout { places: n };
+    let at = layout.body(i) + Layout::NAME_IN;
+    let len = octets::number_at(t, at, 1) as u8;
+    let zeros = octets::number_at(t, at + 1, 7);
+    let words = words::words_at(t, at + 8);
+    Name { len, zeros, words }
+}
+
+// The first eight bytes of the name of place i as a number, read by themselves.
+pub fn name_start(t: &[u8], n: usize, i: usize) -> u64
+    requires { ⌜ Place n (now t) i ⌝ }
+    ensures { λ r. ⌜ r ≡ nameAt n (now (t .entry)) i .words .a ⌝ }
+{
+    let layout = Layout { places: n };
+    let at = layout.body(i) + Layout::NAME_IN;
+    octets::number_at(t, at + 8, 8)
 }

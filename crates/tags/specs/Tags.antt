@@ -59,6 +59,15 @@ linkType = 0x42004B
 abbrev pub linkedObjectIdentifier : ℕ
 linkedObjectIdentifier = 0x42004C
 
+abbrev pub nameTag : ℕ
+nameTag = 0x420053
+
+abbrev pub nameType : ℕ
+nameType = 0x420054
+
+abbrev pub nameValue : ℕ
+nameValue = 0x420055
+
 abbrev pub objectType : ℕ
 objectType = 0x420057
 

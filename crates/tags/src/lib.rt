@@ -37,6 +37,12 @@ pub const LINK_TYPE: u32 = 0x42004B;
 
 pub const LINKED_OBJECT_IDENTIFIER: u32 = 0x42004C;
 
+pub const NAME: u32 = 0x420053;
+
+pub const NAME_TYPE: u32 = 0x420054;
+
+pub const NAME_VALUE: u32 = 0x420055;
+
 pub const OBJECT_TYPE: u32 = 0x420057;
 
 pub const OFFSET: u32 = 0x420058;

@@ -1,4 +1,4 @@
--- Laws of text. Those above go by `text-plain`: nothing else of text is known outside this crate.
+-- Laws of text. Those above go by `text-plain` and `text-bytes`: nothing else of text is known outside this crate.
 -- Assumes nothing.
 use mathlib.Core.Path.{_≡_, refl, sym, ap, _∙_}
 use Prim.Native.Nat.{ℕ, zero, suc, _+_, _-_, _≤_, _<_}
@@ -9,11 +9,11 @@ use mathlib.Core.Logic.{_⊎_, inl, inr, ⊎-elim}
 use mathlib.Core.List.{List, [], _∷_}
 use lib.ListN.{length, drop, getD, replicate, drop-of-length-le}
 use lib.Seq.{drop-cons}
-use lib.Dec.{leb, eqb}
-use borrow.Author.Tests.{le-leb, lt-leb, leb-true, ne-eqb}
-use Rattle.octets.specs.Octets.{all}
-use Rattle.octets.proofs.If.{ifb-true, ifb-false}
-use Rattle.octets.proofs.Bools.{and-i, and-l, and-r, and-no, and-second}
+use lib.Dec.{leb, ltb, eqb}
+use borrow.Author.Tests.{le-leb, lt-leb, leb-true, ltb-true, ne-eqb}
+use Rattle.octets.specs.Octets.{all, Bytes}
+use Rattle.octets.proofs.If.{ifb-true, ifb-false, on-if}
+use Rattle.octets.proofs.Bools.{and-i, and-l, and-r, and-no, not-both}
 use Rattle.utf8.specs.Text.{Range, _to_, isIn, forms, wrong, tail, begun, later, isWhole, textFrom, text, isPlain}
 use Rattle.utf8.specs.Ranges.{toCome, ranges, rangesOf}
 use Rattle.utf8.specs.declared.ToCome.{ToCome}
@@ -118,3 +118,55 @@ pub text-plain : (v : List ℕ) → all isPlain v ≡ true → text v ≡ true
 unfolding text textFrom all isWhole
 text-plain [] h = refl
 text-plain (x ∷ v) h = ap (λ (toCome : List Range). textFrom toCome v) (plain-later x (and-l (isPlain x) (all isPlain v) h)) ∙ text-plain v (and-r (isPlain x) (all isPlain v) h)
+
+-- ---- text is bytes: no form has a range that ends above 255
+
+abbrev endsLow : Range → Bool
+endsLow r = ltb (r .high) 256
+
+abbrev allLow : List Range → Bool
+allLow toCome = all endsLow toCome
+
+in-low : (r : Range) (x : ℕ) → endsLow r ≡ true → isIn r x ≡ true → x < 256
+in-low r x e h =
+    let top = ltb-true (r .high) 256 e in
+    let at-most = leb-true x (r .high) (and-r (leb (r .low) x) (leb x (r .high)) h) in
+    omega arith
+
+-- what a byte leaves to come: nothing can follow it, or it is below 256 and so is what may follow
+abbrev Low : ℕ → List Range → Type 0
+Low x next = (next ≡ wrong) ⊎ ((x < 256) × (allLow next ≡ true))
+
+begun-low : (x : ℕ) (fs : List (List Range)) → all allLow fs ≡ true → Low x (begun x fs)
+unfolding begun all
+begun-low x [] h = inl refl
+begun-low x ([] ∷ others) h = begun-low x others h
+begun-low x ((r ∷ rest) ∷ others) h =
+    let form = and-l (allLow (r ∷ rest)) (all allLow others) h in
+    on-if (Low x) (λ e. inr (in-low r x (and-l (endsLow r) (allLow rest) form) e, and-r (endsLow r) (allLow rest) form)) (λ e. begun-low x others (and-r (allLow (r ∷ rest)) (all allLow others) h))
+
+later-low : (toCome : List Range) (x : ℕ) → allLow toCome ≡ true → Low x (later toCome x)
+unfolding later all
+later-low [] x h = begun-low x forms refl
+later-low (r ∷ rest) x h = on-if (Low x) (λ e. inr (in-low r x (and-l (endsLow r) (allLow rest) h) e, and-r (endsLow r) (allLow rest) h)) (λ e. inl refl)
+
+never : (s : List ℕ) → textFrom wrong s ≡ false
+unfolding textFrom isWhole
+never [] = refl
+never (x ∷ s) = ap (λ (toCome : List Range). textFrom toCome s) (later-out (1 to 0) [] x (out x)) ∙ never s
+  where
+    out : (x : ℕ) → (x < 1) ⊎ (0 < x)
+    out zero = inl (omega arith)
+    out (suc x) = inr (omega arith)
+
+from-bytes : (toCome : List Range) (v : List ℕ) → allLow toCome ≡ true → textFrom toCome v ≡ true → Bytes v
+unfolding textFrom
+from-bytes toCome [] h e = tt
+from-bytes toCome (x ∷ v) h e = ⊎-elim
+    (λ w. absurd (not-both (textFrom (later toCome x) v) e (ap (λ (next : List Range). textFrom next v) w ∙ never v)))
+    (λ p. (p .0, from-bytes (later toCome x) v (p .1) e))
+    (later-low toCome x h)
+
+pub text-bytes : (v : List ℕ) → text v ≡ true → Bytes v
+unfolding text all
+text-bytes v e = from-bytes [] v refl e

@@ -30,9 +30,9 @@ unfolding all isByte
 bytes-test [] h = tt
 bytes-test (x ∷ s) h = (ltb-true x 256 (and-l (ltb x 256) (all isByte s) h), bytes-test s (and-r (ltb x 256) (all isByte s) h))
 
--- a request on a table, with the strip 0 to 255 twice, a clock and 5,336 bytes of room
+-- a request on a table, with the strip 0 to 255 twice, a clock and 6,360 bytes of room
 abbrev pub callingOn : List ℕ → List ℕ → ℕ → Call
-callingOn t request clock = record { request = request; table = t; strip = countedFrom 0 512; clock = clock; output = replicate 5336 0 }
+callingOn t request clock = record { request = request; table = t; strip = countedFrom 0 512; clock = clock; output = replicate 6360 0 }
 
 -- on a blank table
 abbrev pub calling : List ℕ → ℕ → Call
@@ -44,7 +44,7 @@ lent-on t request clock b r h = record {
   request = bytes-test request r;
   table = b;
   strip = bytes-test (countedFrom 0 512) refl;
-  output = bytes-test (replicate 5336 0) refl;
+  output = bytes-test (replicate 6360 0) refl;
   clock = h;
 }
 

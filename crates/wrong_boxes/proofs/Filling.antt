@@ -12,13 +12,17 @@ use lib.Dec.{lit<}
 use borrow.Author.Tests.{eq-eqb, ne-eqb}
 use Rattle.octets.specs.If.{ifb}
 use Rattle.octets.specs.Octets.{Bytes, countedFrom}
+use Rattle.names.specs.Names.{noName}
+use Rattle.names.proofs.Stored.{none-range}
+use Rattle.names.proofs.Texts.{none-shape, none-text}
 use Rattle.table.specs.declared.Record.{Record}
 use Rattle.table.specs.Layout.{placeCount, materialSize}
 use Rattle.table.specs.Records.{placeAt, serialAt, stateAt, isFree, lastSerial, latestClock, blank}
 use Rattle.table.proofs.Blank.{serial-blank, last-blank, latest-blank}
 use Rattle.table.proofs.Places.{serial-is}
 use Rattle.search.specs.declared.Found.the-variants.{At}
-use Rattle.search.specs.Search.{freePlace, destroyedPlace, newPlace, isDestroyed}
+use Rattle.search.specs.Search.{freePlace, destroyedPlace, newPlace, isDestroyed, isNothing}
+use Rattle.name_search.specs.Names.{findName, isTaken}
 use Rattle.search.proofs.First.{At-same, isNothing-at, found-is, fails-none}
 use Rattle.search.proofs.Finds.{new-free, new-destroyed}
 use Rattle.rules.specs.declared.Attributes.{Attributes}
@@ -40,10 +44,15 @@ use Rattle.wrong_boxes.proofs.Calling.{isByte, bytes-test}
 
 -- AES, 128 bits, mask Encrypt, 100 units of Object
 abbrev pub wanted : Attributes
-wanted = record { bits = 128; mask = 4; unit = 2; total = 100; activation = 0; deactivation = 0 }
+wanted = record { bits = 128; mask = 4; unit = 2; total = 100; activation = 0; deactivation = 0; name = noName }
 
 wanted-allowed : Allowed wanted
-wanted-allowed = record { bits = refl; mask = refl; limit = inr (refl, refl); activation = omega arith; deactivation = omega arith; order = inl refl }
+wanted-allowed = record { bits = refl; mask = refl; limit = inr (refl, refl); activation = omega arith; deactivation = omega arith; order = inl refl; name = none-range; shape = none-shape; text = none-text }
+
+-- no name is never taken
+pub wanted-free : (t : List ℕ) → isTaken placeCount t (wanted .name) ≡ false
+unfolding isTaken findName ifb isNothing
+wanted-free t = refl
 
 -- what item i of a call meets
 abbrev pub own : ℕ → Env
@@ -76,7 +85,7 @@ module _ (i : ℕ) (t : List ℕ) (held : Held placeCount t) (l : materialSize *
 
   pub grown-held : Held placeCount (grown i t)
   grown-held =
-      keeps-born placeCount t held room (own i .fresh) (own-bytes placeCount (countedFrom 0 512) 0 strip-bytes i fits) (own-long placeCount (countedFrom 0 512) 0 strip-bytes i fits) wanted wanted-allowed
+      keeps-born placeCount t held room (own i .fresh) (own-bytes placeCount (countedFrom 0 512) 0 strip-bytes i fits) (own-long placeCount (countedFrom 0 512) 0 strip-bytes i fits) wanted wanted-allowed (wanted-free t)
 
 -- ---- k keys
 

@@ -14,7 +14,7 @@ use Rattle.search.specs.Search.{newPlace}
 use Rattle.soundness.specs.Checked.{isAt}
 use Rattle.soundness.proofs.SoundIs.{sound-is}
 use Rattle.payload.specs.declared.Command.{Command}
-use Rattle.payload.specs.declared.Command.the-variants.{Unsupported, Invalid, Create, Rekey, GetUsageAllocation, Activate, Revoke, Destroy, GetAttributes, Get}
+use Rattle.payload.specs.declared.Command.the-variants.{Unsupported, Invalid, Create, Rekey, GetUsageAllocation, Activate, Revoke, Destroy, GetAttributes, Get, Locate}
 use Rattle.plans.specs.declared.Outcome.{Outcome}
 use Rattle.engine.specs.Effects.{Effect}
 use Rattle.demands.specs.Box.{Call, Box}
@@ -73,6 +73,7 @@ issue-grants x (Revoke target code) o h = refl
 issue-grants x (Destroy target) o h = refl
 issue-grants x (GetAttributes target) o h = refl
 issue-grants x (Get target) o h = refl
+issue-grants x (Locate name) o h = refl
 
 -- whoever stood at a place that is taken is gone
 module _ (log : List Event) (t u : List ℕ) (ev : Event) (tame : Tame ev t u) (before : InOrder log t) (after : InOrder (ev ∷ log) u)

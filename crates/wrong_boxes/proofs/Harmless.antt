@@ -157,12 +157,12 @@ abbrev writing : (Call → List ℕ) → (Call → List ℕ) → Call → Effect
 writing bytes tableOf c = record { number = 0; length = length (bytes c); table = tableOf c; output = over (bytes c) (c .output) }
 
 -- a box that refuses as it should, writes bytes that are short enough where a request is accepted, and leaves whatever table
-writing-1 : (bytes tableOf : Call → List ℕ) → ((c : Call) → Lent c → Accepted c → length (bytes c) ≤ 5336) → Demand1 (λ c e. e ≡ orRefused c (writing bytes tableOf c))
+writing-1 : (bytes tableOf : Call → List ℕ) → ((c : Call) → Lent c → Accepted c → length (bytes c) ≤ 6360) → Demand1 (λ c e. e ≡ orRefused c (writing bytes tableOf c))
 writing-1 bytes tableOf short =
     fits-meets-1 (λ c. orRefused c (writing bytes tableOf c)) (λ c lent. fits-or-refused c (writing bytes tableOf c) (λ h.
     let a : Accepted c = told-accepted c (served c) (told c) (served-number c ∙ h) in
-    let room : 5336 ≤ length (c .output) = a .room in
-    let l : length (bytes c) ≤ 5336 = short c lent a in (
+    let room : 6360 ≤ length (c .output) = a .room in
+    let l : length (bytes c) ≤ 6360 = short c lent a in (
       refl,
       record {
         short = l;
@@ -173,7 +173,7 @@ writing-1 bytes tableOf short =
     )))
 
 -- one answer for all, if it is short enough
-pub same-answer-1 : (bytes : List ℕ) (tableOf : Call → List ℕ) → length bytes ≤ 5336 → Demand1 (SameAnswer bytes tableOf)
+pub same-answer-1 : (bytes : List ℕ) (tableOf : Call → List ℕ) → length bytes ≤ 6360 → Demand1 (SameAnswer bytes tableOf)
 same-answer-1 bytes tableOf short = writing-1 (λ c. bytes) tableOf (λ c lent a. short)
 
 -- answers that a response may have
@@ -187,7 +187,7 @@ unfolding all
 fine-first [] f = f
 fine-first (a ∷ answers) f = record { ok = and-i (answerOk a) true (and-l (answerOk a) (all answerOk answers) (f .ok)) refl; some = omega arith; few = omega arith }
 
-fine-short : (clock : ℕ) (answers : List Answer) → aboveZero clock ≡ true → Fine answers → length (encode (respond (record { clock = clock; answers = answers }))) ≤ 5336
+fine-short : (clock : ℕ) (answers : List Answer) → aboveZero clock ≡ true → Fine answers → length (encode (respond (record { clock = clock; answers = answers }))) ≤ 6360
 unfolding allowed
 fine-short clock answers h f =
     let n = length answers in

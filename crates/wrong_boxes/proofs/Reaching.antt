@@ -3,7 +3,7 @@
 use Prim.Native.Nat.{ℕ, zero, suc, _+_, _≤_, _<_}
 use native.Mathlib.Nat.{max-eq-left}
 use native.Mathlib.Omega.{arith}
-use mathlib.Core.Path.{_≡_, refl, sym, ap, _∙_}
+use mathlib.Core.Path.{_≡_, refl, sym, ap, ap₂, _∙_}
 use mathlib.Core.Bool.{Bool, true, false}
 use mathlib.Core.Option.{Option, none, some}
 use mathlib.Core.List.{List, [], _∷_, _++_}
@@ -20,7 +20,7 @@ use Rattle.table.specs.Layout.{placeCount}
 use Rattle.table.specs.Records.{blank}
 use Rattle.soundness.specs.Sound.{sound}
 use Rattle.soundness.proofs.Blank.{blank-sound}
-use Rattle.rules.specs.declared.Reason.the-variants.{ServerLimitExceeded}
+use Rattle.rules.specs.declared.Reason.the-variants.{ServerLimitExceeded, NonUniqueName}
 use Rattle.rules.specs.Tests.{due}
 use Rattle.changes.specs.Changes.{isFull, nextSerial}
 use Rattle.changes.specs.Dates.{began}
@@ -42,7 +42,7 @@ use Rattle.demands.specs.Demand3.{Run, begins, calls}
 use Rattle.wrong_boxes.specs.Wrong.{ranUnder, regranting, Regrants}
 use Rattle.cases.proofs.Cases.{opened}
 use Rattle.wrong_boxes.proofs.Calling.{isByte, callingOn, calling, lent-on, accepted-is}
-use Rattle.wrong_boxes.proofs.Filling.{wanted, own, grown, Filled, filled-blank, filled-room, filled-more, begunAt, filled-begun}
+use Rattle.wrong_boxes.proofs.Filling.{wanted, wanted-free, own, grown, Filled, filled-blank, filled-room, filled-more, begunAt, filled-begun}
 
 -- ---- the requests
 
@@ -166,7 +166,7 @@ pub create-step : (i holder : ℕ) (t : List ℕ) → isFull placeCount t ≡ fa
 unfolding decided plan createPlan due carried ifb
 create-step i holder t room =
     planned i holder t createAsked (Create wanted) create-command
-    ∙ ap (λ (full : Bool). carried t (created i t) (ifb full (some ServerLimitExceeded) none)) room
+    ∙ ap₂ (λ (taken full : Bool). carried t (created i t) (ifb taken (some NonUniqueName) (ifb full (some ServerLimitExceeded) none))) (wanted-free t) room
 
 -- ---- the run
 

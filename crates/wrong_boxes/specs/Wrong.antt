@@ -23,11 +23,11 @@ use Rattle.frame.specs.Frame.{Frame, optionOf, continue}
 use Rattle.words.specs.Words.{wordsSize, wordsOf}
 use Rattle.target_read.specs.declared.Target.the-variants.{Placeholder, Serial}
 use Rattle.payload.specs.declared.Command.{Command}
-use Rattle.payload.specs.declared.Command.the-variants.{Unsupported, Invalid, Create, Rekey, GetUsageAllocation, Activate, Revoke, Destroy, GetAttributes, Get}
+use Rattle.payload.specs.declared.Command.the-variants.{Unsupported, Invalid, Create, Rekey, GetUsageAllocation, Activate, Revoke, Destroy, GetAttributes, Get, Locate}
 use Rattle.payload.specs.Payload.{command}
 use Rattle.plans.specs.declared.Key.{Key}
 use Rattle.plans.specs.declared.Outcome.{Outcome}
-use Rattle.plans.specs.declared.Outcome.the-variants.{Failed, Created, Done, Showed, Got}
+use Rattle.plans.specs.declared.Outcome.the-variants.{Failed, Created, Done, Showed, Got, Located}
 use Rattle.answer.specs.Respond.{Answer, respond}
 use Rattle.engine.specs.Effects.{Effect}
 use Rattle.engine.specs.Batch.{Ran, running}
@@ -197,6 +197,7 @@ undeadFor x (Created serial) = Created serial
 undeadFor x (Done serial) = Done serial
 undeadFor x (Showed shown) = Showed shown
 undeadFor x (Got key) = Got key
+undeadFor x (Located serial) = Located serial
 
 unfoldable pub undead : Command → Outcome → Outcome
 undead Unsupported o = o
@@ -208,6 +209,7 @@ undead (Activate target) o = o
 undead (Revoke target code) o = o
 undead (Destroy target) o = o
 undead (GetAttributes target) o = o
+undead (Locate name) o = o
 undead (Get Placeholder) o = o
 undead (Get (Serial x)) o = undeadFor x o
 

@@ -1,9 +1,11 @@
 //! The race: the proved engine, linked, against the ordinary one, in one run on one machine, which is an x86-64.
 //! Prints nanoseconds a call and their ratio. What is timed, and how buffers are restored, is said in its first lines.
 
-use junctionmoth::message::{allocation, byte_string, create, item, raw_text, request, target, Node};
+use junctionmoth::message::{
+    allocation, byte_string, create, create_with, item, location, name, raw_text, request, target, Node,
+};
 use junctionmoth::model::operations::identifier;
-use junctionmoth::model::table::{Record, Table};
+use junctionmoth::model::table::{Name, Record, Table};
 use junctionmoth::{ordinary, Engine, LINKED, ROOM, STRIP};
 use std::hint::black_box;
 use std::time::Instant;
@@ -27,7 +29,7 @@ struct Buffers {
 }
 
 const METHOD: &str = "\
-Before each call the table is restored by copying its 5,648 bytes from a kept one; the time of that copy, measured in
+Before each call the table is restored by copying its 8,208 bytes from a kept one; the time of that copy, measured in
 rounds of its own, is taken off. The output is not restored: no engine reads it, and a call writes its response whole.
 ";
 
@@ -38,6 +40,10 @@ the time of that refusal is the time of the check. Of the ordinary engine the ch
 const DATES: &str = "\
 Dates: 64 Pre-Active keys, each with an activation date that is ahead (nothing is due) or has come (64 become Active
 before the first item). The difference is what making the changes costs; looking for them is in both.";
+
+const NAMES: &str = "\
+Names: 64 keys, of which the last 16 are destroyed, with names of 32 bytes that differ in their last two. The check of
+such a table is in each line, and with it the comparison of every two names.";
 
 const IDENTIFIER: &str = "\
 Identifier text: nanoseconds for turning one text into a serial, read off whole calls. A call is 16 Activate items under
@@ -73,6 +79,7 @@ fn main() {
         run(proved, &scene, restore);
     }
     dates(proved, restore);
+    names(proved, restore);
     soundness(proved, restore);
     identifiers(proved);
     texts(proved);
@@ -194,11 +201,45 @@ fn waiting() -> Vec<u8> {
     table.encode()
 }
 
+/// Items that look for a name or show one: alone and sixteen of them.
+fn names(proved: Engine, restore: f64) {
+    println!("\n{NAMES}");
+    for size in [1, 16] {
+        let batch = |make: &dyn Fn(u32) -> Node| (0..size).map(make).collect::<Vec<_>>();
+        let key = |number| create_with(create(256, 4, None), name(&name_of(number)));
+        let operations = [
+            ("Create with a new name", batch(&|index| item(0x01, Some(b"A1"), key(64 + index)))),
+            ("Create with a name that is taken", batch(&|_| item(0x01, Some(b"A1"), key(63)))),
+            ("Locate, found last", batch(&|index| item(0x08, Some(b"A1"), location(&name_of(63 - index))))),
+            ("Locate, not found", batch(&|index| item(0x08, Some(b"A1"), location(&name_of(64 + index))))),
+            ("Get Attributes", batch(&|index| item(0x0B, Some(b"A1"), target(Some(&identifier(index + 1)))))),
+        ];
+        for (operation, items) in operations {
+            let name = format!("{operation} x {size}");
+            run(proved, &Scene { name, request: request(Some(1), items).encode(), table: named(), clock: 1 }, restore);
+        }
+    }
+}
+
+/// A name of 32 bytes that differs from others in its end; from 64 on no key in `named` has it.
+fn name_of(number: u32) -> String {
+    format!("station 12, row 3, step, no. {number:03}")
+}
+
+/// The full table with a name for each key.
+fn named() -> Vec<u8> {
+    let mut table = Table::decode(&full());
+    for (number, record) in (0..).zip(&mut table.places) {
+        record.name = Name::of(name_of(number).as_bytes());
+    }
+    table.encode()
+}
+
 /// The soundness check, seen through refusal 4, and that of the ordinary engine by itself.
 fn soundness(proved: Engine, restore: f64) {
     println!("\n{SOUNDNESS}");
     let mut tables = tables().to_vec();
-    tables.push(("full, unordered", unordered()));
+    tables.extend([("full, unordered", unordered()), ("full, 64 names", named())]);
     for (fill, table) in tables {
         let name = format!("refusal 4, {fill} table");
         let alone = fastest((0..ROUNDS).map(|_| checking(&table)).collect());

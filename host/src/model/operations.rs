@@ -1,10 +1,10 @@
-//! The eight operations on records.
+//! The nine operations on records.
 //! Starts from a sound table, whose latest clock is the one that counts; a failed item leaves it as it was.
 
 use super::dates::{self, has_come};
 use super::frame::BatchItem;
 use super::payload::{self, Action, Order, Target, Wanted};
-use super::table::{Record, Table};
+use super::table::{Name, Record, Table};
 
 /// Why an item failed, with the number of the Result Reason.
 #[derive(Clone, Copy, Debug, PartialEq, Eq, PartialOrd, Ord, Hash)]
@@ -13,6 +13,7 @@ pub enum Reason {
     InvalidField = 0x07,
     PermissionDenied = 0x0C,
     UsageLimitExceeded = 0x1A,
+    NonUniqueNameAttribute = 0x35,
     ObjectDestroyed = 0x36,
     ObjectNotFound = 0x37,
     ServerLimitExceeded = 0x3A,
@@ -27,6 +28,8 @@ pub enum Success {
     Done(u32),
     Attributes(Record),
     Key(Record),
+    /// The record that has the name, if there is one.
+    Located(Option<u32>),
 }
 
 /// The answer to an item.
@@ -57,6 +60,7 @@ impl<'a> KeyBox<'a> {
         let result = self.carry_out(item, fresh);
         match &result {
             Ok(Success::Created(serial) | Success::Rekeyed(serial)) => self.placeholder = Some(*serial),
+            Ok(Success::Located(found)) => self.placeholder = *found,
             Ok(Success::Done(_) | Success::Attributes(_) | Success::Key(_)) => {}
             Err(_) => {
                 self.table = before;
@@ -69,6 +73,10 @@ impl<'a> KeyBox<'a> {
     fn carry_out(&mut self, item: &BatchItem, fresh: &[u8]) -> Result<Success, Reason> {
         match payload::read(item.operation, &item.payload)? {
             Order::Create(wanted) => self.create(wanted, fresh),
+            Order::Locate(name) => {
+                let found = self.table.find_name(name.as_bytes());
+                Ok(Success::Located(found.map(|record| record.serial)))
+            }
             Order::Target(target, action) => {
                 let serial = self.resolve(target).ok_or(Reason::ObjectNotFound)?;
                 self.act(serial, action, fresh)
@@ -108,8 +116,12 @@ impl<'a> KeyBox<'a> {
     fn create(&mut self, wanted: Wanted, fresh: &[u8]) -> Result<Success, Reason> {
         let (total, unit) = wanted.limit.map_or((0, 0), |limit| (limit.total, limit.unit));
         let (activation, deactivation) = (wanted.activation.unwrap_or(0), wanted.deactivation.unwrap_or(0));
+        if wanted.name.as_ref().is_some_and(|name| self.table.find_name(name.as_bytes()).is_some()) {
+            return Err(Reason::NonUniqueNameAttribute);
+        }
+        let name = wanted.name.as_ref().map_or(Name::default(), |name| Name::of(name.as_bytes()));
         let Wanted { length, mask, .. } = wanted;
-        let key = Record { state: 1, length, mask, total, unit, activation, deactivation, ..Record::default() };
+        let key = Record { state: 1, length, mask, total, unit, activation, deactivation, name, ..Record::default() };
         self.issue(key, fresh).map(Success::Created)
     }
 
@@ -127,11 +139,13 @@ impl<'a> KeyBox<'a> {
         let mut key = Record { replaced: old, replacement: 0, activation, deactivation, ..record };
         key.state = dates::first_state(&key, clock);
         let new = self.issue(key, fresh)?;
-        self.record(old).replacement = new;
+        let old = self.record(old);
+        old.replacement = new;
+        old.name = Name::default();
         Ok(Success::Rekeyed(new))
     }
 
-    /// Puts a new key with this state and these attributes, dates and links into its place, and gives its serial.
+    /// Puts a new key with this state and these attributes, dates, links and name into its place, and gives its serial.
     fn issue(&mut self, key: Record, fresh: &[u8]) -> Result<u32, Reason> {
         let place = self.place_for_new().ok_or(Reason::ServerLimitExceeded)?;
         let serial = self.table.last.checked_add(1).ok_or(Reason::ServerLimitExceeded)?;

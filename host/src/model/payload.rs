@@ -10,6 +10,8 @@ use super::ttlv::{Item, Value};
 #[derive(Debug)]
 pub enum Order {
     Create(Wanted),
+    /// The record with this name.
+    Locate(String),
     Target(Target, Action),
 }
 
@@ -21,6 +23,7 @@ pub struct Wanted {
     pub limit: Option<Limit>,
     pub activation: Option<i64>,
     pub deactivation: Option<i64>,
+    pub name: Option<String>,
 }
 
 /// A usage limit.
@@ -53,6 +56,7 @@ pub enum Action {
 pub fn read(operation: u32, payload: &[Item]) -> Result<Order, Reason> {
     match operation {
         CREATE => read_create(payload).map(Order::Create).ok_or(Reason::InvalidField),
+        LOCATE => read_locate(payload).map(Order::Locate).ok_or(Reason::InvalidField),
         REKEY | GET | GET_ATTRIBUTES | GET_USAGE_ALLOCATION | ACTIVATE | REVOKE | DESTROY => {
             let (target, rest) = read_target(payload).ok_or(Reason::InvalidField)?;
             let action = read_action(operation, rest).ok_or(Reason::InvalidField)?;
@@ -108,7 +112,7 @@ fn read_create(payload: &[Item]) -> Option<Wanted> {
 }
 
 /// Cryptographic Algorithm = 3, Cryptographic Length, Cryptographic Usage Mask, [Usage Limits], [Activation Date],
-/// [Deactivation Date]; deactivation is not before activation
+/// [Deactivation Date], [Name]; deactivation is not before activation
 fn read_wanted(attributes: &[Item]) -> Option<Wanted> {
     let [algorithm, length, mask, rest @ ..] = attributes else {
         return None;
@@ -120,12 +124,33 @@ fn read_wanted(attributes: &[Item]) -> Option<Wanted> {
     let (limit, rest) = read_optional(USAGE_LIMITS, rest, read_limits)?;
     let (activation, rest) = read_optional(ACTIVATION_DATE, rest, |date| read_date(date, ACTIVATION_DATE))?;
     let (deactivation, rest) = read_optional(DEACTIVATION_DATE, rest, |date| read_date(date, DEACTIVATION_DATE))?;
+    let (name, rest) = read_optional(NAME, rest, read_name)?;
     let in_order = match (activation, deactivation) {
         (Some(activation), Some(deactivation)) => activation <= deactivation,
         _ => true,
     };
-    let wanted = Wanted { length: length as u16, mask: mask as u32, limit, activation, deactivation };
+    let wanted = Wanted { length: length as u16, mask: mask as u32, limit, activation, deactivation, name };
     (allowed && in_order && rest.is_empty()).then_some(wanted)
+}
+
+/// Attributes { Name }
+fn read_locate(payload: &[Item]) -> Option<String> {
+    let [attributes] = payload else {
+        return None;
+    };
+    let [name] = attributes.structure(ATTRIBUTES)? else {
+        return None;
+    };
+    read_name(name)
+}
+
+/// Name { Name Value, Name Type = 1, which is uninterpreted text }; 1 to 32 bytes
+fn read_name(name: &Item) -> Option<String> {
+    let [value, kind] = name.structure(NAME)? else {
+        return None;
+    };
+    let (value, kind) = (value.text(NAME_VALUE)?, kind.enumeration(NAME_TYPE)?);
+    ((1..=32).contains(&value.len()) && kind == 1).then(|| value.to_string())
 }
 
 /// What an item that may be missing holds, and what follows it; nothing if it is there and holds something else.

@@ -47,6 +47,7 @@ fn payload(success: &Success) -> Vec<Item> {
     match success {
         Success::Created(serial) => vec![enumeration(OBJECT_TYPE, 2), text(UNIQUE_IDENTIFIER, *serial)],
         Success::Rekeyed(serial) | Success::Done(serial) => vec![text(UNIQUE_IDENTIFIER, *serial)],
+        Success::Located(found) => found.iter().map(|&serial| text(UNIQUE_IDENTIFIER, serial)).collect(),
         Success::Attributes(record) => {
             vec![text(UNIQUE_IDENTIFIER, record.serial), structure(ATTRIBUTES, attributes(record))]
         }
@@ -61,7 +62,8 @@ fn payload(success: &Success) -> Vec<Item> {
     }
 }
 
-/// Algorithm, length, mask, State, the dates that are set, Usage Limits if any, Links: replaced, then replacement
+/// Algorithm, length, mask, State, the dates that are set, Usage Limits if any, Links: replaced, then replacement; Name if
+/// any
 fn attributes(record: &Record) -> Vec<Item> {
     let mut fields = vec![
         enumeration(CRYPTOGRAPHIC_ALGORITHM, 3),
@@ -87,6 +89,12 @@ fn attributes(record: &Record) -> Vec<Item> {
             let link = vec![enumeration(LINK_TYPE, link_type), text(LINKED_OBJECT_IDENTIFIER, serial)];
             fields.push(structure(LINK, link));
         }
+    }
+    if let Some(name) = record.name.text() {
+        // of what is text nothing is lost
+        let value = Value::Text(String::from_utf8_lossy(name).into_owned());
+        let name = vec![Item { tag: NAME_VALUE, value }, enumeration(NAME_TYPE, 1)];
+        fields.push(structure(NAME, name));
     }
     fields
 }

@@ -1,7 +1,8 @@
 //! Soundness of a stored table, as a list of named rules.
 //! A table is sound if none of them is broken.
 
-use super::table::{Record, Table, SIZE};
+use super::table::{Name, Record, Table, SIZE};
+use super::ttlv::is_text;
 
 /// The greatest total of a usage limit.
 pub const GREATEST_TOTAL: u64 = 1_000_000_000_000;
@@ -16,7 +17,7 @@ pub struct Rule {
 pub const SIZE_RULE: &str = "size";
 
 /// All other rules.
-pub const RULES: [Rule; 23] = [
+pub const RULES: [Rule; 28] = [
     Rule { name: "place count", kept: |table| table.place_count == 64 },
     Rule { name: "free line", kept: |table| table.places.iter().all(|record| !record.is_free() || line_zero(record)) },
     Rule { name: "free body", kept: |table| table.places.iter().all(|record| !record.is_free() || body_zero(record)) },
@@ -43,6 +44,11 @@ pub const RULES: [Rule; 23] = [
         name: "Active has begun",
         kept: |table| table.standing().all(|record| active_has_begun(record, table.latest)),
     },
+    Rule { name: "name length", kept: |table| table.standing().all(|record| record.name.length <= 32) },
+    Rule { name: "name zeros", kept: |table| table.standing().all(|record| record.name.zeros == [0; 7]) },
+    Rule { name: "name past length", kept: |table| table.standing().all(name_within_length) },
+    Rule { name: "name is text", kept: |table| table.standing().all(name_is_text) },
+    Rule { name: "names differ", kept: names_differ },
 ];
 
 /// The names of all rules, in the order in which they are looked at.
@@ -66,7 +72,8 @@ fn line_zero(record: &Record) -> bool {
 
 fn body_zero(record: &Record) -> bool {
     let numbers = [record.total, record.count, u64::from(record.mask), u64::from(record.zeros)];
-    numbers == [0; 4] && record.material == [0; 32] && record.activation == 0 && record.deactivation == 0
+    let dates = [record.activation, record.deactivation];
+    numbers == [0; 4] && record.material == [0; 32] && dates == [0; 2] && record.name == Name::default()
 }
 
 fn serials_distinct(table: &Table) -> bool {
@@ -129,4 +136,18 @@ fn dates_in_order(record: &Record) -> bool {
 /// A set activation date of an Active key is at most the latest clock.
 fn active_has_begun(record: &Record, latest: i64) -> bool {
     record.state != 2 || record.activation == 0 || record.activation <= latest
+}
+
+fn name_within_length(record: &Record) -> bool {
+    record.name.room.iter().skip(usize::from(record.name.length)).all(|&byte| byte == 0)
+}
+
+fn name_is_text(record: &Record) -> bool {
+    record.name.text().is_none_or(is_text)
+}
+
+/// No two records have the same name, destroyed ones among them.
+fn names_differ(table: &Table) -> bool {
+    let names: Vec<&[u8]> = table.standing().filter_map(|record| record.name.text()).collect();
+    names.iter().all(|name| names.iter().filter(|other| *other == name).count() == 1)
 }

@@ -4,7 +4,7 @@
 /// Places in a table.
 pub const PLACES: usize = 64;
 /// Bytes of a body.
-const BODY: usize = 72;
+const BODY: usize = 112;
 /// Bytes of a table.
 pub const SIZE: usize = 16 + PLACES * 16 + PLACES * BODY;
 
@@ -17,7 +17,7 @@ pub struct Table {
     pub places: Vec<Record>,
 }
 
-/// Line and body of one place; serial 0 means free, and a date of 0 is not set.
+/// Line and body of one place; serial 0 means free, a date of 0 is not set, and a name of length 0 is none.
 #[derive(Clone, Debug, Default, PartialEq)]
 pub struct Record {
     pub serial: u32,
@@ -33,11 +33,37 @@ pub struct Record {
     pub material: [u8; 32],
     pub activation: i64,
     pub deactivation: i64,
+    pub name: Name,
 }
 
 impl Record {
     pub fn is_free(&self) -> bool {
         self.serial == 0
+    }
+}
+
+/// A name as a body has it: a length byte, seven bytes, and 32 of which the name takes the first.
+#[derive(Clone, Debug, Default, PartialEq)]
+pub struct Name {
+    pub length: u8,
+    pub zeros: [u8; 7],
+    pub room: [u8; 32],
+}
+
+impl Name {
+    /// A name of at most 32 bytes, stored as it has to be.
+    pub fn of(text: &[u8]) -> Name {
+        let mut room = [0; 32];
+        room[..text.len()].copy_from_slice(text);
+        Name { length: text.len() as u8, zeros: [0; 7], room }
+    }
+
+    /// The bytes of the name; nothing if there is no name. One that says it is longer than its room has all of that.
+    pub fn text(&self) -> Option<&[u8]> {
+        match usize::from(self.length) {
+            0 => None,
+            length => Some(&self.room[..length.min(32)]),
+        }
     }
 }
 
@@ -55,6 +81,11 @@ impl Table {
     /// The record with this serial.
     pub fn find(&self, serial: u32) -> Option<&Record> {
         self.standing().find(|record| record.serial == serial)
+    }
+
+    /// The record that has this name.
+    pub fn find_name(&self, name: &[u8]) -> Option<&Record> {
+        self.standing().find(|record| record.name.text() == Some(name))
     }
 
     /// The records of a table of the right size.
@@ -99,9 +130,14 @@ fn decode_record(line: &[u8], body: &[u8]) -> Record {
         count: number(body, 8, 8),
         mask: number(body, 16, 4) as u32,
         zeros: number(body, 20, 4) as u32,
-        material: body[24..56].try_into().expect("a body has 72 bytes"),
+        material: body[24..56].try_into().expect("a body has 112 bytes"),
         activation: number(body, 56, 8) as i64,
         deactivation: number(body, 64, 8) as i64,
+        name: Name {
+            length: body[72],
+            zeros: body[73..80].try_into().expect("a body has 112 bytes"),
+            room: body[80..112].try_into().expect("a body has 112 bytes"),
+        },
     }
 }
 
@@ -122,4 +158,7 @@ fn encode_body(record: &Record, bytes: &mut Vec<u8>) {
     bytes.extend(record.material);
     bytes.extend(record.activation.to_be_bytes());
     bytes.extend(record.deactivation.to_be_bytes());
+    bytes.push(record.name.length);
+    bytes.extend(record.name.zeros);
+    bytes.extend(record.name.room);
 }

@@ -16,6 +16,9 @@ pub const KEY_VALUE: u32 = 0x420045;
 pub const LINK: u32 = 0x42004A;
 pub const LINK_TYPE: u32 = 0x42004B;
 pub const LINKED_OBJECT_IDENTIFIER: u32 = 0x42004C;
+pub const NAME: u32 = 0x420053;
+pub const NAME_TYPE: u32 = 0x420054;
+pub const NAME_VALUE: u32 = 0x420055;
 pub const OBJECT_TYPE: u32 = 0x420057;
 pub const OFFSET: u32 = 0x420058;
 pub const OPERATION: u32 = 0x42005C;
@@ -45,6 +48,7 @@ pub const ATTRIBUTES: u32 = 0x420125;
 
 pub const CREATE: u32 = 0x01;
 pub const REKEY: u32 = 0x04;
+pub const LOCATE: u32 = 0x08;
 pub const GET: u32 = 0x0A;
 pub const GET_ATTRIBUTES: u32 = 0x0B;
 pub const GET_USAGE_ALLOCATION: u32 = 0x11;

@@ -1,8 +1,8 @@
-//! The eight operations on the stored table.
+//! The nine operations on the stored table.
 //! Starts from a sound table and writes only when an item succeeds.
 
 use super::request::{BatchItem, Order, Target, Unusable, Wanted};
-use super::stored::{Dates, Line, Table, Usage};
+use super::stored::{Dates, Key, Line, Name, Table, Usage};
 
 /// Why an item failed, with the number of the Result Reason.
 #[derive(Clone, Copy)]
@@ -11,6 +11,7 @@ pub enum Reason {
     InvalidField = 0x07,
     PermissionDenied = 0x0C,
     UsageLimitExceeded = 0x1A,
+    NonUniqueNameAttribute = 0x35,
     ObjectDestroyed = 0x36,
     ObjectNotFound = 0x37,
     ServerLimitExceeded = 0x3A,
@@ -21,7 +22,9 @@ pub enum Reason {
 pub enum Outcome {
     Created(u32),
     Named(u32),
-    Described(Line, Usage, Dates),
+    /// Locate found no record.
+    NoneNamed,
+    Described(Key),
     HandedOut(Line, [u8; 32]),
     Failed(Reason),
 }
@@ -65,6 +68,7 @@ impl<'a> Session<'a> {
         })?;
         match order {
             Order::Create(wanted) => self.create(wanted, fresh),
+            Order::Locate(name) => Ok(self.locate(&name)),
             Order::Rekey(target, offset) => self.rekey(target, offset, fresh),
             Order::Allocate(target, amount) => self.allocate(target, amount),
             Order::Activate(target) => self.activate(target),
@@ -80,7 +84,7 @@ impl<'a> Session<'a> {
             }
             Order::Attributes(target) => {
                 let (place, line) = self.find(target)?;
-                Ok(Outcome::Described(line, self.table.usage(place), self.table.dates(place)))
+                Ok(Outcome::Described(self.table.key(place, line)))
             }
         }
     }
@@ -96,13 +100,28 @@ impl<'a> Session<'a> {
     }
 
     fn create(&mut self, wanted: Wanted, fresh: &[u8; 32]) -> Result<Outcome, Reason> {
-        let Wanted { length, mask, unit, total, dates } = wanted;
+        let Wanted { length, mask, unit, total, dates, name } = wanted;
+        if self.table.find_name(&name).is_some() {
+            return Err(Reason::NonUniqueNameAttribute);
+        }
         let line = Line { serial: 0, state: 1, unit, length, replaced: 0, replacement: 0 };
-        let serial = self.issue(line, Usage { total, count: total, mask }, dates, fresh)?;
+        let usage = Usage { total, count: total, mask };
+        let serial = self.issue(Key { line, usage, dates, name }, fresh)?;
         Ok(Outcome::Created(serial))
     }
 
-    /// A replacement stands where its dates put it: they are due at once, and may be moved by an Offset.
+    /// The record that has the name becomes the placeholder; if none has, there is none.
+    fn locate(&mut self, name: &Name) -> Outcome {
+        let Some(place) = self.table.find_name(name) else {
+            self.placeholder = 0;
+            return Outcome::NoneNamed;
+        };
+        self.placeholder = self.table.line(place).serial;
+        Outcome::Named(self.placeholder)
+    }
+
+    /// A replacement stands where its dates put it: they are due at once, and may be moved by an Offset. The name goes over
+    /// to it.
     fn rekey(&mut self, target: Target, offset: Option<u32>, fresh: &[u8; 32]) -> Result<Outcome, Reason> {
         let (place, line) = self.find(target)?;
         if matches!(line.state, 5 | 6) {
@@ -111,21 +130,24 @@ impl<'a> Session<'a> {
         if line.replacement != 0 {
             return Err(Reason::PermissionDenied);
         }
-        let (usage, mut dates) = (self.table.usage(place), self.table.dates(place));
+        let Key { usage, mut dates, name, .. } = self.table.key(place, line);
         if let Some(seconds) = offset {
             dates = dates.moved_to(self.now + u64::from(seconds)).ok_or(Reason::InvalidField)?;
         }
         let new = Line { state: dates.state_at(self.now, 1), replaced: line.serial, ..line };
-        let serial = self.issue(new, Usage { count: usage.total, ..usage }, dates, fresh)?;
+        let usage = Usage { count: usage.total, ..usage };
+        let serial = self.issue(Key { line: new, usage, dates, name }, fresh)?;
         self.table.set_line(place, Line { replacement: serial, ..line });
+        self.table.clear_name(place);
         Ok(Outcome::Named(serial))
     }
 
     /// Gives the new record the next serial and the place due to it, and sets the placeholder.
-    fn issue(&mut self, line: Line, usage: Usage, dates: Dates, fresh: &[u8; 32]) -> Result<u32, Reason> {
+    fn issue(&mut self, key: Key, fresh: &[u8; 32]) -> Result<u32, Reason> {
         let serial = self.table.last().checked_add(1).ok_or(Reason::ServerLimitExceeded)?;
         let place = self.table.place_for_new().ok_or(Reason::ServerLimitExceeded)?;
-        self.table.put(place, Line { serial, ..line }, usage, dates, fresh);
+        let line = Line { serial, ..key.line };
+        self.table.put(place, &Key { line, ..key }, fresh);
         self.placeholder = serial;
         Ok(serial)
     }

@@ -2,7 +2,7 @@
 //! Starts from well-formed TTLV.
 
 use super::items::Fields;
-use super::stored::Dates;
+use super::stored::{Dates, Name};
 
 /// A request whose frame is right.
 pub struct Frame<'a> {
@@ -23,6 +23,7 @@ pub struct BatchItem<'a> {
 /// What an item asks for.
 pub enum Order<'a> {
     Create(Wanted),
+    Locate(Name),
     /// With its Offset, if one is given.
     Rekey(Target<'a>, Option<u32>),
     Allocate(Target<'a>, u64),
@@ -36,13 +37,14 @@ pub enum Order<'a> {
 /// The text of the identifier, if one is given.
 pub type Target<'a> = Option<&'a [u8]>;
 
-/// The attributes of a key to be created; unit 0 with total 0 for no limit.
+/// The attributes of a key to be created; unit 0 with total 0 for no limit, and the empty name for none.
 pub struct Wanted {
     pub length: u16,
     pub mask: u32,
     pub unit: u8,
     pub total: u64,
     pub dates: Dates,
+    pub name: Name,
 }
 
 /// Why an item's payload does not give an order.
@@ -95,7 +97,7 @@ impl<'a> BatchItem<'a> {
 
     /// What the item asks for.
     pub fn order(&self) -> Result<Order<'a>, Unusable> {
-        if !matches!(self.operation, 0x01 | 0x04 | 0x0A | 0x0B | 0x11..=0x14) {
+        if !matches!(self.operation, 0x01 | 0x04 | 0x08 | 0x0A | 0x0B | 0x11..=0x14) {
             return Err(Unusable::Operation);
         }
         let mut payload = self.payload;
@@ -109,8 +111,10 @@ impl<'a> BatchItem<'a> {
 }
 
 fn read_order<'a>(operation: u32, payload: &mut Fields<'a>) -> Option<Order<'a>> {
-    if operation == 0x01 {
-        return Wanted::read(payload).map(Order::Create);
+    match operation {
+        0x01 => return Wanted::read(payload).map(Order::Create),
+        0x08 => return read_wanted_name(payload).map(Order::Locate),
+        _ => {}
     }
     let target = read_target(payload)?;
     match operation {
@@ -162,12 +166,13 @@ impl Wanted {
         let mask = attributes.word(0x42002C02)?;
         let (total, unit) = if attributes.next_has_tag(0x420095) { read_limits(&mut attributes)? } else { (0, 0) };
         let dates = read_dates(&mut attributes)?;
+        let name = if attributes.is_empty() { Name::default() } else { read_name(&mut attributes)? };
         let allowed = object_type == 2
             && algorithm == 3
             && matches!(length, 128 | 192 | 256)
             && mask <= 0x00FF_FFFF
             && attributes.is_empty();
-        allowed.then_some(Wanted { length: length as u16, mask, unit, total, dates })
+        allowed.then_some(Wanted { length: length as u16, mask, unit, total, dates, name })
     }
 }
 
@@ -177,6 +182,21 @@ fn read_limits(attributes: &mut Fields) -> Option<(u64, u8)> {
     let unit = limits.word(0x42009805)?;
     let allowed = limits.is_empty() && (1..=super::stored::GREATEST_TOTAL).contains(&total) && matches!(unit, 1 | 2);
     allowed.then_some((total, unit as u8))
+}
+
+/// The name that Locate looks for: the only attribute.
+fn read_wanted_name(payload: &mut Fields) -> Option<Name> {
+    let mut attributes = payload.structure(0x42012501)?;
+    let name = read_name(&mut attributes)?;
+    attributes.is_empty().then_some(name)
+}
+
+/// Uninterpreted text of 1 to 32 bytes.
+fn read_name(attributes: &mut Fields) -> Option<Name> {
+    let mut fields = attributes.structure(0x42005301)?;
+    let name = Name::new(fields.take(0x42005507)?)?;
+    let uninterpreted = fields.word(0x42005405)? == 1;
+    (uninterpreted && fields.is_empty()).then_some(name)
 }
 
 fn read_dates(attributes: &mut Fields) -> Option<Dates> {

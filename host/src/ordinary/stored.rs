@@ -9,11 +9,14 @@ const LAST_DATE: u64 = i64::MAX as u64;
 
 const LEAD: usize = 16;
 const LINE: usize = 16;
-const BODY: usize = 72;
+const BODY: usize = 112;
 
-/// Where a body has its material, and its dates.
+/// Where a body has its material, its dates and its name.
 const MATERIAL: std::ops::Range<usize> = 24..56;
-const DATES: std::ops::Range<usize> = 56..BODY;
+const DATES: std::ops::Range<usize> = 56..72;
+const NAME: std::ops::Range<usize> = 72..BODY;
+/// Where a name has its text: behind its length and seven zeros.
+const TEXT: usize = 8;
 /// Where the lead has the latest clock seen.
 const LATEST: std::ops::Range<usize> = 8..LEAD;
 
@@ -50,10 +53,69 @@ pub struct Dates {
     pub deactivation: u64,
 }
 
+/// A name as it is stored: its length, 0 for no name, seven zeros, and its text with zeros behind it. So names are the same
+/// if all their bytes are.
+#[derive(Clone, Copy, PartialEq, Eq, PartialOrd, Ord)]
+pub struct Name([u8; NAME.end - NAME.start]);
+
+/// All that is known of a key but its material.
+#[derive(Clone, Copy)]
+pub struct Key {
+    pub line: Line,
+    pub usage: Usage,
+    pub dates: Dates,
+    pub name: Name,
+}
+
+/// No name.
+impl Default for Name {
+    fn default() -> Self {
+        Name([0; NAME.end - NAME.start])
+    }
+}
+
+impl Name {
+    /// The name of this text, if it has 1 to 32 bytes.
+    pub fn new(text: &[u8]) -> Option<Self> {
+        let mut name = Name::default();
+        if text.is_empty() {
+            return None;
+        }
+        name.0.get_mut(TEXT..TEXT + text.len())?.copy_from_slice(text);
+        name.0[0] = text.len() as u8;
+        Some(name)
+    }
+
+    fn read(body: &[u8; BODY]) -> Self {
+        body.last_chunk().map_or_else(Name::default, |name| Name(*name))
+    }
+
+    fn is_none(&self) -> bool {
+        self.0[0] == 0
+    }
+
+    /// The text; of a name that is not sound, what there is of it.
+    pub fn text(&self) -> &[u8] {
+        let text = &self.0[TEXT..];
+        text.get(..usize::from(self.0[0])).unwrap_or(text)
+    }
+
+    fn is_sound(&self) -> bool {
+        if self.is_none() {
+            return *self == Name::default();
+        }
+        let text = self.text();
+        text.len() == usize::from(self.0[0])
+            && self.0[1..TEXT] == [0; TEXT - 1]
+            && self.0[TEXT + text.len()..].iter().all(|&byte| byte == 0)
+            && std::str::from_utf8(text).is_ok()
+    }
+}
+
 impl Dates {
     fn read(body: &[u8; BODY]) -> Self {
-        let both = body.last_chunk().map_or(0, |dates| u128::from_be_bytes(*dates));
-        Dates { activation: (both >> 64) as u64, deactivation: both as u64 }
+        let [.., activation, deactivation, _, _, _, _, _] = words(body);
+        Dates { activation, deactivation }
     }
 
     /// Whether deactivation is not before activation, where both are set.
@@ -113,7 +175,7 @@ impl Line {
     }
 }
 
-/// The eight-byte words of a body: total, count, mask with the zeros, four of material, and the two dates.
+/// The eight-byte words of a body: total, count, mask with the zeros, four of material, the two dates, and five of the name.
 fn words(body: &[u8; BODY]) -> [u64; BODY / 8] {
     let mut words = [0; BODY / 8];
     for (word, bytes) in words.iter_mut().zip(body.as_chunks::<8>().0) {
@@ -173,6 +235,12 @@ impl<'a> Table<'a> {
         Dates::read(&self.bodies[place % PLACES])
     }
 
+    /// The key of this place, which has this line.
+    pub fn key(&self, place: usize, line: Line) -> Key {
+        let name = Name::read(&self.bodies[place % PLACES]);
+        Key { line, usage: self.usage(place), dates: self.dates(place), name }
+    }
+
     pub fn set_line(&mut self, place: usize, line: Line) {
         self.lines[place % PLACES] = line.bytes();
     }
@@ -185,17 +253,23 @@ impl<'a> Table<'a> {
         self.bodies[place % PLACES][MATERIAL].fill(0);
     }
 
+    pub fn clear_name(&mut self, place: usize) {
+        self.bodies[place % PLACES][NAME].fill(0);
+    }
+
     pub fn set_dates(&mut self, place: usize, dates: Dates) {
         let both = u128::from(dates.activation) << 64 | u128::from(dates.deactivation);
         self.bodies[place % PLACES][DATES].copy_from_slice(&both.to_be_bytes());
     }
 
     /// Writes a whole new record, which becomes the last issued. Of `fresh` the first `length / 8` bytes are taken.
-    pub fn put(&mut self, place: usize, line: Line, usage: Usage, dates: Dates, fresh: &[u8; 32]) {
+    pub fn put(&mut self, place: usize, key: &Key, fresh: &[u8; 32]) {
+        let Key { line, usage, dates, name } = key;
         self.lead[..4].copy_from_slice(&line.serial.to_be_bytes());
-        self.set_line(place, line);
-        self.set_dates(place, dates);
+        self.set_line(place, *line);
+        self.set_dates(place, *dates);
         let body = &mut self.bodies[place % PLACES];
+        body[NAME].copy_from_slice(&name.0);
         body[..8].copy_from_slice(&usage.total.to_be_bytes());
         body[8..16].copy_from_slice(&usage.count.to_be_bytes());
         body[16..24].copy_from_slice(&(u64::from(usage.mask) << 32).to_be_bytes());
@@ -211,6 +285,14 @@ impl<'a> Table<'a> {
         self.lines.iter().position(|line| line.starts_with(&serial))
     }
 
+    /// The place of the record with this name, destroyed or not; no record has the empty one.
+    pub fn find_name(&self, name: &Name) -> Option<usize> {
+        if name.is_none() {
+            return None;
+        }
+        self.bodies.iter().position(|body| body[NAME] == name.0)
+    }
+
     /// The lowest free place, or if none is free the lowest that is destroyed.
     pub fn place_for_new(&self) -> Option<usize> {
         let free = self.lines.iter().position(|line| line.starts_with(&[0; 4]));
@@ -218,7 +300,7 @@ impl<'a> Table<'a> {
     }
 }
 
-/// Whether a stored table is sound: size and lead, every place by itself, then serials and links.
+/// Whether a stored table is sound: size and lead, every place by itself, then serials and links, then names.
 pub fn sound(table: &[u8]) -> bool {
     let Some((lead, lines, bodies)) = parts(table) else {
         return false;
@@ -230,6 +312,7 @@ pub fn sound(table: &[u8]) -> bool {
         && latest >> 63 == 0
         && lines.iter().zip(bodies).all(|(line, body)| sound_place(line, body, last, latest))
         && sound_links(lines)
+        && names_differ(bodies)
 }
 
 type Parts<'a> = (&'a [u8; LEAD], &'a [[u8; LINE]; PLACES], &'a [[u8; BODY]; PLACES]);
@@ -251,13 +334,14 @@ fn sound_place(line: &[u8; LINE], body: &[u8; BODY], last: u32, latest: u64) -> 
     if line.serial == 0 {
         return u128::from_be_bytes(*line_bytes) == 0 && any_bit(&words) == 0;
     }
-    let [total, count, mask, material @ .., activation, deactivation] = words;
+    let [total, count, mask, material @ .., activation, deactivation, _, _, _, _, _] = words;
     line.serial <= last
         && matches!(line.state, 1..=6)
         && mask & 0xFF00_0000_FFFF_FFFF == 0
         && sound_limit(line.unit, total, count)
         && sound_material(line.state, line.length, &material)
         && sound_dates(line.state, Dates { activation, deactivation }, latest)
+        && Name::read(body).is_sound()
         && line.replaced < line.serial
         && (line.replacement == 0 || (line.serial < line.replacement && line.replacement <= last))
 }
@@ -301,6 +385,19 @@ fn sound_links(lines: &[[u8; LINE]; PLACES]) -> bool {
     standing.sort_unstable_by_key(|line| line.serial);
     standing.windows(2).all(|pair| pair[0].serial != pair[1].serial)
         && standing.iter().all(|line| links_mutual(line, standing))
+}
+
+/// Whether all names are different. Every one of them is sound by itself, and free places have none.
+fn names_differ(bodies: &[[u8; BODY]; PLACES]) -> bool {
+    let mut room = [Name::default(); PLACES];
+    let mut number = 0;
+    for (slot, name) in room.iter_mut().zip(bodies.iter().map(Name::read).filter(|name| !name.is_none())) {
+        *slot = name;
+        number += 1;
+    }
+    let Some(names) = room.get_mut(..number) else { return false };
+    names.sort_unstable();
+    names.windows(2).all(|pair| pair[0] != pair[1])
 }
 
 /// Whether the records that a line names name it back, as far as they stand. The lines are in the order of serials.

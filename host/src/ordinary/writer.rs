@@ -1,9 +1,9 @@
 //! Writing the response into the output.
-//! The room of 5,336 bytes is enough for every response, so no write falls outside of it.
+//! The room of 6,360 bytes is enough for every response, so no write falls outside of it.
 
 use super::act::Outcome;
 use super::request::BatchItem;
-use super::stored::{Dates, Line, Usage};
+use super::stored::{Key, Line, Name};
 
 /// The output with what has been written so far.
 pub struct Writer<'a> {
@@ -63,7 +63,8 @@ impl<'a> Writer<'a> {
         self.long(name, u64::from_be_bytes(digits));
     }
 
-    fn byte_string(&mut self, name: u32, bytes: &[u8]) {
+    /// A Byte String, or a Text String of bytes that are text.
+    fn string(&mut self, name: u32, bytes: &[u8]) {
         self.put(&(u64::from(name) << 32 | bytes.len() as u64).to_be_bytes());
         self.put(bytes);
         let padding = bytes.len().wrapping_neg() % 8;
@@ -92,7 +93,7 @@ impl<'a> Writer<'a> {
         let answer = self.open(0x42000F01);
         self.word(0x42005C05, item.operation);
         if let Some(id) = item.id {
-            self.byte_string(0x42009308, id);
+            self.string(0x42009308, id);
         }
         if let Outcome::Failed(reason) = outcome {
             self.word(0x42007F05, 1);
@@ -112,21 +113,22 @@ impl<'a> Writer<'a> {
                 self.serial(0x42009407, *serial);
             }
             Outcome::Named(serial) => self.serial(0x42009407, *serial),
-            Outcome::Described(line, usage, dates) => {
-                self.serial(0x42009407, line.serial);
-                self.attributes(line, usage, dates);
+            Outcome::Described(key) => {
+                self.serial(0x42009407, key.line.serial);
+                self.attributes(key);
             }
             Outcome::HandedOut(line, material) => {
                 self.word(0x42005705, 2);
                 self.serial(0x42009407, line.serial);
                 self.key(line, material);
             }
-            Outcome::Failed(_) => {}
+            Outcome::NoneNamed | Outcome::Failed(_) => {}
         }
         self.close(payload);
     }
 
-    fn attributes(&mut self, line: &Line, usage: &Usage, dates: &Dates) {
+    fn attributes(&mut self, key: &Key) {
+        let Key { line, usage, dates, name } = key;
         let attributes = self.open(0x42012501);
         self.word(0x42002805, 3);
         self.word(0x42002A02, u32::from(line.length));
@@ -143,7 +145,19 @@ impl<'a> Writer<'a> {
         }
         self.link(0x107, line.replaced);
         self.link(0x106, line.replacement);
+        self.name(name);
         self.close(attributes);
+    }
+
+    /// A name, if there is one.
+    fn name(&mut self, name: &Name) {
+        let value = name.text();
+        if !value.is_empty() {
+            let name = self.open(0x42005301);
+            self.string(0x42005507, value);
+            self.word(0x42005405, 1);
+            self.close(name);
+        }
     }
 
     /// A date, if it is set.
@@ -159,7 +173,7 @@ impl<'a> Writer<'a> {
         let block = self.open(0x42004001);
         self.word(0x42004205, 1);
         let value = self.open(0x42004501);
-        self.byte_string(0x42004308, material.get(..usize::from(line.length / 8)).unwrap_or(material));
+        self.string(0x42004308, material.get(..usize::from(line.length / 8)).unwrap_or(material));
         self.close(value);
         self.word(0x42002805, 3);
         self.word(0x42002A02, u32::from(line.length));

@@ -22,6 +22,38 @@ static const uint8_t sample[176] = {
     0x42, 0x00, 0x2C, 0x02, 0, 0, 0, 0x04, 0, 0, 0, 0x04, 0, 0, 0, 0,
 };
 
+/* The same with the name "pump". */
+static const uint8_t named[216] = {
+    0x42, 0x00, 0x78, 0x01, 0, 0, 0, 0xD0, 0x42, 0x00, 0x77, 0x01, 0, 0, 0, 0x38,
+    0x42, 0x00, 0x69, 0x01, 0, 0, 0, 0x20, 0x42, 0x00, 0x6A, 0x02, 0, 0, 0, 0x04,
+    0, 0, 0, 0x02, 0, 0, 0, 0, 0x42, 0x00, 0x6B, 0x02, 0, 0, 0, 0x04,
+    0, 0, 0, 0x01, 0, 0, 0, 0, 0x42, 0x00, 0x0D, 0x02, 0, 0, 0, 0x04,
+    0, 0, 0, 0x01, 0, 0, 0, 0, 0x42, 0x00, 0x0F, 0x01, 0, 0, 0, 0x88,
+    0x42, 0x00, 0x5C, 0x05, 0, 0, 0, 0x04, 0, 0, 0, 0x01, 0, 0, 0, 0,
+    0x42, 0x00, 0x79, 0x01, 0, 0, 0, 0x70, 0x42, 0x00, 0x57, 0x05, 0, 0, 0, 0x04,
+    0, 0, 0, 0x02, 0, 0, 0, 0, 0x42, 0x01, 0x25, 0x01, 0, 0, 0, 0x58,
+    0x42, 0x00, 0x28, 0x05, 0, 0, 0, 0x04, 0, 0, 0, 0x03, 0, 0, 0, 0,
+    0x42, 0x00, 0x2A, 0x02, 0, 0, 0, 0x04, 0, 0, 0, 0x80, 0, 0, 0, 0,
+    0x42, 0x00, 0x2C, 0x02, 0, 0, 0, 0x04, 0, 0, 0, 0x04, 0, 0, 0, 0,
+    0x42, 0x00, 0x53, 0x01, 0, 0, 0, 0x20, 0x42, 0x00, 0x55, 0x07, 0, 0, 0, 0x04,
+    0x70, 0x75, 0x6D, 0x70, 0, 0, 0, 0, 0x42, 0x00, 0x54, 0x05, 0, 0, 0, 0x04,
+    0, 0, 0, 0x01, 0, 0, 0, 0,
+};
+
+/* Locate of that name. */
+static const uint8_t located[152] = {
+    0x42, 0x00, 0x78, 0x01, 0, 0, 0, 0x90, 0x42, 0x00, 0x77, 0x01, 0, 0, 0, 0x38,
+    0x42, 0x00, 0x69, 0x01, 0, 0, 0, 0x20, 0x42, 0x00, 0x6A, 0x02, 0, 0, 0, 0x04,
+    0, 0, 0, 0x02, 0, 0, 0, 0, 0x42, 0x00, 0x6B, 0x02, 0, 0, 0, 0x04,
+    0, 0, 0, 0x01, 0, 0, 0, 0, 0x42, 0x00, 0x0D, 0x02, 0, 0, 0, 0x04,
+    0, 0, 0, 0x01, 0, 0, 0, 0, 0x42, 0x00, 0x0F, 0x01, 0, 0, 0, 0x48,
+    0x42, 0x00, 0x5C, 0x05, 0, 0, 0, 0x04, 0, 0, 0, 0x08, 0, 0, 0, 0,
+    0x42, 0x00, 0x79, 0x01, 0, 0, 0, 0x30, 0x42, 0x01, 0x25, 0x01, 0, 0, 0, 0x28,
+    0x42, 0x00, 0x53, 0x01, 0, 0, 0, 0x20, 0x42, 0x00, 0x55, 0x07, 0, 0, 0, 0x04,
+    0x70, 0x75, 0x6D, 0x70, 0, 0, 0, 0, 0x42, 0x00, 0x54, 0x05, 0, 0, 0, 0x04,
+    0, 0, 0, 0x01, 0, 0, 0, 0,
+};
+
 static uint8_t request[JUNCTIONMOTH_REQUEST_MOST + 1];
 static uint8_t table[JUNCTIONMOTH_TABLE_SIZE + 1];
 static uint8_t strip[JUNCTIONMOTH_STRIP_SIZE + 1];
@@ -82,6 +114,8 @@ static void sizes(void)
     refused(sizeof sample, table_size, strip_size + 1, room_least, JUNCTIONMOTH_REFUSED_STRIP, "strip one long");
     refused(sizeof sample, table_size - 1, strip_size, room_least, JUNCTIONMOTH_REFUSED_TABLE, "table one short");
     refused(sizeof sample, table_size + 1, strip_size, room_least, JUNCTIONMOTH_REFUSED_TABLE, "table one long");
+    refused(sizeof sample, 4624, strip_size, room_least, JUNCTIONMOTH_REFUSED_TABLE, "table without dates");
+    refused(sizeof sample, 5648, strip_size, room_least, JUNCTIONMOTH_REFUSED_TABLE, "table without names");
     refused(0, table_size, strip_size, room_least, JUNCTIONMOTH_REFUSED_SIZE, "request empty");
     refused(most + 1, table_size, strip_size, room_least, JUNCTIONMOTH_REFUSED_SIZE, "request one long");
     refused(most, table_size, strip_size, room_least, JUNCTIONMOTH_REFUSED_MALFORMED, "request as long as may be");
@@ -173,6 +207,28 @@ static void answered(void)
     expect(table[JUNCTIONMOTH_TABLE_SIZE] == 0xEE, "nothing past the table is written");
 }
 
+/* A call on the table as it is, which is answered. */
+static void ask(const uint8_t *asked, size_t size, const char *what)
+{
+    expect(junctionmoth_serve(asked, size, table, JUNCTIONMOTH_TABLE_SIZE, strip, JUNCTIONMOTH_STRIP_SIZE, 1, out,
+                              sizeof out, &length) == JUNCTIONMOTH_ANSWERED, what);
+}
+
+/* "No two keys of a table have the same one"; "Locate answers the identifier of the key that has it" */
+static void names(void)
+{
+    lay_out();
+    ask(located, sizeof located, "a Locate is answered");
+    expect(length == 136 && out[135] == 0, "with an empty payload while no key has the name");
+    ask(named, sizeof named, "a Create with a name is answered");
+    expect(length == 168 && memcmp(out + 160, "00000001", 8) == 0, "with the new identifier");
+    expect(memcmp(table + 16 + 16 * JUNCTIONMOTH_PLACES + 80, "pump", 4) == 0, "the name stands in the table");
+    ask(named, sizeof named, "a second Create with the name is answered");
+    expect(length == 144 && out[139] == 0x35, "with Non Unique Name Attribute");
+    ask(located, sizeof located, "a Locate is answered again");
+    expect(length == 152 && memcmp(out + 144, "00000001", 8) == 0, "with the identifier of that key");
+}
+
 int main(void)
 {
     sizes();
@@ -181,5 +237,6 @@ int main(void)
     no_buffers();
     clocks();
     answered();
+    names();
     return failures == 0 ? 0 : 1;
 }

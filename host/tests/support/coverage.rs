@@ -1,6 +1,8 @@
 //! What occurred in a run: refusals, operation by result, rules of soundness broken alone, changes of state, dates.
 //! Everything is read off the calls' inputs and effects, not told by an engine.
 
+use super::holders::{self, Holders};
+use super::names;
 use super::texts::{self, Fault};
 use super::{Case, Effect};
 use junctionmoth::model::frame::{self, BatchItem};
@@ -15,9 +17,10 @@ use junctionmoth::Refusal;
 use std::collections::BTreeMap;
 
 /// The reasons that can be given to each operation: these must occur, and no others.
-const REASONS: [(&str, Option<u32>, &[Reason]); 9] = [
-    ("Create", Some(CREATE), &[InvalidField, ServerLimitExceeded]),
+const REASONS: [(&str, Option<u32>, &[Reason]); 10] = [
+    ("Create", Some(CREATE), &[InvalidField, NonUniqueNameAttribute, ServerLimitExceeded]),
     ("Re-key", Some(REKEY), &[InvalidField, ObjectNotFound, ObjectDestroyed, PermissionDenied, ServerLimitExceeded]),
+    ("Locate", Some(LOCATE), &[InvalidField]),
     ("Get", Some(GET), &[InvalidField, ObjectNotFound, ObjectDestroyed]),
     ("Get Attributes", Some(GET_ATTRIBUTES), &[InvalidField, ObjectNotFound]),
     (
@@ -37,19 +40,17 @@ const CHANGES: [(u8, u8); 9] = [(1, 2), (1, 4), (1, 5), (2, 3), (2, 4), (3, 4), 
 /// The changes of state that dates can bring about before the first item: these must occur, and no others.
 const DUE: [(u8, u8); 3] = [(1, 2), (2, 3), (1, 3)];
 
-/// Things that must occur beside those lists.
-const EVENTS: [&str; 60] = [
+/// Things that must occur beside those lists, and beside those about names.
+const EVENTS: [&str; 58] = [
     "answered with fewer items than asked",
     "batch of 16 answered whole",
-    "response of 5,336 bytes",
+    "response of 6,360 bytes",
     "request of 4,096 bytes answered",
     "new record in a free place",
     "new record in a destroyed place",
     "serial FFFFFFFF issued",
     "last serial FFFFFFFF with a free place: Server Limit Exceeded",
     "no usage limit: Invalid Field",
-    "placeholder used",
-    "placeholder emptied by a failure: Object Not Found",
     "identifier of a record in lower case: Object Not Found",
     "identifier of eight zeros: Object Not Found",
     "identifier that is not ASCII: Object Not Found",
@@ -112,6 +113,7 @@ pub struct Coverage {
     due: BTreeMap<(u8, u8), u64>,
     events: BTreeMap<&'static str, u64>,
     text_faults: BTreeMap<Fault, u64>,
+    name_faults: BTreeMap<(u32, names::Fault), u64>,
     missing: Vec<String>,
 }
 
@@ -159,6 +161,7 @@ impl Coverage {
             self.note_if("every item failed: clock stored", after.latest > before.latest);
             self.note_if("every item failed: due changes made", after.places != before.places);
         }
+        self.count_names(&start, &after, &case.request, response);
         self.count_targets(&start, &asked, &results);
         self.count_activate(&start, &asked[0], results[0]);
         self.count_rekey(&start, &asked[0], results[0], case.clock < before.latest);
@@ -169,7 +172,7 @@ impl Coverage {
         let asked = asked.len();
         self.note_if("answered with fewer items than asked", results.len() < asked);
         self.note_if("batch of 16 answered whole", asked == 16 && results.len() == 16);
-        self.note_if("response of 5,336 bytes", length == 5336);
+        self.note_if("response of 6,360 bytes", length == 6360);
         self.note_if("request of 4,096 bytes answered", case.request.len() == 4096);
     }
 
@@ -199,17 +202,25 @@ impl Coverage {
         }
     }
 
+    /// Counts what happened to names and to the placeholder; the names of the table are those that were followed.
+    fn count_names(&mut self, start: &Table, after: &Table, request: &[u8], response: &[u8]) {
+        let mut holders = Holders::of(start);
+        let seen = holders.follow(request, response);
+        assert!(holders == Holders::of(after), "names, or who is destroyed, are not what the answers say");
+        for event in seen.events {
+            self.note_if(event, true);
+        }
+        for fault in seen.faults {
+            *self.name_faults.entry(fault).or_default() += 1;
+        }
+    }
+
     /// Counts how the items named their records. The table is the one that the first item meets.
     fn count_targets(&mut self, table: &Table, asked: &[BatchItem], results: &[(u32, Option<u32>)]) {
-        let mut issued = false;
         for (item, &(operation, reason)) in asked.iter().zip(results) {
             let not_found = reason == Some(ObjectNotFound as u32);
             let invalid = reason == Some(InvalidField as u32);
             match payload::read(operation, &item.payload) {
-                Ok(Order::Target(Target::Placeholder, _)) => {
-                    self.note_if("placeholder used", reason.is_none());
-                    self.note_if("placeholder emptied by a failure: Object Not Found", not_found && issued);
-                }
                 Ok(Order::Target(Target::Identifier(text), action)) => {
                     let allocates = matches!(action, Action::GetUsageAllocation(_));
                     let lower = text.bytes().any(|byte| byte.is_ascii_lowercase())
@@ -225,7 +236,6 @@ impl Coverage {
                 }
                 _ => {}
             }
-            issued |= reason.is_none() && [CREATE, REKEY].contains(&operation);
         }
     }
 
@@ -424,10 +434,18 @@ impl Coverage {
             let count = self.text_faults.get(&fault).copied();
             self.line(format!("refusal 5 for one text alone: {fault:?}"), count);
         }
-        for event in EVENTS {
-            let count = self.events.get(event).copied();
+        for (name, operation) in [("Create", CREATE), ("Locate", LOCATE)] {
+            for fault in names::Fault::all_of(operation) {
+                let count = self.name_faults.get(&(operation, fault)).copied();
+                self.line(format!("{name}: Invalid Field for its name alone: {fault:?}"), count);
+            }
+        }
+        for event in EVENTS.into_iter().chain(holders::EVENTS) {
+            let count = self.events.remove(event);
             self.line(event.to_string(), count);
         }
+        let others: Vec<_> = self.events.keys().map(|event| format!("event is not listed: {event}")).collect();
+        self.missing.extend(others);
         self.missing
     }
 

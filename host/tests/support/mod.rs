@@ -3,6 +3,8 @@
 #![allow(dead_code)]
 
 pub mod coverage;
+pub mod holders;
+pub mod names;
 pub mod requests;
 pub mod rng;
 pub mod tables;
@@ -45,7 +47,7 @@ pub struct Effect {
 }
 
 impl Case {
-    /// A call as the bench program makes it: a strip of the bytes 0 to 255 twice, clock 1, 5,336 bytes of room.
+    /// A call as the bench program makes it: a strip of the bytes 0 to 255 twice, clock 1, 6,360 bytes of room.
     pub fn new(request: Vec<u8>, table: Vec<u8>) -> Case {
         Case { request, table, fresh: (0..STRIP).map(|at| at as u8).collect(), clock: 1, room: ROOM }
     }
@@ -135,7 +137,8 @@ pub fn any_clock(rng: &mut Rng, latest: i64) -> i64 {
 
 fn any_request(rng: &mut Rng, table: &Table) -> Vec<u8> {
     let mut bytes = match rng.below(100) {
-        0..=56 => requests::accepted(rng, table).encode(),
+        0..=51 => requests::accepted(rng, table).encode(),
+        52..=56 => requests::about_a_name(rng, table).encode(),
         57..=59 => requests::with_text(rng, table).encode(),
         60..=62 => requests::rekey(rng, table).encode(),
         63..=64 => requests::renewals(rng, table).encode(),
@@ -176,7 +179,7 @@ fn any_table(rng: &mut Rng, table: &Table) -> Vec<u8> {
             let at = rng.index(bytes.len());
             bytes[at] ^= 1 << rng.below(8);
         }
-        98 => bytes.resize(rng.pick(&[0, 1, 15, 16, 1040, 4624, 5647, 5649, 5656, 8192]), 0),
+        98 => bytes.resize(rng.pick(&[0, 1, 15, 16, 1040, 4624, 5648, 8192, 8207, 8209, 8216]), 0),
         _ => {
             let any = rng.bytes(bytes.len());
             bytes = rng.pick(&[any, vec![0; bytes.len()], vec![0xFF; bytes.len()]]);

@@ -1,12 +1,13 @@
 //! Requests: such as the box accepts, aimed at a table, and such as it turns away.
 
+use super::names::{any_name, name_around, near, wrong_location, wrong_name, FEW};
 use super::rng::Rng;
 use super::texts::{any_text, no_text};
 use junctionmoth::message::*;
 use junctionmoth::model::operations::identifier;
 use junctionmoth::model::table::{Record, Table};
 
-const SUPPORTED: [u32; 8] = [0x01, 0x04, 0x0A, 0x0B, 0x11, 0x12, 0x13, 0x14];
+const SUPPORTED: [u32; 9] = [0x01, 0x04, 0x08, 0x0A, 0x0B, 0x11, 0x12, 0x13, 0x14];
 
 /// A request with a right frame and right numbers; once in a long while an ID is too short or too long.
 pub fn accepted(rng: &mut Rng, table: &Table) -> Node {
@@ -30,7 +31,7 @@ pub fn batch_item(rng: &mut Rng, table: &Table) -> Node {
 
 fn unsupported(rng: &mut Rng) -> u32 {
     let any = rng.next() as u32;
-    rng.pick(&[0, 2, 3, 5, 8, 9, 0x0C, 0x10, 0x15, 0x3B, 0x101, 0x8000_0001, u32::MAX, any])
+    rng.pick(&[0, 2, 3, 5, 7, 9, 0x0C, 0x10, 0x15, 0x3B, 0x101, 0x8000_0001, u32::MAX, any])
 }
 
 fn id(rng: &mut Rng) -> Option<Vec<u8>> {
@@ -51,6 +52,7 @@ fn payload(rng: &mut Rng, table: &Table, operation: u32) -> Vec<Node> {
     match operation {
         0x01 => creation(rng, table),
         0x04 => rekeying(rng, table, name),
+        0x08 => locating(rng, table),
         0x11 => allocation(name, amount(rng, table, name)),
         0x13 => {
             let code = rng.between(1, 7) as u32;
@@ -75,7 +77,30 @@ fn fitting(rng: &mut Rng, table: &Table, operation: u32) -> Option<u32> {
     (!serials.is_empty()).then(|| rng.pick(&serials))
 }
 
+/// A Create without a name, with one, or with something in its place that is none.
 fn creation(rng: &mut Rng, table: &Table) -> Vec<Node> {
+    let payload = unnamed(rng, table);
+    let around = name_around(rng, table);
+    match rng.below(16) {
+        0..=5 => payload,
+        6 => wrong_name(rng, &around).into_iter().fold(payload, create_with),
+        7..=9 => create_with(payload, name(rng.pick(&FEW))),
+        _ => create_with(payload, name(&around)),
+    }
+}
+
+/// A Locate, or what is none.
+fn locating(rng: &mut Rng, table: &Table) -> Vec<Node> {
+    let around = name_around(rng, table);
+    match rng.below(16) {
+        0 => wrong_location(rng, &around),
+        1..=2 => vec![structure(0x420125, wrong_name(rng, &around))],
+        3..=4 => location(rng.pick(&FEW)),
+        _ => location(&around),
+    }
+}
+
+fn unnamed(rng: &mut Rng, table: &Table) -> Vec<Node> {
     let any = rng.next() as i32;
     let length = rng.pick(&[128, 192, 256]);
     let mask = rng.pick(&[0, 4, 0x00FF_FFFF, any & 0x00FF_FFFF]);
@@ -262,12 +287,46 @@ pub fn renewals(rng: &mut Rng, table: &Table) -> Node {
     request(rng.pick(&[Some(1), Some(2)]), items)
 }
 
+/// A batch about one name: of the key whose place the next new one takes, if that has a name, or of any; or one that no
+/// key has.
+pub fn about_a_name(rng: &mut Rng, table: &Table) -> Node {
+    let destroyed = table.places.iter().find(|record| record.state >= 5);
+    let full = table.standing().count() == table.places.len();
+    let next = destroyed.filter(|_| full).and_then(|record| record.name.text());
+    let next = next.and_then(|name| String::from_utf8(name.to_vec()).ok());
+    let about = match next {
+        Some(name) if !rng.one_in(4) => name,
+        _ => name_around(rng, table),
+    };
+    let holder = table.find_name(about.as_bytes()).map(|record| identifier(record.serial));
+    let items = (0..rng.between(2, 8)).map(|_| item_about(rng, table, &about, holder.as_deref())).collect();
+    request(rng.pick(&[None, Some(1), Some(1), Some(1)]), items)
+}
+
+/// An item about a name, about the key that has it or about the placeholder.
+fn item_about(rng: &mut Rng, table: &Table, about: &str, holder: Option<&str>) -> Node {
+    let target_operation = rng.pick(&[0x04, 0x04, 0x0A, 0x0B, 0x0B, 0x12, 0x14]);
+    let plain = create(128, 4, None);
+    match rng.below(12) {
+        0..=1 => item(0x01, None, create_with(plain, name(about))),
+        2 => item(0x01, None, create_with(plain, name(&near(rng, about)))),
+        3 => item(0x01, None, create_with(unnamed(rng, table), name(about))),
+        4 => item(0x01, None, plain),
+        5..=6 => item(0x08, None, location(about)),
+        7 => item(0x08, None, location(&near(rng, about))),
+        8 => item(0x08, None, location(&any_name(rng))),
+        9 => item(target_operation, None, target(holder)),
+        _ => item(target_operation, None, target(None)),
+    }
+}
+
 /// The request with the longest answer that the table allows: sixteen times all attributes, with IDs of 16 bytes.
 pub fn widest(rng: &mut Rng, table: &Table) -> Node {
     let width = |record: &&Record| {
         let links = [record.replaced, record.replacement].into_iter().filter(|&link| link > 0).count();
         let dates = [record.activation, record.deactivation].into_iter().filter(|&date| date > 0).count();
-        56 * usize::from(record.unit > 0) + 40 * links + 16 * dates
+        let name = record.name.text().map_or(0, |name| 24 + name.len());
+        56 * usize::from(record.unit > 0) + 40 * links + 16 * dates + name
     };
     let widest = table.standing().max_by_key(width);
     let name = identifier(widest.map_or(1, |record| record.serial));
@@ -392,7 +451,8 @@ fn edit_fields(rng: &mut Rng, nodes: &mut Vec<Node>) {
     let at = rng.index(nodes.len() + 1);
     let extra_tag = rng.pick(&[
         0x420092, 0x420050, 0x420154, 0x420051, 0x420010, 0x42000E, 0x420093, 0x420094, 0x420096, 0x420080, 0x420095,
-        0x42002C, 0x42000F, 0x42000D, 0x42FFFF, 0x420001, 0x42002F, 0x420058,
+        0x42002C, 0x42000F, 0x42000D, 0x42FFFF, 0x420001, 0x42002F, 0x420058, 0x420053, 0x420054, 0x420055, 0x42008E,
+        0x42004F,
     ]);
     match rng.below(5) {
         0 => nodes.insert(at, well_formed(rng, extra_tag)),

@@ -1,9 +1,11 @@
 //! Tables: sound ones of many kinds, and such that break one rule of soundness.
 
+use super::names::name_around;
 use super::requests::date_around;
 use super::rng::Rng;
+use super::texts::{any_text, no_text};
 use junctionmoth::model::soundness::{self, GREATEST_TOTAL};
-use junctionmoth::model::table::{Record, Table, PLACES};
+use junctionmoth::model::table::{Name, Record, Table, PLACES};
 
 /// Which states the records of a table are in.
 #[derive(Clone, Copy)]
@@ -25,6 +27,7 @@ pub fn sound(rng: &mut Rng) -> Table {
         table.places[place] = record(rng, serial, mix);
     }
     set_dates(rng, &mut table);
+    set_names(rng, &mut table);
     if rng.one_in(3) {
         destroy_one(rng, &mut table);
     }
@@ -62,6 +65,20 @@ fn set_dates(rng: &mut Rng, table: &mut Table) {
         }
         if record.state == 2 {
             record.activation = record.activation.min(latest);
+        }
+    }
+}
+
+/// Names for some records, for none or for nearly all; many are alike, and no two are the same.
+fn set_names(rng: &mut Rng, table: &mut Table) {
+    let share = rng.pick(&[0, 1, 2, 2, 4, 4]);
+    for place in 0..PLACES {
+        if table.places[place].is_free() || rng.below(4) >= share {
+            continue;
+        }
+        let name = name_around(rng, table).into_bytes();
+        if table.find_name(&name).is_none() {
+            table.places[place].name = Name::of(&name);
         }
     }
 }
@@ -174,7 +191,7 @@ fn link_dangling(rng: &mut Rng, table: &mut Table) {
 type Break = fn(&mut Rng, &mut Table) -> Option<()>;
 
 /// For each rule a way to break it.
-const BREAKS: [(&str, Break); 23] = [
+const BREAKS: [(&str, Break); 28] = [
     ("place count", break_place_count),
     ("free line", break_free_line),
     ("free body", break_free_body),
@@ -198,6 +215,11 @@ const BREAKS: [(&str, Break); 23] = [
     ("latest clock not negative", break_latest_not_negative),
     ("dates in order", break_dates_in_order),
     ("Active has begun", break_active_has_begun),
+    ("name length", break_name_length),
+    ("name zeros", break_name_zeros),
+    ("name past length", break_name_past_length),
+    ("name is text", break_name_is_text),
+    ("names differ", break_names_differ),
 ];
 
 /// A table that breaks one rule and no other, where a few tries find one; it breaks at least one in any case.
@@ -248,13 +270,16 @@ fn break_free_line(rng: &mut Rng, table: &mut Table) -> Option<()> {
 fn break_free_body(rng: &mut Rng, table: &mut Table) -> Option<()> {
     let place = choose(rng, table, Record::is_free)?;
     let record = &mut table.places[place];
-    match rng.below(7) {
+    match rng.below(10) {
         0 => record.total = 1 << rng.below(64),
         1 => record.count = 1 << rng.below(64),
         2 => record.mask = 1 << rng.below(32),
         3 => record.zeros = 1 << rng.below(32),
         4 => record.activation = 1 << rng.below(64),
         5 => record.deactivation = 1 << rng.below(64),
+        6 => record.name.length = rng.pick(&[1, 4, 32, 33, 255]),
+        7 => record.name.zeros[rng.index(7)] = 1 << rng.below(8),
+        8 => record.name.room[rng.index(32)] = 1 << rng.below(8),
         _ => record.material[rng.index(32)] = 1 << rng.below(8),
     }
     Some(())
@@ -415,5 +440,46 @@ fn break_active_has_begun(rng: &mut Rng, table: &mut Table) -> Option<()> {
     let record = &mut table.places[place];
     record.activation = rng.pick(&[after, after, i64::MAX]);
     record.deactivation = rng.pick(&[0, record.activation, i64::MAX]);
+    Some(())
+}
+
+/// With zeros behind it, which are text, such a name breaks no other rule.
+fn break_name_length(rng: &mut Rng, table: &mut Table) -> Option<()> {
+    let place = standing(rng, table)?;
+    let any = rng.between(33, 255) as u8;
+    table.places[place].name.length = rng.pick(&[33, 34, 64, 128, 160, 255, any]);
+    Some(())
+}
+
+fn break_name_zeros(rng: &mut Rng, table: &mut Table) -> Option<()> {
+    let place = standing(rng, table)?;
+    table.places[place].name.zeros[rng.index(7)] = 1 << rng.below(8);
+    Some(())
+}
+
+fn break_name_past_length(rng: &mut Rng, table: &mut Table) -> Option<()> {
+    let place = choose(rng, table, |record| !record.is_free() && record.name.length < 32)?;
+    let name = &mut table.places[place].name;
+    let first = u64::from(name.length);
+    let at = rng.between(first, 31);
+    let at = rng.pick(&[first, at, 31]);
+    name.room[at as usize] = 1 << rng.below(8);
+    Some(())
+}
+
+fn break_name_is_text(rng: &mut Rng, table: &mut Table) -> Option<()> {
+    let place = standing(rng, table)?;
+    let wrong = no_text(rng);
+    let most = 32_usize.checked_sub(wrong.len())?;
+    let any = rng.index(most + 1);
+    let before = rng.pick(&[0, most, any]);
+    table.places[place].name = Name::of(&[any_text(rng, before).as_bytes(), &wrong].concat());
+    Some(())
+}
+
+fn break_names_differ(rng: &mut Rng, table: &mut Table) -> Option<()> {
+    let one = choose(rng, table, |record| record.name.length > 0)?;
+    let two = standing(rng, table).filter(|&two| two != one)?;
+    table.places[two].name = table.places[one].name.clone();
     Some(())
 }

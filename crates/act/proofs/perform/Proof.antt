@@ -1,6 +1,6 @@
 -- `perform` meets its contract, command by command.
 -- Assumes nothing.
-use Rattle.act.proofs.Returns.{performs-unsupported, performs-invalid, performs-create, performs-rekey, performs-allocation, performs-activate, performs-revoke, performs-destroy, performs-show, performs-get}
+use Rattle.act.proofs.Returns.{performs-unsupported, performs-invalid, performs-create, performs-rekey, performs-allocation, performs-activate, performs-revoke, performs-destroy, performs-show, performs-get, performs-locate}
 use borrow.Author.Needs.{needs}
 use Rattle.act.proofs.perform.Statement.{statement}
 use Rattle.act.proofs.perform.Tie as tie
@@ -65,6 +65,12 @@ enum-known-command-8 c = search needs
 act-on-requires-7 : tie.Need-act-on-requires-7
 act-on-requires-7 c κs = search needs
 
+enum-known-command-9 : tie.Need-enum-known-command-9
+enum-known-command-9 c = search needs
+
+locate-requires : tie.Need-locate-requires
+locate-requires c κs = search needs
+
 returns : tie.Need-returns
 returns c = search performs-unsupported
 
@@ -119,6 +125,12 @@ same-length-8 c = search needs
 returns-10 : tie.Need-returns-10
 returns-10 c = search performs-get
 
+same-length-9 : tie.Need-same-length-9
+same-length-9 c = search needs
+
+returns-11 : tie.Need-returns-11
+returns-11 c = search performs-locate
+
 pub perform-spec : {M : Type 1} → statement M
 perform-spec =
     tie.close
@@ -143,6 +155,8 @@ perform-spec =
     act-on-requires-6
     enum-known-command-8
     act-on-requires-7
+    enum-known-command-9
+    locate-requires
     returns
     returns-2
     same-length
@@ -160,4 +174,6 @@ perform-spec =
     same-length-7
     returns-9
     same-length-8
-    returns-10)
+    returns-10
+    same-length-9
+    returns-11)

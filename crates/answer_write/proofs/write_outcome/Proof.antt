@@ -41,6 +41,12 @@ got-arm c = c .before .before .before
 abbrev got-room : tie.After-write-got → List ℕ
 got-room c = got-arm c .before .before .before .args .out .now
 
+abbrev located-arm : tie.After-write-located → tie.After-outcome6
+located-arm c = c .before .before .before
+
+abbrev located-room : tie.After-write-located → List ℕ
+located-room c = located-arm c .before .before .before .args .out .now
+
 -- the payload of an arm that writes a name alone
 name : (c : tie.After-write-named) → Puts 16 (named uniqueIdentifier (name-arm c .outcome3 .given .0 .0) nil) (midOf 24 (length (name-room c) - 24) (name-room c)) (c .write-named .last .0) (c .write-named .result)
 name c = puts-name (name-room c) _ (c .write-named .ensures) (omega arith)
@@ -128,6 +134,25 @@ write-success-requires-4 : tie.Need-write-success-requires-4
 write-success-requires-4 c κs =
     opening-room (got-room (c .before .before .before)) (c .before .before .before .write-got .ensures) (omega arith) (omega arith)
 
+enum-known-outcome-6 : tie.Need-enum-known-outcome-6
+enum-known-outcome-6 c = search needs
+
+sub-write-located : tie.Need-sub-write-located
+sub-write-located c = search needs
+
+part-write-located-start : tie.Need-part-write-located-start
+part-write-located-start c = search needs
+
+part-write-located-end : tie.Need-part-write-located-end
+part-write-located-end c = search needs
+
+write-located-requires : tie.Need-write-located-requires
+write-located-requires c κs = search needs
+
+write-success-requires-5 : tie.Need-write-success-requires-5
+write-success-requires-5 c κs =
+    opening-room (located-room (c .before .before .before)) (c .before .before .before .write-located .ensures) (omega arith) (omega arith)
+
 same-length : tie.Need-same-length
 same-length c = search needs
 
@@ -143,7 +168,7 @@ unfolding outcomeItems
 returns-2 c =
     let created-opened = c .before .before in
     let created-written = created-opened .before .before .before .before in
-    puts-outcome (created-arm created-written .outcome2 .given .1) (puts-succeeded 280 (created-room created-written) (created-written .write-created .ensures) (created-opened .write-success .ensures) (omega arith) (omega arith))
+    puts-outcome (created-arm created-written .outcome2 .given .1) (puts-succeeded 344 (created-room created-written) (created-written .write-created .ensures) (created-opened .write-success .ensures) (omega arith) (omega arith))
 
 same-length-3 : tie.Need-same-length-3
 same-length-3 c = search needs
@@ -153,7 +178,7 @@ unfolding outcomeItems
 returns-3 c =
     let name-opened = c .before .before in
     let name-written = name-opened .before .before .before .before in
-    puts-outcome (name-arm name-written .outcome3 .given .1) (puts-succeeded 280 (name-room name-written) (name name-written) (name-opened .write-success2 .ensures) (omega arith) (omega arith))
+    puts-outcome (name-arm name-written .outcome3 .given .1) (puts-succeeded 344 (name-room name-written) (name name-written) (name-opened .write-success2 .ensures) (omega arith) (omega arith))
 
 same-length-4 : tie.Need-same-length-4
 same-length-4 c = search needs
@@ -163,7 +188,7 @@ unfolding outcomeItems
 returns-4 c =
     let showed-opened = c .before .before in
     let showed-written = showed-opened .before .before .before .before in
-    puts-outcome (showed-arm showed-written .outcome4 .given .1) (puts-succeeded 280 (showed-room showed-written) (showed-written .write-showed .ensures) (showed-opened .write-success3 .ensures) (omega arith) (omega arith))
+    puts-outcome (showed-arm showed-written .outcome4 .given .1) (puts-succeeded 344 (showed-room showed-written) (showed-written .write-showed .ensures) (showed-opened .write-success3 .ensures) (omega arith) (omega arith))
 
 same-length-5 : tie.Need-same-length-5
 same-length-5 c = search needs
@@ -173,7 +198,17 @@ unfolding outcomeItems
 returns-5 c =
     let got-opened = c .before .before in
     let got-written = got-opened .before .before .before .before in
-    puts-outcome (got-arm got-written .outcome5 .given .1) (puts-succeeded 280 (got-room got-written) (got-written .write-got .ensures) (got-opened .write-success4 .ensures) (omega arith) (omega arith))
+    puts-outcome (got-arm got-written .outcome5 .given .1) (puts-succeeded 344 (got-room got-written) (got-written .write-got .ensures) (got-opened .write-success4 .ensures) (omega arith) (omega arith))
+
+same-length-6 : tie.Need-same-length-6
+same-length-6 c = search needs
+
+returns-6 : tie.Need-returns-6
+unfolding outcomeItems
+returns-6 c =
+    let located-opened = c .before .before in
+    let located-written = located-opened .before .before .before .before in
+    puts-outcome (located-arm located-written .outcome6 .given .1) (puts-succeeded 344 (located-room located-written) (located-written .write-located .ensures) (located-opened .write-success5 .ensures) (omega arith) (omega arith))
 
 pub write-outcome-spec : {M : Type 1} → statement M
 write-outcome-spec =
@@ -205,6 +240,12 @@ write-outcome-spec =
     part-write-got-end
     write-got-requires
     write-success-requires-4
+    enum-known-outcome-6
+    sub-write-located
+    part-write-located-start
+    part-write-located-end
+    write-located-requires
+    write-success-requires-5
     same-length
     returns
     same-length-2
@@ -214,4 +255,6 @@ write-outcome-spec =
     same-length-4
     returns-4
     same-length-5
-    returns-5)
+    returns-5
+    same-length-6
+    returns-6)

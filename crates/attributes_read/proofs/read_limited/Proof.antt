@@ -8,11 +8,11 @@ use Rattle.ttlv.specs.Tree.{treeOf}
 use Rattle.fields.specs.Fields.{optional}
 use Rattle.fields.proofs.Runs.{tail}
 use Rattle.tags.specs.Tags.{usageLimits}
-use Rattle.attributes_read.specs.Attributes.{limitFirst, datesIn, limitedIn}
+use Rattle.attributes_read.specs.Attributes.{limitFirst, datedIn, limitedIn}
 use Rattle.attributes_read.specs.Readers.{limitsAt, attributesRead}
 use Rattle.attributes_read.specs.declared.LimitsRead.the-variants.{Limits}
 use Rattle.attributes_read.proofs.Given.{Given, LimitIs, limits-is}
-use Rattle.attributes_read.proofs.Wanted.{withDates, dates-none, dates-some, limited-none, limited-dates}
+use Rattle.attributes_read.proofs.Wanted.{withDated, dated-none, dated-some, limited-none, limited-dated}
 use borrow.Author.Needs.{needs}
 use Rattle.attributes_read.proofs.read_limited.Statement.{statement}
 use Rattle.attributes_read.proofs.read_limited.Tie as tie
@@ -62,20 +62,20 @@ measured c = sym (c .before .before .read-limits .ensures) ∙ c .unit .given .1
 limit : (c : tie.After-unit) → Given (S c) (optional usageLimits limitFirst (treeOf (S c))) (Next c) (LimitIs (Unit c) (Total c))
 limit c = limits-is (S c) (start c .pre) (measured c)
 
-left : (c : tie.After-unit) → limitedIn (Bits c) (Mask c) (treeOf (S c)) ≡ withDates (Bits c) (Mask c) (Unit c) (Total c) (datesIn (treeOf (tail (S c) (Next c))))
-left c = limited-dates (S c) (start c .pre) (Bits c) (Mask c) (measured c)
+left : (c : tie.After-unit) → limitedIn (Bits c) (Mask c) (treeOf (S c)) ≡ withDated (Bits c) (Mask c) (Unit c) (Total c) (datedIn (treeOf (tail (S c) (Next c))))
+left c = limited-dated (S c) (start c .pre) (Bits c) (Mask c) (measured c)
 
-sub-read-dates : tie.Need-sub-read-dates
-sub-read-dates c = limit (c .before) .within
+sub-read-dated : tie.Need-sub-read-dated
+sub-read-dated c = limit (c .before) .within
 
-part-read-dates-start : tie.Need-part-read-dates-start
-part-read-dates-start c = let w = limit (c .before) .within in omega arith
+part-read-dated-start : tie.Need-part-read-dated-start
+part-read-dated-start c = let w = limit (c .before) .within in omega arith
 
-part-read-dates-end : tie.Need-part-read-dates-end
-part-read-dates-end c = search needs
+part-read-dated-end : tie.Need-part-read-dated-end
+part-read-dated-end c = search needs
 
-read-dates-requires : tie.Need-read-dates-requires
-read-dates-requires c κs = limit (c .before .before) .behind
+read-dated-requires : tie.Need-read-dated-requires
+read-dated-requires c κs = limit (c .before .before) .behind
 
 enum-known-activation : tie.Need-enum-known-activation
 enum-known-activation c = search needs
@@ -83,23 +83,23 @@ enum-known-activation c = search needs
 enum-told-2 : tie.Need-enum-told-2
 enum-told-2 c = search needs
 
--- ---- what the reader of the dates answered
+-- ---- what the reader of the dates and the name answered
 
-abbrev at-unit : tie.After-read-dates → tie.After-unit
+abbrev at-unit : tie.After-read-dated → tie.After-unit
 at-unit c = c .before .before .before
 
 returns-2 : tie.Need-returns-2
 unfolding attributesRead
 returns-2 c =
     let read = c .before .before in
-    sym (ap attributesRead (left (at-unit read) ∙ dates-none _ _ _ _ _ (sym (read .read-dates .ensures) ∙ c .enum-told2 .given .1)))
+    sym (ap attributesRead (left (at-unit read) ∙ dated-none _ _ _ _ _ (sym (read .read-dated .ensures) ∙ c .enum-told2 .given .1)))
 
 returns-3 : tie.Need-returns-3
 unfolding attributesRead
 returns-3 c =
     let known = c .before in
     let read = known .before .before in
-    sym (ap attributesRead (left (at-unit read) ∙ dates-some _ _ _ _ _ (sym (read .read-dates .ensures) ∙ known .activation .given .1)))
+    sym (ap attributesRead (left (at-unit read) ∙ dated-some _ _ _ _ _ (sym (read .read-dated .ensures) ∙ known .activation .given .1)))
 
 pub read-limited-spec : {M : Type 1} → statement M
 read-limited-spec =
@@ -109,10 +109,10 @@ read-limited-spec =
     enum-known-unit
     enum-told
     returns
-    sub-read-dates
-    part-read-dates-start
-    part-read-dates-end
-    read-dates-requires
+    sub-read-dated
+    part-read-dated-start
+    part-read-dated-end
+    read-dated-requires
     enum-known-activation
     enum-told-2
     returns-2

@@ -1,8 +1,8 @@
--- `attributes_write::write_attribute_items`. The numbers, then the dates, then the limit, then the links.
+-- `attributes_write::write_attribute_items`. The numbers, then the dates, then the limit, then what stands last.
 -- Assumes nothing.
 use Rattle.ttlv.specs.Items.{nil}
 use Rattle.ttlv_put.specs.Write.{join}
-use Rattle.answer.specs.Respond.{attributeItems, linkItems, replacedObjectLink, replacementObjectLink}
+use Rattle.answer.specs.Respond.{attributeItems, linkItems, nameItems, replacedObjectLink, replacementObjectLink}
 use Rattle.named_write.proofs.Compose.{puts-then}
 use Rattle.attributes_write.proofs.Parts.{dated-join}
 use borrow.Author.Needs.{needs}
@@ -48,17 +48,17 @@ write-limits-requires c κs = search needs
 add-end : tie.Need-add-end
 add-end c = search needs
 
-sub-write-links : tie.Need-sub-write-links
-sub-write-links c = search needs
+sub-write-last : tie.Need-sub-write-last
+sub-write-last c = search needs
 
-part-write-links-start : tie.Need-part-write-links-start
-part-write-links-start c = search needs
+part-write-last-start : tie.Need-part-write-last-start
+part-write-last-start c = search needs
 
-part-write-links-end : tie.Need-part-write-links-end
-part-write-links-end c = search needs
+part-write-last-end : tie.Need-part-write-last-end
+part-write-last-end c = search needs
 
-write-links-requires : tie.Need-write-links-requires
-write-links-requires c κs = search needs
+write-last-requires : tie.Need-write-last-requires
+write-last-requires c κs = search needs
 
 add-result : tie.Need-add-result
 add-result c = search needs
@@ -69,13 +69,13 @@ same-length c = search needs
 returns : tie.Need-returns
 unfolding attributeItems join
 returns c =
-    let at-links = c .before .before in
-    let at-limits = at-links .before .before .before .before in
+    let at-last = c .before .before in
+    let at-limits = at-last .before .before .before .before .before in
     let at-dates = at-limits .before .before .before .before in
     let at-always = at-dates .before .before .before .before in
     let s = at-always .before .before .before .before .before .args .shown in
-    let links = linkItems replacedObjectLink (s .replaced) (linkItems replacementObjectLink (s .replacement) nil) in
-    rw (← dated-join s links) (puts-then (puts-then (puts-then (at-always .write-always .ensures) (at-dates .write-dates .ensures)) (at-limits .write-limits .ensures)) (at-links .write-links .ensures))
+    let last = linkItems replacedObjectLink (s .replaced) (linkItems replacementObjectLink (s .replacement) (nameItems (s .name) nil)) in
+    rw (← dated-join s last) (puts-then (puts-then (puts-then (at-always .write-always .ensures) (at-dates .write-dates .ensures)) (at-limits .write-limits .ensures)) (at-last .write-last .ensures))
 
 pub write-attribute-items-spec : {M : Type 1} → statement M
 write-attribute-items-spec =
@@ -94,10 +94,10 @@ write-attribute-items-spec =
     part-write-limits-end
     write-limits-requires
     add-end
-    sub-write-links
-    part-write-links-start
-    part-write-links-end
-    write-links-requires
+    sub-write-last
+    part-write-last-start
+    part-write-last-end
+    write-last-requires
     add-result
     same-length
     returns)

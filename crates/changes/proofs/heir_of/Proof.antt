@@ -13,7 +13,7 @@ material-from-requires c κs = search needs
 
 returns : tie.Need-returns
 unfolding heirDated
-returns c = rw (c .material-from .ensures, c .before .dated-state .ensures)
+returns c = rw (c .before .material-from .ensures, c .before .before .dated-state .ensures)
 
 pub heir-of-spec : {M : Type 1} → statement M
 heir-of-spec =

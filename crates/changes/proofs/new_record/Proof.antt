@@ -10,7 +10,7 @@ material-from-requires c κs = search needs
 
 returns : tie.Need-returns
 unfolding newRecord
-returns c = rw (c .material-from .ensures)
+returns c = rw (c .before .material-from .ensures)
 
 pub new-record-spec : {M : Type 1} → statement M
 new-record-spec =

@@ -1,36 +1,44 @@
--- `convert::copy_body`. The old body is written, and then the two dates behind it.
+-- `convert::copy_body`. The old body is written, and then the zeros behind it.
 -- Assumes nothing.
-use mathlib.Core.Path.{_≡_, refl, sym, ap, _∙_}
-use Prim.Native.Nat.{ℕ, _+_, _*_, _-_}
+use borrow.Author.Needs.{needs}
+use mathlib.Core.Path.{_≡_, sym, ap, _∙_}
+use Prim.Native.Nat.{ℕ, _+_, _*_, _-_, _≤_}
 use native.Mathlib.Omega.{arith}
-use mathlib.Core.List.{List, _++_}
+use mathlib.Core.List.{List}
 use lib.ListN.{length, take, drop, replicate}
 use lib.Seq.{sets}
-use Rattle.octets.specs.Octets.{be}
-use Rattle.octets.proofs.Numbers.{length-be}
 use Rattle.octets.proofs.Stores.{sets-append}
-use Rattle.table.specs.Layout.{lineStart, bodyStart, activationIn, deactivationIn}
+use Rattle.octets.proofs.Zeros.{part-zeros}
+use Rattle.table.specs.Layout.{bodySize, lineStart, bodyStart}
 use Rattle.soundness.proofs.Parts.{lent-part}
-use Rattle.convert.specs.Old.{oldBodySize, oldBodyStart, BothPlaces, oldBodyAt, undated}
-use Rattle.convert.proofs.Records.{length-old}
-use borrow.Author.Needs.{needs}
+use Rattle.convert.specs.Old.{oldBodyStart, BothPlaces, oldBodyAt, lengthened}
+use Rattle.convert.proofs.Records.{body-in, length-old}
 use Rattle.convert.proofs.copy_body.Statement.{statement}
 use Rattle.convert.proofs.copy_body.Tie as tie
 
 line-requires : tie.Need-line-requires
 line-requires c κs = search needs
 
+-- the old body lies in the old table
+inside : (c : tie.After-line) → let a = c .before .before .before .args in
+    oldBodyStart (a .w) (a .n) (a .i) + a .w ≤ length (a .old .now)
+inside c =
+    let start = c .before .before .before in
+    let a = start .args in
+    let p = start .pre in
+    body-in (a .w) (a .n) (a .old .now) (p .tables .fits) (p .tables .old-sized) (a .i) (p .below)
+
 mul-from : tie.Need-mul-from
-mul-from c = search needs
+mul-from c = omega (arith, inside c)
 
 add-from : tie.Need-add-from
-add-from c = search needs
+add-from c = omega (arith, inside c)
 
 body-requires : tie.Need-body-requires
 body-requires c κs = search needs
 
 add-put-all : tie.Need-add-put-all
-add-put-all c = search needs
+add-put-all c = omega (arith, inside (c .before .before))
 
 sub-put-all : tie.Need-sub-put-all
 sub-put-all c = search needs
@@ -39,62 +47,59 @@ part-put-all-start : tie.Need-part-put-all-start
 part-put-all-start c = search needs
 
 part-put-all-end : tie.Need-part-put-all-end
-part-put-all-end c = search needs
+part-put-all-end c = omega (arith, inside (c .before .before))
 
 put-all-requires : tie.Need-put-all-requires
 put-all-requires c κs = search needs
 
-add-put : tie.Need-add-put
-add-put c = search needs
+add-put-all-2 : tie.Need-add-put-all-2
+add-put-all-2 c = search needs
 
-put-requires : tie.Need-put-requires
-put-requires c κs = search needs
+sub-put-all-2 : tie.Need-sub-put-all-2
+sub-put-all-2 c = search needs
 
-add-put-2 : tie.Need-add-put-2
-add-put-2 c = search needs
+part-put-all-start-2 : tie.Need-part-put-all-start-2
+part-put-all-start-2 c = search needs
 
-put-requires-2 : tie.Need-put-requires-2
-put-requires-2 c κs = search needs
+part-put-all-end-2 : tie.Need-part-put-all-end-2
+part-put-all-end-2 c = search needs
+
+put-all-requires-2 : tie.Need-put-all-requires-2
+put-all-requires-2 c κs = search needs
 
 same-length : tie.Need-same-length
 same-length c = search needs
 
-dates-unset : be 8 0 ++ be 8 0 ≡ replicate 16 0
-unfolding be
-dates-unset = refl
-
--- a body, and behind it two dates that are zero
-dated : (t b : List ℕ) {t₁ t₂ t₃ : List ℕ} (at : ℕ) → length b ≡ oldBodySize → t₁ ≡ sets t at b → t₂ ≡ sets t₁ (at + activationIn) (be 8 0) → t₃ ≡ sets t₂ (at + deactivationIn) (be 8 0)
-    → t₃ ≡ sets t at (undated b)
-dated t b at long e₁ e₂ e₃ =
-    let s : at + activationIn + 8 ≡ at + deactivationIn = omega arith in
-    sym (ap (λ (z : List ℕ). sets t at (b ++ z)) (sym dates-unset)
-    ∙ rw (sets-append t at b (be 8 0 ++ be 8 0), long, sets-append (sets t at b) (at + activationIn) (be 8 0) (be 8 0), length-be 8 0, s, ← e₁, ← e₂, ← e₃))
-
--- the body of place i, copied from where it stands
-copied : (n : ℕ) (old new : List ℕ) (i : ℕ) {line body : ℕ} {t₁ t₂ t₃ : List ℕ} → BothPlaces n old new i → line ≡ lineStart n → body ≡ bodyStart n i
-    → t₁ ≡ sets new body (take (line + oldBodySize * i + oldBodySize - (line + oldBodySize * i)) (drop (line + oldBodySize * i) old))
-    → t₂ ≡ sets t₁ (body + activationIn) (be 8 0) → t₃ ≡ sets t₂ (body + deactivationIn) (be 8 0)
-    → t₃ ≡ sets new (bodyStart n i) (undated (oldBodyAt n old i))
-copied n old new i {line} {body} asked el eb e₁ e₂ e₃ =
-    dated new (oldBodyAt n old i) body (length-old n old (asked .tables .old-sized) i (asked .below))
-    (e₁ ∙ ap (sets new body) (lent-part old (line + oldBodySize * i) (oldBodyStart n i) oldBodySize (ap (λ (k : ℕ). k + oldBodySize * i) el)))
-    e₂ e₃
-    ∙ ap (λ (at : ℕ). sets new at (undated (oldBodyAt n old i))) eb
+-- the body of place i, copied from where it stands, and zeros behind it
+copied : (w n : ℕ) (old new : List ℕ) (i : ℕ) {line body : ℕ} {t₁ t₂ : List ℕ} → BothPlaces w n old new i → line ≡ lineStart n → body ≡ bodyStart n i
+    → t₁ ≡ sets new body (take (line + w * i + w - (line + w * i)) (drop (line + w * i) old))
+    → t₂ ≡ sets t₁ (body + w) (take (bodySize - w) (drop w (replicate bodySize 0)))
+    → t₂ ≡ sets new (bodyStart n i) (lengthened w (oldBodyAt w n old i))
+copied w n old new i {line} {body} asked el eb e₁ e₂ =
+    let b = oldBodyAt w n old i in
+    let both = asked .tables in
+    let fits = both .fits in
+    let long : length b ≡ w = length-old w n old fits (both .old-sized) i (asked .below) in
+    let lent = lent-part old (line + w * i) (oldBodyStart w n i) w (ap (λ (k : ℕ). k + w * i) el) in
+    e₂
+    ∙ ap (sets _ (body + w)) (part-zeros bodySize w (bodySize - w) (omega arith))
+    ∙ ap (λ (t : List ℕ). sets t (body + w) (replicate (bodySize - w) 0)) (e₁ ∙ ap (sets new body) lent)
+    ∙ ap (λ (k : ℕ). sets (sets new body b) (body + k) (replicate (bodySize - w) 0)) (sym long)
+    ∙ sym (sets-append new body b (replicate (bodySize - w) 0))
+    ∙ ap (λ (at : ℕ). sets new at (lengthened w b)) eb
 
 returns : tie.Need-returns
 returns c =
-    let at-deactivation = c .before .before in
-    let at-activation = at-deactivation .before .before .before .before in
-    let at-copy = at-activation .before .before .before .before in
+    let at-zeros = c .before .before in
+    let at-part = at-zeros .before .before .before in
+    let at-copy = at-part .before .before .before in
     let at-body = at-copy .before .before .before in
     let at-line = at-body .before in
     let start = at-line .before .before .before in
     let a = start .args in
-    copied (a .n) (a .old .now) (a .new .now) (a .i) (start .pre) (at-line .line .ensures) (at-body .body .ensures)
+    copied (a .w) (a .n) (a .old .now) (a .new .now) (a .i) (start .pre) (at-line .line .ensures) (at-body .body .ensures)
     (at-copy .put-all .ensures)
-    (at-activation .put .ensures)
-    (at-deactivation .put2 .ensures)
+    (at-zeros .put-all2 .ensures)
 
 pub copy-body-spec : {M : Type 1} → statement M
 copy-body-spec =
@@ -109,9 +114,10 @@ copy-body-spec =
     part-put-all-start
     part-put-all-end
     put-all-requires
-    add-put
-    put-requires
-    add-put-2
-    put-requires-2
+    add-put-all-2
+    sub-put-all-2
+    part-put-all-start-2
+    part-put-all-end-2
+    put-all-requires-2
     same-length
     returns)

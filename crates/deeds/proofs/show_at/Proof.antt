@@ -12,7 +12,9 @@ load-requires c κs = search needs
 
 returns : tie.Need-returns
 unfolding shownOf
-returns c = ap (showing (c .before .before .args .holder)) (c .load .ensures)
+returns c =
+    let at-record = c .before in
+    ap (showing (at-record .before .before .args .holder)) (at-record .load .ensures)
 
 pub show-at-spec : {M : Type 1} → statement M
 show-at-spec = tie.close (tie.spec load-requires returns)

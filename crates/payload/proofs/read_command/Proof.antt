@@ -1,7 +1,7 @@
 -- `payload::read_command`. By the number of the operation.
 -- Assumes nothing.
 use mathlib.Core.Path.{sym, _∙_}
-use Rattle.payload.proofs.Commands.{of-create, of-rekey, of-allocation, of-activate, of-revoke, of-destroy, of-attributes, of-get, of-none}
+use Rattle.payload.proofs.Commands.{of-create, of-rekey, of-allocation, of-activate, of-revoke, of-destroy, of-attributes, of-get, of-locate, of-none}
 use borrow.Author.Needs.{needs}
 use Rattle.payload.proofs.read_command.Statement.{statement}
 use Rattle.payload.proofs.read_command.Tie as tie
@@ -54,11 +54,27 @@ read-alone-requires-4 c κs = search needs
 returns-8 : tie.Need-returns-8
 returns-8 c = c .read-alone4 .ensures ∙ sym (of-get _ _ (c .before .if8 .taken))
 
+read-locate-requires : tie.Need-read-locate-requires
+read-locate-requires c κs = search needs
+
 returns-9 : tie.Need-returns-9
-returns-9 c =
-    let at-4 = c .before .before .before .before in
-    let at-6 = c .before .before in
-    sym (of-none _ _ (at-4 .before .before .before .if1 .left) (at-4 .before .before .if2 .left) (at-4 .before .if3 .left) (at-4 .if4 .left) (at-6 .before .if5 .left) (at-6 .if6 .left) (c .before .if7 .left) (c .if8 .left))
+returns-9 c = c .read-locate .ensures ∙ sym (of-locate _ _ (c .before .if9 .taken))
+
+returns-10 : tie.Need-returns-10
+returns-10 c =
+    let at-6 = c .before .before .before in
+    let at-3 = at-6 .before .before .before in
+    sym
+    (of-none _ _
+    (at-3 .before .before .if1 .left)
+    (at-3 .before .if2 .left)
+    (at-3 .if3 .left)
+    (at-6 .before .before .if4 .left)
+    (at-6 .before .if5 .left)
+    (at-6 .if6 .left)
+    (c .before .before .if7 .left)
+    (c .before .if8 .left)
+    (c .if9 .left))
 
 pub read-command-spec : {M : Type 1} → statement M
 read-command-spec =
@@ -80,4 +96,6 @@ read-command-spec =
     returns-7
     read-alone-requires-4
     returns-8
-    returns-9)
+    read-locate-requires
+    returns-9
+    returns-10)

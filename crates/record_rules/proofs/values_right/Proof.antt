@@ -1,11 +1,10 @@
 -- `record_rules::values_right`. The tests are the definition's, in its order.
 -- Assumes nothing.
 use borrow.Author.Needs.{needs}
+use Rattle.record_rules.specs.Rules.{stateRight, bitsRight, maskRight, nameRight, nameTextRight}
+use Rattle.record_rules.specs.Checked.{valuesRight}
 use Rattle.record_rules.proofs.values_right.Statement.{statement}
 use Rattle.record_rules.proofs.values_right.Tie as tie
-use Prim.Native.Nat.{_-_}
-use Rattle.record_rules.specs.Rules.{stateRight, bitsRight, maskRight}
-use Rattle.record_rules.specs.Checked.{valuesRight}
 
 cast-bits-ok : tie.Need-cast-bits-ok
 cast-bits-ok c = search needs
@@ -22,9 +21,19 @@ mask-ok-requires c κs = search needs
 limit-right-requires : tie.Need-limit-right-requires
 limit-right-requires c κs = search needs
 
+shape-right-requires : tie.Need-shape-right-requires
+shape-right-requires c κs = search needs
+
+text-right-requires : tie.Need-text-right-requires
+text-right-requires c κs = search needs
+
 returns : tie.Need-returns
-unfolding valuesRight stateRight bitsRight maskRight
-returns c = rw (c .before .before .before .bits-ok .ensures, c .before .mask-ok .ensures, c .limit-right .ensures)
+unfolding valuesRight stateRight bitsRight maskRight nameRight nameTextRight
+returns c =
+    let at-limit = c .before .before in
+    let at-mask = at-limit .before in
+    let at-bits = at-mask .before .before in
+    rw (at-bits .bits-ok .ensures, at-mask .mask-ok .ensures, at-limit .limit-right .ensures, c .before .shape-right .ensures, c .text-right .ensures)
 
 pub values-right-spec : {M : Type 1} → statement M
 values-right-spec =
@@ -35,4 +44,6 @@ values-right-spec =
     cast-mask-ok
     mask-ok-requires
     limit-right-requires
+    shape-right-requires
+    text-right-requires
     returns)

@@ -9,7 +9,8 @@ use mathlib.Core.Path.{_≡_}
 use mathlib.Core.List.{List}
 use Rattle.octets.specs.Octets.{fromBe, part}
 use Rattle.table.specs.Layout.{bodySize, lineStart, bodyStart, materialSize, serialIn, stateIn, unitIn, bitsIn, replacedIn, replacementIn, totalIn, countIn, maskIn, materialIn, activationIn, deactivationIn}
-use Rattle.table.specs.Records.{placeAt}
+use Rattle.names.specs.declared.Name.{Name}
+use Rattle.table.specs.Records.{placeAt, nameAt}
 use Rattle.table.specs.declared.Record.{Record}
 use Rattle.table.proofs.Places.{place-fields}
 use borrow.Author.Needs.{needs}
@@ -134,7 +135,7 @@ number-at-requires-11 : tie.Need-number-at-requires-11
 number-at-requires-11 c κs = (ends _ _ (inside (at-body c)), omega arith)
 
 -- the fields, each read where it stands
-fields-read : (n : ℕ) (t : List ℕ) (i : ℕ) {l b serial state unit bits replaced replacement total count mask activation deactivation : ℕ} {material : List ℕ} → l ≡ lineStart i → b ≡ bodyStart n i
+fields-read : (n : ℕ) (t : List ℕ) (i : ℕ) {l b serial state unit bits replaced replacement total count mask activation deactivation : ℕ} {material : List ℕ} {name : Name} → l ≡ lineStart i → b ≡ bodyStart n i
     → serial ≡ fromBe (part t (l + serialIn) 4)
     → state ≡ fromBe (part t (l + stateIn) 1)
     → unit ≡ fromBe (part t (l + unitIn) 1)
@@ -147,12 +148,18 @@ fields-read : (n : ℕ) (t : List ℕ) (i : ℕ) {l b serial state unit bits rep
     → activation ≡ fromBe (part t (b + activationIn) 8)
     → deactivation ≡ fromBe (part t (b + deactivationIn) 8)
     → material ≡ part t (b + materialIn) materialSize
-    → _≡_ {A = Record} (record { serial = serial; state = state; unit = unit; bits = bits; replaced = replaced; replacement = replacement; total = total; count = count; mask = mask; material = material; activation = activation; deactivation = deactivation }) (placeAt n t i)
-fields-read n t i hl hb e₁ e₂ e₃ e₄ e₅ e₆ e₇ e₈ e₉ e₁₀ e₁₁ e₁₂ = rw (e₁, e₂, e₃, e₄, e₅, e₆, e₇, e₈, e₉, e₁₀, e₁₁, e₁₂, hl, hb) (place-fields n t i)
+    → name ≡ nameAt n t i
+    → _≡_ {A = Record} (record { serial = serial; state = state; unit = unit; bits = bits; replaced = replaced; replacement = replacement; total = total; count = count; mask = mask; material = material; activation = activation; deactivation = deactivation; name = name }) (placeAt n t i)
+fields-read n t i hl hb e₁ e₂ e₃ e₄ e₅ e₆ e₇ e₈ e₉ e₁₀ e₁₁ e₁₂ e₁₃ = rw (e₁, e₂, e₃, e₄, e₅, e₆, e₇, e₈, e₉, e₁₀, e₁₁, e₁₂, e₁₃, hl, hb) (place-fields n t i)
+
+name-at-requires : tie.Need-name-at-requires
+name-at-requires c κs = search needs
 
 returns : tie.Need-returns
 returns c =
-    let at-material = c .before .before in
+    let at-deactivation = c .before in
+    let at-activation = at-deactivation .before in
+    let at-material = at-activation .before in
     let at-mask = at-material .before in
     let at-total = at-mask .before .before in
     let at-replaced = at-total .before .before in
@@ -171,9 +178,10 @@ returns c =
     (at-total .number-at7 .ensures .0)
     (at-mask .before .number-at8 .ensures .0)
     (at-mask .number-at9 .ensures .0)
-    (c .before .number-at10 .ensures .0)
-    (c .number-at11 .ensures .0)
+    (at-activation .number-at10 .ensures .0)
+    (at-deactivation .number-at11 .ensures .0)
     (at-material .material-at .ensures)
+    (c .name-at .ensures)
 
 pub load-spec : {M : Type 1} → statement M
 load-spec =
@@ -212,4 +220,5 @@ load-spec =
     number-at-requires-10
     add-number-at-11
     number-at-requires-11
+    name-at-requires
     returns)

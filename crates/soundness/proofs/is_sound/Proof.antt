@@ -9,7 +9,8 @@ use borrow.Author.Needs.{needs}
 use borrow.Author.Tests.{not-true, not-false}
 use Rattle.table.specs.Layout.{Table}
 use Rattle.table.specs.Records.{serialAt}
-use Rattle.soundness.specs.Checked.{TopBelow, wholeRight}
+use Rattle.twin_rules.specs.Checked.{TopBelow}
+use Rattle.soundness.specs.Checked.{wholeRight}
 use Rattle.soundness.proofs.Checked.{Passed, passed-more, top-more, whole-size, checked-sound, unsound-whole, unsound-place}
 use Rattle.soundness.proofs.is_sound.Statement.{statement}
 use Rattle.soundness.proofs.is_sound.Tie as tie

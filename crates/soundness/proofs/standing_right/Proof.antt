@@ -19,8 +19,8 @@ values-right-requires c κs = search needs
 material-right-requires : tie.Need-material-right-requires
 material-right-requires c κs = search needs
 
-names-right-requires : tie.Need-names-right-requires
-names-right-requires c κs = search needs
+serials-right-requires : tie.Need-serials-right-requires
+serials-right-requires c κs = search needs
 
 times-right-requires : tie.Need-times-right-requires
 times-right-requires c κs = search needs
@@ -50,9 +50,13 @@ own-place-requires c κs =
       highest = p .reached .highest;
     }
 
+own-name-requires : tie.Need-own-name-requires
+own-name-requires c κs = entry (alone (c .before .before .before)) .pre .reached .place .sized
+
 returns : tie.Need-returns
 returns c =
-    let at-times = c .before .before .before in
+    let at-own = c .before in
+    let at-times = at-own .before .before .before in
     let at-material = alone at-times in
     let start = entry at-material in
     let a = start .args in
@@ -62,11 +66,12 @@ returns c =
     (at-material .before .before .zeros-right .ensures)
     (at-material .before .values-right .ensures)
     (at-material .material-right .ensures)
-    (at-times .before .names-right .ensures)
+    (at-times .before .serials-right .ensures)
     (at-times .times-right .ensures)
-    (c .own-place .ensures)
-    (c .before .before .end-right .ensures)
-    (c .before .end-right2 .ensures)
+    (at-own .own-place .ensures)
+    (at-own .before .before .end-right .ensures)
+    (at-own .before .end-right2 .ensures)
+    (c .own-name .ensures)
 
 pub standing-right-spec : {M : Type 1} → statement M
 standing-right-spec =
@@ -75,9 +80,10 @@ standing-right-spec =
     zeros-right-requires
     values-right-requires
     material-right-requires
-    names-right-requires
+    serials-right-requires
     times-right-requires
     end-right-requires
     end-right-requires-2
     own-place-requires
+    own-name-requires
     returns)

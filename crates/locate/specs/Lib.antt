@@ -1,0 +1,3 @@
+-- Locate.
+-- Assumes nothing.
+pub mod Locate

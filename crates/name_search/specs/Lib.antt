@@ -1,0 +1,3 @@
+-- The search for a name.
+-- Assumes nothing.
+pub mod Names

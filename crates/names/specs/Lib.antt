@@ -1,0 +1,3 @@
+-- Names: as they are stored, and as text.
+-- Assumes nothing.
+pub mod Names
