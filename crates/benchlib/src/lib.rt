@@ -4,7 +4,7 @@
 ghost use mathlib.Core.Path.{_≡_};
 ghost use lib.ListN.{length};
 ghost use Rattle.octets.specs.Octets.{countedFrom};
-ghost use Rattle.table.specs.Layout.{placeCount};
+ghost use Rattle.table.specs.Layout.{smallCount};
 ghost use Rattle.table.specs.Records.{blank};
 use table::Layout;
 
@@ -18,11 +18,11 @@ const CLOCK: i64 = 1;
 const COUNT_BYTE: usize = Layout::PLACES_IN + 3;
 
 // "A blank table", 8,208 bytes since its bodies have dates and names, is "all zero but the place count".
-pub fn blank_table() -> [u8; Layout::SIZE]
-    ensures { λ r. ⌜ r ≡ blank placeCount ⌝ }
+pub fn blank_table() -> [u8; Layout::SMALL_SIZE]
+    ensures { λ r. ⌜ r ≡ blank smallCount ⌝ }
 {
-    let mut table = [0u8; Layout::SIZE];
-    table[COUNT_BYTE] = Layout::PLACES as u8;
+    let mut table = [0u8; Layout::SMALL_SIZE];
+    table[COUNT_BYTE] = Layout::SMALL_COUNT as u8;
     table
 }
 

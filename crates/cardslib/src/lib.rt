@@ -31,7 +31,7 @@ fn usual() -> Setting
         clock: 1,
         room: engine::ROOM_LEAST,
         strip: engine::STRIP_SIZE,
-        size: Layout::SIZE,
+        size: Layout::SMALL_SIZE,
     }
 }
 
@@ -55,7 +55,7 @@ fn blank(rest: &[u8], table: &mut [u8], out: &mut [u8], setting: Setting) -> Don
     if rest.len() != 0 {
         return refused;
     }
-    if table.len() < Layout::SIZE {
+    if table.len() < Layout::SMALL_SIZE {
         return refused;
     }
     let fresh = benchlib::blank_table();
@@ -73,7 +73,7 @@ fn put(rest: &[u8], table: &mut [u8]) -> bool {
     let Number::Is(at) = script::number_in(&rest[..gap]) else {
         return false;
     };
-    let mut bytes = [0u8; Layout::SIZE];
+    let mut bytes = [0u8; Layout::SMALL_SIZE];
     let Bytes::Count(n) = hex_text::bytes_in(&rest[gap..], &mut bytes) else {
         return false;
     };

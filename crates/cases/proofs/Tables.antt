@@ -14,7 +14,7 @@ use Rattle.words.specs.Words.{wordsOf, wordBytes, filled}
 use Rattle.names.specs.declared.Name.{Name}
 use Rattle.names.specs.Names.{nameField, storedName, noName, nameText, nameOf, sameName, shapeRight}
 use Rattle.table.specs.declared.Record.{Record}
-use Rattle.table.specs.Layout.{bodyStart, placeCount, zerosIn}
+use Rattle.table.specs.Layout.{bodyStart, smallCount, zerosIn}
 use Rattle.table.specs.Records.{line, body, recordOf, placeAt, withPlace, serialAt, nameAt, lastSerial, withLast, placesSaid, latestClock, withClock, blank}
 use Rattle.search.specs.Search.{firstFrom, isNothing, find}
 use Rattle.record_rules.specs.Rules.{stateRight, bitsRight, maskRight, limitRight, tailRight, wipedRight, replacedRight, replacementRight, datesRight, orderRight, startedRight, nameRight, nameTextRight}
@@ -203,7 +203,7 @@ right =
     && sound 4 (withClock (pair (withDates 7 8 (key 1)) (withDates 0 1 (key 2))) 7)
     && sound 4 (pair (withName (short 0x61) (key 1)) (withName (short 0x62) (key 2)))
     && sound 4 (pair (withName (nameOf (replicate 32 0x61)) (key 1)) (withName (nameOf (replicate 31 0x61)) (key 2)))
-    && sound placeCount (blank placeCount)
+    && sound smallCount (blank smallCount)
 
 pub none-wrong : right ≡ true
 unfolding ifb isSome be fromBe fromBeAfter all line body recordOf placeAt withPlace serialAt lastSerial withLast placesSaid latestClock withClock blank firstFrom isNothing find sizeRight countRight latestRight freeRight zerosRight distinctRight issuedRight stateRight bitsRight maskRight limitRight tailRight wipedRight replacedRight replacementRight datesRight orderRight startedRight ifStands linksRight breaksFree breaksStanding orLater faultFrom firstFault sound wordsOf wordBytes filled text nameField storedName nameText nameOf sameName shapeRight nameAt nameRight nameTextRight namesDiffer

@@ -9,7 +9,7 @@ use lib.ListN.{length}
 use borrow.Author.Tests.{eq-eqb, ne-eqb}
 use Rattle.octets.proofs.Bools.{and-true, and-no, and-r, no-unless, not-both}
 use Rattle.octets.proofs.If.{ifb-true, ifb-false}
-use Rattle.table.specs.Layout.{sizeOf, placeCount, Table}
+use Rattle.table.specs.Layout.{sizeOf, smallCount, Table}
 use Rattle.convert.specs.Old.{Age, plain, dated, width, oldSizeOf, OldTable, widened}
 use Rattle.convert.specs.OldSound.{oldSizeRight, soundOld}
 use Rattle.convert.specs.Convert.{converts, ageOf, converted}
@@ -21,40 +21,40 @@ or-none false b e = e
 
 module _ (old : List ℕ) where
   -- a table of another size is not sound
-  pub other-size : (age : Age) → (OldTable (width age) placeCount old → ⊥) → soundOld age placeCount old ≡ false
+  pub other-size : (age : Age) → (OldTable (width age) smallCount old → ⊥) → soundOld age smallCount old ≡ false
   unfolding oldSizeRight
-  other-size age h = unsized placeCount old age (ne-eqb (length old) (oldSizeOf (width age) placeCount) h)
+  other-size age h = unsized smallCount old age (ne-eqb (length old) (oldSizeOf (width age) smallCount) h)
 
   -- its size says which kind a table is
-  pub age-is : (age : Age) → OldTable (width age) placeCount old → ageOf old ≡ age
+  pub age-is : (age : Age) → OldTable (width age) smallCount old → ageOf old ≡ age
   unfolding ageOf
-  age-is plain big = ifb-true _ _ _ (eq-eqb (length old) (oldSizeOf (width plain) placeCount) big)
-  age-is dated big = ifb-false _ _ _ (ne-eqb (length old) (oldSizeOf (width plain) placeCount) (λ e. omega arith))
+  age-is plain big = ifb-true _ _ _ (eq-eqb (length old) (oldSizeOf (width plain) smallCount) big)
+  age-is dated big = ifb-false _ _ _ (ne-eqb (length old) (oldSizeOf (width plain) smallCount) (λ e. omega arith))
 
   module _ (new : List ℕ) where
     -- where a table of today has room, the table is taken exactly if it is sound as what its size says
-    pub converts-as : (age : Age) → OldTable (width age) placeCount old → Table placeCount new → converts old new ≡ soundOld age placeCount old
+    pub converts-as : (age : Age) → OldTable (width age) smallCount old → Table smallCount new → converts old new ≡ soundOld age smallCount old
     unfolding converts
     converts-as plain big room =
-        and-true _ _ (eq-eqb (length new) (sizeOf placeCount) room)
+        and-true _ _ (eq-eqb (length new) (sizeOf smallCount) room)
         ∙ or-none _ _ (other-size dated (λ e. omega arith))
     converts-as dated big room =
-        and-true _ _ (eq-eqb (length new) (sizeOf placeCount) room)
-        ∙ ap (λ (b : Bool). b || soundOld dated placeCount old) (other-size plain (λ e. omega arith))
+        and-true _ _ (eq-eqb (length new) (sizeOf smallCount) room)
+        ∙ ap (λ (b : Bool). b || soundOld dated smallCount old) (other-size plain (λ e. omega arith))
 
     -- so each sound old table is converted
-    pub each-converts : (age : Age) → soundOld age placeCount old ≡ true → Table placeCount new → (converts old new ≡ true) × (converted old new ≡ widened (width age) placeCount old)
+    pub each-converts : (age : Age) → soundOld age smallCount old ≡ true → Table smallCount new → (converts old new ≡ true) × (converted old new ≡ widened (width age) smallCount old)
     unfolding converted
     each-converts age right room =
-        let big = sized placeCount old age right in
+        let big = sized smallCount old age right in
         let yes-sound : converts old new ≡ true = converts-as age big room ∙ right in
-        (yes-sound, ifb-true _ _ _ yes-sound ∙ ap (λ (a : Age). widened (width a) placeCount old) (age-is age big))
+        (yes-sound, ifb-true _ _ _ yes-sound ∙ ap (λ (a : Age). widened (width a) smallCount old) (age-is age big))
 
     -- and what is sound as neither kind is declined, and so is whatever comes where there is no room of the right size
-    pub neither-converts : soundOld plain placeCount old ≡ false → soundOld dated placeCount old ≡ false → converts old new ≡ false
+    pub neither-converts : soundOld plain smallCount old ≡ false → soundOld dated smallCount old ≡ false → converts old new ≡ false
     unfolding converts
     neither-converts p d = and-no _ _ (or-none _ _ d ∙ p)
 
-    pub no-room : (Table placeCount new → ⊥) → converts old new ≡ false
+    pub no-room : (Table smallCount new → ⊥) → converts old new ≡ false
     unfolding converts
-    no-room h = no-unless _ (λ e. not-both _ (and-r (soundOld plain placeCount old || soundOld dated placeCount old) _ e) (ne-eqb (length new) (sizeOf placeCount) h))
+    no-room h = no-unless _ (λ e. not-both _ (and-r (soundOld plain smallCount old || soundOld dated smallCount old) _ e) (ne-eqb (length new) (sizeOf smallCount) h))

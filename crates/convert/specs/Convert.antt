@@ -9,7 +9,7 @@ use lib.Dec.{eqb}
 use Rattle.octets.specs.If.{ifb}
 use Rattle.names.specs.Names.{noName}
 use Rattle.table.specs.declared.Record.{Record}
-use Rattle.table.specs.Layout.{sizeOf, placeCount}
+use Rattle.table.specs.Layout.{sizeOf, smallCount}
 use Rattle.table.specs.Records.{placeAt, lastSerial, placesSaid, latestClock}
 use Rattle.soundness.specs.Sound.{sound}
 use Rattle.convert.specs.Old.{Age, plain, dated, width, oldSizeOf, oldPlaceAt, widened, narrowed}
@@ -17,19 +17,19 @@ use Rattle.convert.specs.OldSound.{soundOld}
 
 -- whether `old` is a sound table of 01 or of L3, and `new` has room for what it becomes, not a byte more
 unfoldable pub converts : List ℕ → List ℕ → Bool
-converts old new = (soundOld plain placeCount old || soundOld dated placeCount old) && eqb (length new) (sizeOf placeCount)
+converts old new = (soundOld plain smallCount old || soundOld dated smallCount old) && eqb (length new) (sizeOf smallCount)
 
 -- which of the two a table is, by its size
 unfoldable pub ageOf : List ℕ → Age
-ageOf old = ifb (eqb (length old) (oldSizeOf (width plain) placeCount)) plain dated
+ageOf old = ifb (eqb (length old) (oldSizeOf (width plain) smallCount)) plain dated
 
 -- what is left in `new`: the new table, or what it held
 unfoldable pub converted : List ℕ → List ℕ → List ℕ
-converted old new = let wide = widened (width (ageOf old)) placeCount old in ifb (converts old new) wide new
+converted old new = let wide = widened (width (ageOf old)) smallCount old in ifb (converts old new) wide new
 
 -- what is left in `new` once an old table with bodies of w bytes was put together anew: the new table if that is sound, or what it held
 unfoldable pub ifSound : ℕ → List ℕ → List ℕ → List ℕ
-ifSound w old new = let wide = widened w placeCount old in ifb (sound placeCount wide) wide new
+ifSound w old new = let wide = widened w smallCount old in ifb (sound smallCount wide) wide new
 
 -- ---- what an old table should become
 

@@ -3,7 +3,7 @@
 // latest clock 0. Anything else is declined, and nothing is written then.
 ghost use mathlib.Core.Path.{_≡_};
 ghost use lib.Seq.{sets};
-ghost use Rattle.table.specs.Layout.{bodyStart, placeCount};
+ghost use Rattle.table.specs.Layout.{bodyStart, smallCount};
 ghost use Rattle.soundness.specs.Sound.{sound};
 ghost use Rattle.convert.specs.Old.{BothTables, BothPlaces, oldBodyAt, lengthened, widened};
 ghost use Rattle.convert.specs.Convert.{converts, converted, ifSound};
@@ -14,9 +14,9 @@ const PLAIN_BODY: usize = 56;
 
 const DATED_BODY: usize = 72;
 
-pub const PLAIN_SIZE: usize = Layout::LEAD + (Layout::LINE + PLAIN_BODY) * Layout::PLACES;
+pub const PLAIN_SIZE: usize = Layout::LEAD + (Layout::LINE + PLAIN_BODY) * Layout::SMALL_COUNT;
 
-pub const DATED_SIZE: usize = Layout::LEAD + (Layout::LINE + DATED_BODY) * Layout::PLACES;
+pub const DATED_SIZE: usize = Layout::LEAD + (Layout::LINE + DATED_BODY) * Layout::SMALL_COUNT;
 
 // Copies the body of place i, of w bytes, with zeros behind it. `fill` shows the sizes and counts
 // the places.
@@ -50,13 +50,13 @@ fn fill(old: &[u8], new: &mut [u8], w: usize, n: usize)
 // Puts the new table of an old one with bodies of w bytes together aside, and stores it if the
 // check of today finds it sound: answers whether it does. `convert` shows the sizes.
 fn store_sound(old: &[u8], new: &mut [u8], w: usize) -> bool
-    requires { ⌜ BothTables w placeCount (now old) (now new) ⌝ }
-    ensures { λ r. ⌜ r ≡ sound placeCount (widened w placeCount (now (old .entry))) ⌝ }
+    requires { ⌜ BothTables w smallCount (now old) (now new) ⌝ }
+    ensures { λ r. ⌜ r ≡ sound smallCount (widened w smallCount (now (old .entry))) ⌝ }
     ensures { λ _. ⌜ now (new .exit) ≡ ifSound w (now (old .entry)) (now (new .entry)) ⌝ }
 {
-    let mut wide = [0u8; Layout::SIZE];
-    fill(old, &mut wide, w, Layout::PLACES);
-    if !soundness::is_sound(&wide, Layout::PLACES) {
+    let mut wide = [0u8; Layout::SMALL_SIZE];
+    fill(old, &mut wide, w, Layout::SMALL_COUNT);
+    if !soundness::is_sound(&wide, Layout::SMALL_COUNT) {
         return false;
     }
     octets::put_all(new, 0, &wide);
@@ -71,7 +71,7 @@ pub fn convert(old: &[u8], new: &mut [u8]) -> bool
     ensures { λ r. ⌜ r ≡ converts (now (old .entry)) (now (new .entry)) ⌝ }
     ensures { λ _. ⌜ now (new .exit) ≡ converted (now (old .entry)) (now (new .entry)) ⌝ }
 {
-    if new.len() != Layout::SIZE {
+    if new.len() != Layout::SMALL_SIZE {
         return false;
     }
     if old.len() == DATED_SIZE {

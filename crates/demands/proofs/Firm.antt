@@ -16,7 +16,7 @@ use Rattle.octets.proofs.If.{on-bool, ifb-false}
 use Rattle.octets.proofs.Bools.{both, and-l}
 use Rattle.table.specs.declared.Record.{Record}
 use Rattle.search.specs.declared.Found.the-variants.{At}
-use Rattle.table.specs.Layout.{placeCount, materialSize}
+use Rattle.table.specs.Layout.{smallCount, materialSize}
 use Rattle.table.specs.Records.{placeAt, serialAt, lastSerial, latestClock}
 use Rattle.table.proofs.Places.{serial-is}
 use Rattle.search.specs.Search.{find}
@@ -163,10 +163,10 @@ listed-past operation code from to h new =
 
 -- ---- one item
 
-module _ (strip : List ℕ) (k holder : ℕ) (t : List ℕ) (asked : Asked) (held : Held placeCount t) (fresh-bytes : Bytes (envAt placeCount strip k .fresh))
-    (long : materialSize ≤ length (envAt placeCount strip k .fresh)) where
+module _ (strip : List ℕ) (k holder : ℕ) (t : List ℕ) (asked : Asked) (held : Held smallCount t) (fresh-bytes : Bytes (envAt smallCount strip k .fresh))
+    (long : materialSize ≤ length (envAt smallCount strip k .fresh)) where
   abbrev env : Env
-  env = envAt placeCount strip k
+  env = envAt smallCount strip k
 
   abbrev did : Did
   did = step env holder t asked
@@ -185,13 +185,13 @@ module _ (strip : List ℕ) (k holder : ℕ) (t : List ℕ) (asked : Asked) (hel
       let p = kind-paid env holder t held fresh-bytes c did went x h in
       record {
         place = p .place;
-        stands = record { below = p .below; serial = serial-is placeCount t (p .place) ∙ p .serial };
+        stands = record { below = p .below; serial = serial-is smallCount t (p .place) ∙ p .serial };
         active = p .usable;
         in-time = before (p .place) (p .below) (p .usable);
       }
 
   -- what is issued is new
-  counts : Counts placeCount t holder c did
+  counts : Counts smallCount t holder c did
   counts = kind-counts env holder t held fresh-bytes c did went (commanded (asked .operation) (asked .payload))
 
   issued-later : lastSerial t ≤ lastSerial (did .table)
@@ -251,4 +251,4 @@ module _ (c : Call) (start : List ℕ) (b : Begins c start) where
   }
     where
       stays : (i : ℕ) → Stands x start i → serialAt start i ≡ serialAt (c .table) i
-      stays i s = serial-is placeCount start i ∙ ap (λ (r : Record). r .serial) (b .places i (s .below)) ∙ ripened-serial (counted c) (recordIn (c .table) i) ∙ sym (serial-is placeCount (c .table) i)
+      stays i s = serial-is smallCount start i ∙ ap (λ (r : Record). r .serial) (b .places i (s .below)) ∙ ripened-serial (counted c) (recordIn (c .table) i) ∙ sym (serial-is smallCount (c .table) i)

@@ -5,7 +5,7 @@ use native.Mathlib.Omega.{arith}
 use mathlib.Core.Path.{_≡_, refl, sym, ap, subst, _∙_}
 use mathlib.Core.Bool.{Bool, true, false}
 use mathlib.Core.List.{List, [], _∷_, _++_}
-use Rattle.table.specs.Layout.{placeCount}
+use Rattle.table.specs.Layout.{smallCount}
 use Rattle.table.specs.declared.Record.{Record}
 use Rattle.table.specs.Records.{serialAt, blank}
 use Rattle.table.proofs.Places.{serial-is}
@@ -49,9 +49,9 @@ opens-due (accepted due) e = due
 opens-due (refused h) e = absurd (h e)
 
 -- what is due leaves every identifier in its place
-pub due-serial : {clock : ℕ} (t u : List ℕ) → DueOnly clock t u → (i : ℕ) → i < placeCount → serialAt u i ≡ serialAt t i
+pub due-serial : {clock : ℕ} (t u : List ℕ) → DueOnly clock t u → (i : ℕ) → i < smallCount → serialAt u i ≡ serialAt t i
 unfolding inState
-due-serial t u due i low = serial-is placeCount u i ∙ ap (λ (r : Record). r .serial) (due .others i low) ∙ sym (serial-is placeCount t i)
+due-serial t u due i low = serial-is smallCount u i ∙ ap (λ (r : Record). r .serial) (due .others i low) ∙ sym (serial-is smallCount t i)
 
 -- x was issued, does not stand, and has so many units
 pub record Gone (x units : ℕ) (log : List Event) (t : List ℕ) : Type 0 where
@@ -105,7 +105,7 @@ module _ (B : Box) (d : Demand3 B) where
   -- the books are in order at every point between two calls, as they are between two items
   pub in-order : {log : List Event} {t : List ℕ} → Run B log t → InOrder log t
   unfolding logged
-  in-order begins = inv-order [] (blank placeCount) (blank-books .inv) (blank-books .dead)
+  in-order begins = inv-order [] (blank smallCount) (blank-books .inv) (blank-books .dead)
   in-order (calls {log} {t} c e r same lent b) = let g = d .goes log t r c e same lent b in path-order (g .path) (g .order)
 
   later-gone : (x units : ℕ) → (x ≡ 0 → ⊥) → {log log′ : List Event} {t t′ : List ℕ} → Run B log t → Gone x units log t → Later B log t log′ t′ → Gone x units log′ t′

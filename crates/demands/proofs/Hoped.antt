@@ -13,7 +13,7 @@ use borrow.Author.Tests.{eq-eqb, ne-eqb}
 use Rattle.octets.specs.Octets.{Bytes}
 use Rattle.octets.proofs.If.{ifb-true, ifb-false}
 use Rattle.table.specs.declared.Record.{Record}
-use Rattle.table.specs.Layout.{placeCount, materialSize}
+use Rattle.table.specs.Layout.{smallCount, materialSize}
 use Rattle.table.specs.Records.{placeAt, lastSerial, latestClock, blank}
 use Rattle.table.proofs.Places.{serial-is}
 use Rattle.table.proofs.Blank.{latest-blank, place-blank}
@@ -49,7 +49,7 @@ use Rattle.demands.proofs.Firm.{step-in-time, step-spends, step-stopped
 
 -- what holds between two items
 pub record Point (clock : ℕ) (t : List ℕ) : Type 0 where
-  pub held : Held placeCount t
+  pub held : Held smallCount t
   latest : latestClock t ≡ clock
   in-time : InTime clock t
 
@@ -61,22 +61,22 @@ record Reaches (clock : ℕ) (t : List ℕ) (links : List Link) (u : List ℕ) :
 
 module _ (c : Call) (strip-bytes : Bytes (c .strip)) (option clock : ℕ) where
   module _ (i holder : ℕ) (t : List ℕ) (asked : Asked) (fits : materialSize * i + materialSize ≤ length (c .strip)) (p : Point clock t) where
-    abbrev fresh : Bytes (envAt placeCount (c .strip) i .fresh)
-    fresh = own-bytes placeCount (c .strip) option strip-bytes i fits
+    abbrev fresh : Bytes (envAt smallCount (c .strip) i .fresh)
+    fresh = own-bytes smallCount (c .strip) option strip-bytes i fits
 
-    abbrev long : materialSize ≤ length (envAt placeCount (c .strip) i .fresh)
-    long = own-long placeCount (c .strip) option strip-bytes i fits
+    abbrev long : materialSize ≤ length (envAt smallCount (c .strip) i .fresh)
+    long = own-long smallCount (c .strip) option strip-bytes i fits
 
     abbrev stepped : Did
-    stepped = step (envAt placeCount (c .strip) i) holder t asked
+    stepped = step (envAt smallCount (c .strip) i) holder t asked
 
     before : InTime (latestClock t) t
     before = subst (λ (k : ℕ). InTime k t) (sym (p .latest)) (p .in-time)
 
     step-point : Point clock (stepped .table)
     step-point = record {
-      held = step-held (envAt placeCount (c .strip) i) holder t (p .held) fresh long asked;
-      latest = step-latest (envAt placeCount (c .strip) i) holder t (p .held) fresh long asked ∙ p .latest;
+      held = step-held (envAt smallCount (c .strip) i) holder t (p .held) fresh long asked;
+      latest = step-latest (envAt smallCount (c .strip) i) holder t (p .held) fresh long asked ∙ p .latest;
       in-time = subst (λ (k : ℕ). InTime k (stepped .table)) (p .latest) (step-in-time (c .strip) i holder t asked (p .held) fresh long before);
     }
 
@@ -146,7 +146,7 @@ module _ (c : Call) (lent : Lent c) (x i : ℕ) (z : x ≡ 0 → ⊥) (s : Stand
       let come-now = subst (λ (k : ℕ). hasCome k (recordIn (c .table) i .deactivation) ≡ true) (sym (counting-is c)) come in
       ap (λ (events : List Event). granted x (onto events log)) (events-accepted c lent a)
       ∙ batch-nothing (c .strip) (optionOf (a .frame .header .option)) (lent .strip) x (a .frame .items) 0 0 0 (startOf c) log (run-fits c lent a) (held-start c lent a)
-      (subst (λ (k : ℕ). IdleIn k x (startOf c)) (sym (began-latest placeCount (c .table) held (counting c) later fits))
+      (subst (λ (k : ℕ). IdleIn k x (startOf c)) (sym (began-latest smallCount (c .table) held (counting c) later fits))
       (began-idle (c .table) held (counting c) later fits x i z (s .below) (s .serial) come-now))
 
 -- ---- a run
@@ -156,15 +156,15 @@ pub record Reached (clocks : List ℕ) (t : List ℕ) : Type 0 where
   pub point : Point (latestClock t) t
   largest-is : latestClock t ≡ largest clocks
 
-blank-reached : Reached [] (blank placeCount)
+blank-reached : Reached [] (blank smallCount)
 unfolding largest
 blank-reached = record {
   point = record {
-    held = held-blank placeCount (lit< tt);
+    held = held-blank smallCount (lit< tt);
     latest = refl;
-    in-time = λ i low e. absurd (let z : recordIn (blank placeCount) i .state ≡ 0 = ap (λ (r : Record). r .state) (place-blank placeCount i low) in omega arith);
+    in-time = λ i low e. absurd (let z : recordIn (blank smallCount) i .state ≡ 0 = ap (λ (r : Record). r .state) (place-blank smallCount i low) in omega arith);
   };
-  largest-is = latest-blank placeCount;
+  largest-is = latest-blank smallCount;
 }
 
 module _ (B : Box) (d1 : Demand1 B) (d2 : Demand2 B) where
@@ -223,11 +223,11 @@ module _ (B : Box) (d1 : Demand1 B) (d2 : Demand2 B) where
   later-stopped x s (further c e l same lent b) = call-stopped c e lent b x (subst (Stopped x) (sym same) (later-stopped x s l))
 
   -- a Deactivated key that stands is stopped
-  deactivated-stopped : (t : List ℕ) → Held placeCount t → (x i : ℕ) → (x ≡ 0 → ⊥) → Stands x t i → recordIn t i .state ≡ deactivated → Stopped x t
+  deactivated-stopped : (t : List ℕ) → Held smallCount t → (x i : ℕ) → (x ≡ 0 → ⊥) → Stands x t i → recordIn t i .state ≡ deactivated → Stopped x t
   deactivated-stopped t held x i z s e = record {
-    issued = subst (λ (k : ℕ). k ≤ lastSerial t) (s .serial) (facts placeCount t held .issued i (s .below));
+    issued = subst (λ (k : ℕ). k ≤ lastSerial t) (s .serial) (facts smallCount t held .issued i (s .below));
     past = λ j u.
-        let q : i ≡ j = facts placeCount t held .distinct i j (s .below) (u .below) (λ k. z (sym (s .serial) ∙ k)) (s .serial ∙ sym (u .serial)) in
+        let q : i ≡ j = facts smallCount t held .distinct i j (s .below) (u .below) (λ k. z (sym (s .serial) ∙ k)) (s .serial ∙ sym (u .serial)) in
         subst (λ (k : ℕ). (recordIn t k .state ≡ preActive → ⊥) × (recordIn t k .state ≡ active → ⊥)) q (λ a. omega arith, λ a. omega arith);
   }
 

@@ -16,7 +16,7 @@ use Rattle.octets.proofs.Over.{length-over}
 use Rattle.ttlv.specs.Items.{encode}
 use Rattle.ttlv.specs.Parse.{message}
 use Rattle.ttlv.proofs.Message.{message-spells}
-use Rattle.table.specs.Layout.{placeCount}
+use Rattle.table.specs.Layout.{smallCount}
 use Rattle.table.specs.Records.{latestClock}
 use Rattle.values.specs.Values.{aboveZero}
 use Rattle.changes.specs.Dates.{ripened, countedClock}
@@ -52,7 +52,7 @@ counting-is c =
 
 module _ (c : Call) (lent : Lent c) (a : Accepted c) where
   -- the table that it meets
-  pub held-lent : Held placeCount (c .table)
+  pub held-lent : Held smallCount (c .table)
   held-lent = record { right = a .right; bytes = lent .table }
 
   clock-least : 1 ≤ c .clock
@@ -68,7 +68,7 @@ module _ (c : Call) (lent : Lent c) (a : Accepted c) where
 
   pub counting-fits : counting c < 2 ^ 63
   unfolding countedClock
-  counting-fits = on-if (λ (k : ℕ). k < 2 ^ 63) (λ e. facts placeCount (c .table) held-lent .latest) (λ e. clock-most)
+  counting-fits = on-if (λ (k : ℕ). k < 2 ^ 63) (λ e. facts smallCount (c .table) held-lent .latest) (λ e. clock-most)
 
   counting-least : 1 ≤ counting c
   unfolding countedClock
@@ -79,16 +79,16 @@ module _ (c : Call) (lent : Lent c) (a : Accepted c) where
   counting-above = and-i (leb 1 (counting c)) (ltb (counting c) (2 ^ 63)) (le-leb 1 (counting c) counting-least) (lt-ltb (counting c) (2 ^ 63) counting-fits)
 
   -- the table that its first item meets
-  pub held-start : Held placeCount (startOf c)
-  held-start = keeps-began placeCount (c .table) held-lent (counting c) counting-later counting-fits
+  pub held-start : Held smallCount (startOf c)
+  held-start = keeps-began smallCount (c .table) held-lent (counting c) counting-later counting-fits
 
   pub start-begins : Begins c (startOf c)
   start-begins = record {
     right = held-start .right;
     bytes = held-start .bytes;
-    issued = began-last placeCount (c .table) held-lent (counting c) counting-later counting-fits;
-    latest = began-latest placeCount (c .table) held-lent (counting c) counting-later counting-fits ∙ counting-is c;
-    places = λ i low. began-places placeCount (c .table) held-lent (counting c) counting-later counting-fits i low ∙ ap (λ (k : ℕ). ripened k (recordIn (c .table) i)) (counting-is c);
+    issued = began-last smallCount (c .table) held-lent (counting c) counting-later counting-fits;
+    latest = began-latest smallCount (c .table) held-lent (counting c) counting-later counting-fits ∙ counting-is c;
+    places = λ i low. began-places smallCount (c .table) held-lent (counting c) counting-later counting-fits i low ∙ ap (λ (k : ℕ). ripened k (recordIn (c .table) i)) (counting-is c);
   }
 
   -- its items are bounded as the frame bounds them
@@ -108,10 +108,10 @@ module _ (c : Call) (lent : Lent c) (a : Accepted c) where
       (omega arith, omega arith)
 
   -- what the batch of an accepted call leaves
-  pub ran-leaves : Leaves placeCount (c .strip) (optionOf (a .frame .header .option)) (lent .strip) (startOf c) (a .frame .items) (ranBy c a)
+  pub ran-leaves : Leaves smallCount (c .strip) (optionOf (a .frame .header .option)) (lent .strip) (startOf c) (a .frame .items) (ranBy c a)
   unfolding running
   ran-leaves =
-      batch-leaves placeCount (c .strip) (optionOf (a .frame .header .option)) (lent .strip) (a .frame .items) 0 0 (startOf c)
+      batch-leaves smallCount (c .strip) (optionOf (a .frame .header .option)) (lent .strip) (a .frame .items) 0 0 (startOf c)
       held-start bounded (omega (arith, count-facts .1, a .strip))
 
   -- its response is one that there is

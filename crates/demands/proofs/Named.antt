@@ -11,7 +11,7 @@ use Rattle.octets.specs.Octets.{Bytes}
 use Rattle.octets.proofs.Maybe.{some-is, on-bind, on-test}
 use Rattle.ttlv.specs.Items.{Items}
 use Rattle.table.specs.declared.Record.{Record}
-use Rattle.table.specs.Layout.{placeCount, materialSize}
+use Rattle.table.specs.Layout.{smallCount, materialSize}
 use Rattle.table.specs.Records.{placeAt, serialAt, nameAt}
 use Rattle.table.proofs.Places.{name-is}
 use Rattle.table.proofs.Blank.{zero-place}
@@ -51,23 +51,23 @@ use Rattle.demands.proofs.Serve.{Serve, demand-1, demand-2}
 
 -- ---- a table
 
-module _ (t : List ℕ) (held : Held placeCount t) where
+module _ (t : List ℕ) (held : Held smallCount t) where
   names-apart : NamesApart t
   names-apart i j h g there e =
-      facts placeCount t held .named i j h g (ap isNamed (name-is placeCount t i) ∙ there) (name-is placeCount t i ∙ e ∙ sym (name-is placeCount t j))
+      facts smallCount t held .named i j h g (ap isNamed (name-is smallCount t i) ∙ there) (name-is smallCount t i ∙ e ∙ sym (name-is smallCount t j))
 
   -- a record with a name stands
-  named-stands : (i : ℕ) → i < placeCount → isNamed (nameAt placeCount t i) ≡ true → serialAt t i ≡ 0 → ⊥
+  named-stands : (i : ℕ) → i < smallCount → isNamed (nameAt smallCount t i) ≡ true → serialAt t i ≡ 0 → ⊥
   named-stands i low there z =
-      let empty = facts placeCount t held .free i low z in
-      let bare : placeAt placeCount t i ≡ _ = zero-place placeCount t i (facts placeCount t held .size) low (empty .line) (empty .body) in
-      true≢false (sym there ∙ ap isNamed (name-is placeCount t i ∙ ap (λ (r : Record). r .name) bare))
+      let empty = facts smallCount t held .free i low z in
+      let bare : placeAt smallCount t i ≡ _ = zero-place smallCount t i (facts smallCount t held .size) low (empty .line) (empty .body) in
+      true≢false (sym there ∙ ap isNamed (name-is smallCount t i ∙ ap (λ (r : Record). r .name) bare))
 
-  located : (name : Name) → isNamed name ≡ true → (f : Found) → findName placeCount t name ≡ f → LocatedAs name t (serialFound t f)
+  located : (name : Name) → isNamed name ≡ true → (f : Found) → findName smallCount t name ≡ f → LocatedAs name t (serialFound t f)
   unfolding serialFound
   located name is (At i) e =
-      let low = found-name-below placeCount t name i e in
-      let here = found-name placeCount t name i e in
+      let low = found-name-below smallCount t name i e in
+      let here = found-name smallCount t name i e in
       let there = ap isNamed here ∙ is in
       record {
         nothing = λ z. absurd (named-stands i low there z);
@@ -75,13 +75,13 @@ module _ (t : List ℕ) (held : Held placeCount t) where
           i,
           record { below = low; serial = refl },
           record {
-            here = sym (name-is placeCount t i) ∙ here;
-            only = λ j l q. sym (facts placeCount t held .named i j low l there (here ∙ sym q ∙ sym (name-is placeCount t j)));
+            here = sym (name-is smallCount t i) ∙ here;
+            only = λ j l q. sym (facts smallCount t held .named i j low l there (here ∙ sym q ∙ sym (name-is smallCount t j)));
           },
         );
       }
   located name is Nothing e = record {
-    nothing = λ z j l q. none-named placeCount t name is e j l (name-is placeCount t j ∙ q);
+    nothing = λ z j l q. none-named smallCount t name is e j l (name-is smallCount t j ∙ q);
     there = λ z. absurd (z refl);
   }
 
@@ -123,9 +123,9 @@ asked-named operation t e = locate-named t (sym (of-locate operation t (locate-i
         by-locate : {name : Name} → Commanded operation (Locate name) → operation ≡ locate
         by-locate (to-locate o) = o
 
-module _ (strip : List ℕ) (k holder : ℕ) (t : List ℕ) (asked : Asked) (held : Held placeCount t) where
+module _ (strip : List ℕ) (k holder : ℕ) (t : List ℕ) (asked : Asked) (held : Held smallCount t) where
   abbrev env : Env
-  env = envAt placeCount strip k
+  env = envAt smallCount strip k
 
   -- an item that asks for a name answers what is found
   step-locates : (name : Name) → command (asked .operation) (asked .payload) ≡ Locate name → LocatedAs name t (carries (step env holder t asked .outcome))
@@ -133,23 +133,23 @@ module _ (strip : List ℕ) (k holder : ℕ) (t : List ℕ) (asked : Asked) (hel
   step-locates name e =
       let did : carriedOut t (plan env holder t (command (asked .operation) (asked .payload))) ≡ locatePlan env holder t name .did = ap (λ (c : Command). carriedOut t (plan env holder t c)) e ∙ is-done t _ in
       subst (λ (serial : ℕ). LocatedAs name t serial) (sym (ap (λ (d : Did). carries (d .outcome)) did))
-      (located t held name (asked-named (asked .operation) (asked .payload) e) (findName placeCount t name) refl)
+      (located t held name (asked-named (asked .operation) (asked .payload) e) (findName smallCount t name) refl)
 
 -- ---- the items of a call
 
 module _ (c : Call) (strip-bytes : Bytes (c .strip)) (option : ℕ) where
   -- a link that is due is the one that is carried out
-  due-named : (i holder : ℕ) (t : List ℕ) (asked : Asked) → materialSize * i + materialSize ≤ length (c .strip) → Held placeCount t
-      → (did : Did) → Due (linkAt c i holder t asked did) → Named (linkAt c i holder t asked did) × Held placeCount (did .table)
+  due-named : (i holder : ℕ) (t : List ℕ) (asked : Asked) → materialSize * i + materialSize ≤ length (c .strip) → Held smallCount t
+      → (did : Did) → Due (linkAt c i holder t asked did) → Named (linkAt c i holder t asked did) × Held smallCount (did .table)
   due-named i holder t asked fits held did d =
-      let own = envAt placeCount (c .strip) i in
-      let after : Held placeCount (step own holder t asked .table) =
-      step-held own holder t held (own-bytes placeCount (c .strip) option strip-bytes i fits) (own-long placeCount (c .strip) option strip-bytes i fits) asked in
-      subst (λ (q : Did). Named (linkAt c i holder t asked q) × Held placeCount (q .table)) (sym (due-step (linkAt c i holder t asked did) d))
+      let own = envAt smallCount (c .strip) i in
+      let after : Held smallCount (step own holder t asked .table) =
+      step-held own holder t held (own-bytes smallCount (c .strip) option strip-bytes i fits) (own-long smallCount (c .strip) option strip-bytes i fits) asked in
+      subst (λ (q : Did). Named (linkAt c i holder t asked q) × Held smallCount (q .table)) (sym (due-step (linkAt c i holder t asked did) d))
       (record { meets = names-apart t held; leaves = names-apart (step own holder t asked .table) after; locates = step-locates (c .strip) i holder t asked held }, after)
 
   chain-named : {i holder : ℕ} {t u : List ℕ} {items : List Asked} {links : List Link} → Chain c option i holder t items links u
-      → materialSize * (i + length items) ≤ length (c .strip) → Held placeCount t → Every Named links
+      → materialSize * (i + length items) ≤ length (c .strip) → Held smallCount t → Every Named links
   chain-named none-left fits held = none
   chain-named (stops {i} {holder} {t} asked did d g) fits held = more (due-named i holder t asked (omega arith) held did d .0) none
   chain-named (goes-on {i} {holder} {t} asked did d g rest) fits held =

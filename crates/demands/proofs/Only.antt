@@ -12,7 +12,7 @@ use Rattle.octets.specs.Octets.{over}
 use Rattle.octets.proofs.If.{ifb-true, ifb-false}
 use Rattle.octets.proofs.Maybe.{some-is}
 use Rattle.ttlv.specs.Items.{encode}
-use Rattle.table.specs.Layout.{placeCount}
+use Rattle.table.specs.Layout.{smallCount}
 use Rattle.table.proofs.Same.{lead-same}
 use Rattle.soundness.proofs.SoundIs.{sound-is}
 use Rattle.soundness.proofs.Same.{sound-same}
@@ -58,10 +58,10 @@ module _ (c : Call) (option : ℕ) where
 start-same : (c : Call) → Lent c → Accepted c → (start : List ℕ) → Begins c start → start ≡ startOf c
 start-same c lent a start b =
     let ours = start-begins c lent a in
-    let facts = sound-is placeCount start (b .right) in
-    let also = sound-is placeCount (startOf c) (ours .right) in
-    sound-same placeCount start (startOf c) (b .right) (ours .right) (b .bytes) (ours .bytes)
-    (lead-same placeCount start (startOf c) (facts .size) (also .size) (b .bytes) (ours .bytes)
+    let facts = sound-is smallCount start (b .right) in
+    let also = sound-is smallCount (startOf c) (ours .right) in
+    sound-same smallCount start (startOf c) (b .right) (ours .right) (b .bytes) (ours .bytes)
+    (lead-same smallCount start (startOf c) (facts .size) (also .size) (b .bytes) (ours .bytes)
     (b .issued ∙ sym (ours .issued)) (facts .count ∙ sym (also .count)) (b .latest ∙ sym (ours .latest)))
     (λ i low. b .places i low ∙ sym (ours .places i low))
 

@@ -10,7 +10,7 @@ use lib.Dec.{eqb}
 use borrow.Author.Tests.{eq-eqb}
 use Rattle.octets.proofs.Bools.{and-i, or-l, or-r}
 use Rattle.table.specs.declared.Record.{Record}
-use Rattle.table.specs.Layout.{placeCount}
+use Rattle.table.specs.Layout.{smallCount}
 use Rattle.table.specs.Records.{placeAt, serialAt, lastSerial, latestClock}
 use Rattle.table.proofs.Places.{serial-is}
 use Rattle.search.specs.Search.{isDestroyed}
@@ -61,43 +61,43 @@ module _ (clock : ℕ) (r : Record) where
 
 -- ---- the table
 
-module _ (t : List ℕ) (held : Held placeCount t) (clock : ℕ) (later : latestClock t ≤ clock) (fits : clock < 2 ^ 63) where
+module _ (t : List ℕ) (held : Held smallCount t) (clock : ℕ) (later : latestClock t ≤ clock) (fits : clock < 2 ^ 63) where
   abbrev start : List ℕ
-  start = began placeCount clock t
+  start = began smallCount clock t
 
-  place : (i : ℕ) → i < placeCount → placeAt placeCount start i ≡ ripened clock (placeAt placeCount t i)
-  place = began-places placeCount t held clock later fits
+  place : (i : ℕ) → i < smallCount → placeAt smallCount start i ≡ ripened clock (placeAt smallCount t i)
+  place = began-places smallCount t held clock later fits
 
   -- identifiers stay in their places
-  serial-stays : (i : ℕ) → i < placeCount → serialAt start i ≡ serialAt t i
+  serial-stays : (i : ℕ) → i < smallCount → serialAt start i ≡ serialAt t i
   unfolding ripened inState
-  serial-stays i low = serial-is placeCount start i ∙ ap (λ (r : Record). r .serial) (place i low) ∙ sym (serial-is placeCount t i)
+  serial-stays i low = serial-is smallCount start i ∙ ap (λ (r : Record). r .serial) (place i low) ∙ sym (serial-is smallCount t i)
 
   pub due-only : DueOnly clock t start
   unfolding ripened inState
   due-only = record {
-    latest = inr (began-latest placeCount t held clock later fits);
-    issued = began-last placeCount t held clock later fits;
-    moves = λ i low other. subst (λ (r : Record). (r .state ≡ placeAt placeCount t i .state → ⊥) → listedBy clock (placeAt placeCount t i) (r .state) ≡ true) (sym (place i low)) (ripe-moves i) other;
-    others = λ i low. subst (λ (r : Record). r ≡ inState (r .state) (placeAt placeCount t i .material) (placeAt placeCount t i)) (sym (place i low)) (ripe-others i);
+    latest = inr (began-latest smallCount t held clock later fits);
+    issued = began-last smallCount t held clock later fits;
+    moves = λ i low other. subst (λ (r : Record). (r .state ≡ placeAt smallCount t i .state → ⊥) → listedBy clock (placeAt smallCount t i) (r .state) ≡ true) (sym (place i low)) (ripe-moves i) other;
+    others = λ i low. subst (λ (r : Record). r ≡ inState (r .state) (placeAt smallCount t i .material) (placeAt smallCount t i)) (sym (place i low)) (ripe-others i);
   }
     where
-      ripe-moves : (i : ℕ) → (ripened clock (placeAt placeCount t i) .state ≡ placeAt placeCount t i .state → ⊥) → listedBy clock (placeAt placeCount t i) (ripened clock (placeAt placeCount t i) .state) ≡ true
-      ripe-moves i moved = ripe-listed clock (placeAt placeCount t i) moved
+      ripe-moves : (i : ℕ) → (ripened clock (placeAt smallCount t i) .state ≡ placeAt smallCount t i .state → ⊥) → listedBy clock (placeAt smallCount t i) (ripened clock (placeAt smallCount t i) .state) ≡ true
+      ripe-moves i moved = ripe-listed clock (placeAt smallCount t i) moved
 
-      ripe-others : (i : ℕ) → ripened clock (placeAt placeCount t i) ≡ inState (ripened clock (placeAt placeCount t i) .state) (placeAt placeCount t i .material) (placeAt placeCount t i)
+      ripe-others : (i : ℕ) → ripened clock (placeAt smallCount t i) ≡ inState (ripened clock (placeAt smallCount t i) .state) (placeAt smallCount t i .material) (placeAt smallCount t i)
       ripe-others i = refl
 
   module _ (log : List Event) where
-    inv-began : Inv placeCount log t → Inv placeCount log start
+    inv-began : Inv smallCount log t → Inv smallCount log start
     unfolding ripened inState
     inv-began inv = record {
-      held = keeps-began placeCount t held clock later fits;
+      held = keeps-began smallCount t held clock later fits;
       balanced = λ i low z. subst (Balanced log) (sym (place i low))
-          (ripe-balanced clock (placeAt placeCount t i) log (inv .balanced i low (λ k. z (ap (λ (r : Record). r .serial) (place i low) ∙ k))));
+          (ripe-balanced clock (placeAt smallCount t i) log (inv .balanced i low (λ k. z (ap (λ (r : Record). r .serial) (place i low) ∙ k))));
       within = inv .within;
       once = inv .once;
-      later = λ x l. inv .later x (subst (λ (k : ℕ). k < x) (began-last placeCount t held clock later fits) l);
+      later = λ x l. inv .later x (subst (λ (k : ℕ). k < x) (began-last smallCount t held clock later fits) l);
     }
 
     dead-began : Dead log t → Dead log start
@@ -109,8 +109,8 @@ module _ (t : List ℕ) (held : Held placeCount t) (clock : ℕ) (later : latest
       silent = d .silent;
     }
       where
-        ripe-state : (i : ℕ) → isDestroyed (placeAt placeCount t i .state) ≡ true → isDestroyed (ripened clock (placeAt placeCount t i) .state) ≡ true
-        ripe-state i e = ripe-destroyed clock (placeAt placeCount t i) e
+        ripe-state : (i : ℕ) → isDestroyed (placeAt smallCount t i .state) ≡ true → isDestroyed (ripened clock (placeAt smallCount t i) .state) ≡ true
+        ripe-state i e = ripe-destroyed clock (placeAt smallCount t i) e
 
     -- the books stay in order
     pub books-began : Books log t → Books log start

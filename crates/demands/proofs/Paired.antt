@@ -10,7 +10,7 @@ use borrow.Author.Tests.{eq-eqb, ne-eqb}
 use Rattle.octets.specs.If.{ifb}
 use Rattle.octets.specs.Octets.{Bytes}
 use Rattle.octets.proofs.If.{ifb-true, ifb-false, on-if}
-use Rattle.table.specs.Layout.{placeCount, materialSize}
+use Rattle.table.specs.Layout.{smallCount, materialSize}
 use Rattle.rules.specs.Numbers.{rekey, getUsageAllocation, activate, revoke, destroy}
 use Rattle.batch_item.specs.Item.{Asked}
 use Rattle.rules.specs.declared.Offset.{Offset}
@@ -68,7 +68,7 @@ paired-end held (asked ∷ items) = refl
 
 -- what holds of the log and the table between any two items: the counts, and the dead
 pub record Books (log : List Event) (t : List ℕ) : Type 0 where
-  pub inv : Inv placeCount log t
+  pub inv : Inv smallCount log t
   pub dead : Dead log t
 
 -- from a log and a table along events to a table: a path, and what holds behind it
@@ -88,21 +88,21 @@ onward {log} ev u tame b rest = record { path = went ev u tame (inv-order (ev �
 
 module _ (strip : List ℕ) (option : ℕ) (strip-bytes : Bytes strip) where
   -- one item keeps the invariant
-  step-inv : (i holder : ℕ) (t : List ℕ) (asked : Asked) (log : List Event) → materialSize * i + materialSize ≤ length strip → Inv placeCount log t
-      → Inv placeCount (eventOf holder asked (step (envAt placeCount strip i) holder t asked) ∷ log) (step (envAt placeCount strip i) holder t asked .table)
+  step-inv : (i holder : ℕ) (t : List ℕ) (asked : Asked) (log : List Event) → materialSize * i + materialSize ≤ length strip → Inv smallCount log t
+      → Inv smallCount (eventOf holder asked (step (envAt smallCount strip i) holder t asked) ∷ log) (step (envAt smallCount strip i) holder t asked .table)
   step-inv i holder t asked log l inv =
-      let env = envAt placeCount strip i in
-      let fresh = own-bytes placeCount strip option strip-bytes i l in
-      inv-event placeCount log t inv (eventOf holder asked (step env holder t asked)) (step env holder t asked) refl
+      let env = envAt smallCount strip i in
+      let fresh = own-bytes smallCount strip option strip-bytes i l in
+      inv-event smallCount log t inv (eventOf holder asked (step env holder t asked)) (step env holder t asked) refl
       (kind-counts env holder t (inv .held) fresh _ _ (step-kind env holder t asked) (commanded (asked .operation) (asked .payload)))
-      (step-held env holder t (inv .held) fresh (own-long placeCount strip option strip-bytes i l) asked)
+      (step-held env holder t (inv .held) fresh (own-long smallCount strip option strip-bytes i l) asked)
 
   -- and the dead stay so
   step-books : (i holder : ℕ) (t : List ℕ) (asked : Asked) (log : List Event) → materialSize * i + materialSize ≤ length strip → Books log t
-      → Tame (eventOf holder asked (step (envAt placeCount strip i) holder t asked)) t (step (envAt placeCount strip i) holder t asked .table)
-      → Books (eventOf holder asked (step (envAt placeCount strip i) holder t asked) ∷ log) (step (envAt placeCount strip i) holder t asked .table)
+      → Tame (eventOf holder asked (step (envAt smallCount strip i) holder t asked)) t (step (envAt smallCount strip i) holder t asked .table)
+      → Books (eventOf holder asked (step (envAt smallCount strip i) holder t asked) ∷ log) (step (envAt smallCount strip i) holder t asked .table)
   step-books i holder t asked log l b tame =
-      let did = step (envAt placeCount strip i) holder t asked in
+      let did = step (envAt smallCount strip i) holder t asked in
       let after = step-inv i holder t asked log l (b .inv) in
       record {
         inv = after;
@@ -115,31 +115,31 @@ module _ (strip : List ℕ) (option : ℕ) (strip-bytes : Bytes strip) where
 
   -- a batch goes along its events
   pub batch-travels : (items : List Asked) (i holder : ℕ) (t : List ℕ) (log : List Event) → materialSize * (i + length items) ≤ length strip → Books log t
-      → Claim log t holder items (batch placeCount strip option i holder t items)
+      → Claim log t holder items (batch smallCount strip option i holder t items)
   unfolding batch paired
   batch-travels [] i holder t log l b = stood b
   batch-travels (asked ∷ later) i holder t log l b =
-      turn (step (envAt placeCount strip i) holder t asked)
+      turn (step (envAt smallCount strip i) holder t asked)
       tame
       after
-      (kind-holder (envAt placeCount strip i) holder t (answerTo asked (step (envAt placeCount strip i) holder t asked)) _ _ (step-kind (envAt placeCount strip i) holder t asked) (commanded (asked .operation) (asked .payload)))
-      (batch-travels later (i + 1) (step (envAt placeCount strip i) holder t asked .holder) (step (envAt placeCount strip i) holder t asked .table)
-      (eventOf holder asked (step (envAt placeCount strip i) holder t asked) ∷ log) (omega arith) after)
+      (kind-holder (envAt smallCount strip i) holder t (answerTo asked (step (envAt smallCount strip i) holder t asked)) _ _ (step-kind (envAt smallCount strip i) holder t asked) (commanded (asked .operation) (asked .payload)))
+      (batch-travels later (i + 1) (step (envAt smallCount strip i) holder t asked .holder) (step (envAt smallCount strip i) holder t asked .table)
+      (eventOf holder asked (step (envAt smallCount strip i) holder t asked) ∷ log) (omega arith) after)
     where
-      tame : Tame (eventOf holder asked (step (envAt placeCount strip i) holder t asked)) t (step (envAt placeCount strip i) holder t asked .table)
-      tame = step-tame strip i holder t asked (b .inv .held) (own-bytes placeCount strip option strip-bytes i (omega arith)) (own-long placeCount strip option strip-bytes i (omega arith))
+      tame : Tame (eventOf holder asked (step (envAt smallCount strip i) holder t asked)) t (step (envAt smallCount strip i) holder t asked .table)
+      tame = step-tame strip i holder t asked (b .inv .held) (own-bytes smallCount strip option strip-bytes i (omega arith)) (own-long smallCount strip option strip-bytes i (omega arith))
 
-      after : Books (eventOf holder asked (step (envAt placeCount strip i) holder t asked) ∷ log) (step (envAt placeCount strip i) holder t asked .table)
+      after : Books (eventOf holder asked (step (envAt smallCount strip i) holder t asked) ∷ log) (step (envAt smallCount strip i) holder t asked .table)
       after = step-books i holder t asked log (omega arith) b tame
 
       turn : (did : Did) → Tame (eventOf holder asked did) t (did .table) → Books (eventOf holder asked did ∷ log) (did .table) → heldAfter holder (answerTo asked did) (did .outcome) ≡ did .holder
-          → Claim (eventOf holder asked did ∷ log) (did .table) (did .holder) later (batch placeCount strip option (i + 1) (did .holder) (did .table) later)
+          → Claim (eventOf holder asked did ∷ log) (did .table) (did .holder) later (batch smallCount strip option (i + 1) (did .holder) (did .table) later)
           → Claim log t holder (asked ∷ later)
-          (ifb (endsBatch option did) (lastly (answerTo asked did) (did .table)) (firstly (answerTo asked did) (batch placeCount strip option (i + 1) (did .holder) (did .table) later)))
+          (ifb (endsBatch option did) (lastly (answerTo asked did) (did .table)) (firstly (answerTo asked did) (batch smallCount strip option (i + 1) (did .holder) (did .table) later)))
       turn did tame a e rest =
           on-if (Claim log t holder (asked ∷ later))
           (λ _. onward (eventOf holder asked did) (did .table) tame a
           (subst (λ (evs : List Event). Travelled (eventOf holder asked did ∷ log) (did .table) evs (did .table)) (sym (paired-end _ later)) (stood a)))
           (λ _. onward (eventOf holder asked did) (did .table) tame a
-          (subst (λ (k : ℕ). Travelled (eventOf holder asked did ∷ log) (did .table) (paired k later (batch placeCount strip option (i + 1) (did .holder) (did .table) later .answers))
-          (batch placeCount strip option (i + 1) (did .holder) (did .table) later .table)) (sym e) rest))
+          (subst (λ (k : ℕ). Travelled (eventOf holder asked did ∷ log) (did .table) (paired k later (batch smallCount strip option (i + 1) (did .holder) (did .table) later .answers))
+          (batch smallCount strip option (i + 1) (did .holder) (did .table) later .table)) (sym e) rest))

@@ -12,7 +12,7 @@ use Rattle.octets.specs.Maybe.{_>>=_, _>>_}
 use Rattle.octets.specs.Octets.{over}
 use Rattle.ttlv.specs.Items.{Items}
 use Rattle.ttlv.specs.Parse.{firstOf, more, walk, parse, isOne, message}
-use Rattle.table.specs.Layout.{placeCount, materialSize}
+use Rattle.table.specs.Layout.{smallCount, materialSize}
 use Rattle.table.specs.Records.{blank}
 use Rattle.table.proofs.Places.{serial-is}
 use Rattle.table.proofs.Blank.{serial-blank}
@@ -89,18 +89,18 @@ module _ (c : Call) (lent : Lent c) (a : Accepted c) where
 
 -- ---- the blank table
 
-pub blank-inv : Inv placeCount [] (blank placeCount)
+pub blank-inv : Inv smallCount [] (blank smallCount)
 unfolding granted limit issued
 blank-inv = record {
-  held = held-blank placeCount (lit< tt);
-  balanced = λ i l s. absurd (s (sym (serial-is placeCount (blank placeCount) i) ∙ serial-blank placeCount i l));
+  held = held-blank smallCount (lit< tt);
+  balanced = λ i l s. absurd (s (sym (serial-is smallCount (blank smallCount) i) ∙ serial-blank smallCount i l));
   within = λ x z. omega arith;
   once = λ x z. omega arith;
   later = λ x l. (refl, refl);
 }
 
-pub blank-books : Books [] (blank placeCount)
-blank-books = record { inv = blank-inv; dead = none-dead (blank placeCount) }
+pub blank-books : Books [] (blank smallCount)
+blank-books = record { inv = blank-inv; dead = none-dead (blank smallCount) }
 
 -- ---- runs of a box whose outcome is that of the definitions
 

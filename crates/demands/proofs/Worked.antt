@@ -16,7 +16,7 @@ use Rattle.ttlv.specs.Items.{Items, nil, encode, itemOk, wellFormed, ended}
 use Rattle.ttlv.specs.Parse.{headed, firstOf, putValue, putGroup, more, walk, parse}
 use Rattle.fields.specs.Fields.{startsWith, bytesOf, bodyOf, numberOf, optional}
 use Rattle.identifier.specs.Identifier.{digits, identifier, fromDigitsAfter, serialOf}
-use Rattle.table.specs.Layout.{placeCount}
+use Rattle.table.specs.Layout.{smallCount}
 use Rattle.table.specs.declared.Record.{Record}
 use Rattle.words.specs.Words.{wordsOf, wordBytes, filled}
 use Rattle.names.specs.Names.{noName, nameField, storedName, nameOf, nameOk}
@@ -311,7 +311,7 @@ logCases =
 
 -- a table with one key, identifier 7 at place 1 in a state
 keyed : ℕ → List ℕ
-keyed state = withPlace placeCount (blank placeCount) 1 (record { serial = 7; state = state; unit = 0; bits = 128; replaced = 0; replacement = 0; total = 0; count = 0; mask = 4; material = replicate 32 0; activation = 0; deactivation = 0; name = noName })
+keyed state = withPlace smallCount (blank smallCount) 1 (record { serial = 7; state = state; unit = 0; bits = 128; replaced = 0; replacement = 0; total = 0; count = 0; mask = 4; material = replicate 32 0; activation = 0; deactivation = 0; name = noName })
 
 activating : Event
 activating = record { held = 7; asked = asking 0x12 []; answer = answering 0x12 (Done 7) }

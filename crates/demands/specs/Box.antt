@@ -4,7 +4,7 @@ use Prim.Native.Nat.{ℕ, _<_, _^_, max}
 use mathlib.Core.List.{List}
 use Rattle.octets.specs.Octets.{Bytes}
 use Rattle.table.specs.declared.Record.{Record}
-use Rattle.table.specs.Layout.{placeCount}
+use Rattle.table.specs.Layout.{smallCount}
 use Rattle.table.specs.Records.{placeAt, latestClock}
 use Rattle.engine.specs.Effects.{Effect}
 
@@ -30,7 +30,7 @@ pub record Lent (c : Call) : Type 0 where
 
 -- the number of places of a table
 abbrev pub placesOf : List ℕ → ℕ
-placesOf t = placeCount
+placesOf t = smallCount
 
 -- the record at place i of a table
 abbrev pub recordIn : List ℕ → ℕ → Record

@@ -8,7 +8,7 @@ use mathlib.Core.Bool.{Bool, true, false, not, _&&_, _||_}
 use mathlib.Core.List.{List, [], _∷_}
 use lib.ListN.{length, replicate}
 use lib.Dec.{eqb}
-use Rattle.table.specs.Layout.{placeCount, materialSize}
+use Rattle.table.specs.Layout.{smallCount, materialSize}
 use Rattle.table.specs.declared.Record.{Record}
 use Rattle.table.specs.Records.{serialAt, isFree, lastSerial, latestClock, blank}
 use Rattle.search.specs.declared.Found.{Found}
@@ -34,7 +34,7 @@ use Rattle.demands.specs.Log.{Event, commandOf, itemsAsked, answersGiven
 
 -- calls from a blank table on, each with the table that the one before it left; the log is made of their bytes
 pub data Run (B : Box) : List Event → List ℕ → Type 0 where
-  begins : Run B [] (blank placeCount)
+  begins : Run B [] (blank smallCount)
   calls : {log : List Event} {t : List ℕ} (c : Call) (e : Effect) → Run B log t → c .table ≡ t → Lent c → B c e → Run B (logged c e log) (e .table)
 
 -- the record with serial x stands at place i

@@ -10,7 +10,7 @@ use Rattle.octets.specs.Octets.{over}
 use Rattle.octets.proofs.Over.{lent, over-front}
 use Rattle.ttlv.specs.Items.{encode}
 use Rattle.ttlv.proofs.Back.{eights}
-use Rattle.table.specs.Layout.{placeCount}
+use Rattle.table.specs.Layout.{smallCount}
 use Rattle.changes.specs.Dates.{countedClock, began}
 use Rattle.changes.proofs.Sweep.{length-began}
 use Rattle.frame.specs.Frame.{batchMost}
@@ -64,17 +64,17 @@ module _ {items t strip out : List ℕ} (asks : RunsWhole items t strip out) (cl
   front-fits = omega (arith, asks .fits)
 
   -- what the batch asks of the table that it meets
-  pub runs-behind : {u : List ℕ} → u ≡ began placeCount (countedClock clock t) t → Runs items u strip (behind out)
+  pub runs-behind : {u : List ℕ} → u ≡ began smallCount (countedClock clock t) t → Runs items u strip (behind out)
   runs-behind e = record {
     run = asks .run;
     read = asks .read;
     few = asks .few;
-    table = ap length e ∙ length-began placeCount (countedClock clock t) t ∙ asks .table;
+    table = ap length e ∙ length-began smallCount (countedClock clock t) t ∙ asks .table;
     strip = asks .strip;
     fits = rw (length-take, length-drop) (omega (arith, asks .fits));
   }
 
-  pub accepted-is : (option : ℕ) {counted : ℕ} {u t′ ys out′ : List ℕ} {done : BatchDone} → counted ≡ countedClock clock t → u ≡ began placeCount (countedClock clock t) t
+  pub accepted-is : (option : ℕ) {counted : ℕ} {u t′ ys out′ : List ℕ} {done : BatchDone} → counted ≡ countedClock clock t → u ≡ began smallCount (countedClock clock t) t
       → RanIs (ranOver items strip option u) (behind out) done t′ ys
       → out′ ≡ over (front counted (done .count) (done .used)) (putMid frameSize (length out - frameSize) out ys)
       → AcceptedIs (acceptedOver items strip option clock t out) (frameSize + done .used) t′ out′

@@ -13,7 +13,7 @@ use Rattle.ttlv.specs.Items.{nil, group}
 use Rattle.ttlv.specs.Tree.{isRun, treeOf}
 use Rattle.fields.proofs.Lift.{cut-tree}
 use Rattle.ttlv_put.specs.Write.{Holds}
-use Rattle.table.specs.Layout.{placeCount}
+use Rattle.table.specs.Layout.{smallCount}
 use Rattle.batch_item.specs.declared.ItemId.{ItemId}
 use Rattle.batch_item.specs.declared.ItemParts.{ItemParts}
 use Rattle.tags.specs.Tags.{batchItem}
@@ -73,7 +73,7 @@ module _ {body t out : List ℕ} (one : RunsOne body t out) where
 
     -- what was read, carried out and written is the item
     pub item-is : {fresh : List ℕ} {holder : ℕ} {c : Command} (d : Performed) {failed : Bool} {used : ℕ} {t′ out′ : List ℕ}
-        → c ≡ command (p .operation) (treeOf (payload p)) → leaves d t′ ≡ performing placeCount fresh holder t c → failed ≡ isFailed (d .outcome)
+        → c ≡ command (p .operation) (treeOf (payload p)) → leaves d t′ ≡ performing smallCount fresh holder t c → failed ≡ isFailed (d .outcome)
         → Puts longestItem (group batchItem (answerItems (answerOf (p .operation) (p .id) (d .outcome))) nil) out out′ used
         → ItemIs (askedIn body) t fresh holder out (record { failed = failed; holder = d .holder; used = used }) t′ out′
     item-is {fresh} {holder} {c} d {failed} {used} {t′} {out′} ec ed ef h =
@@ -81,7 +81,7 @@ module _ {body t out : List ℕ} (one : RunsOne body t out) where
         let op : p .operation ≡ asked .operation = ap (λ (x : ItemParts). x .operation) e ∙ parts .operation in
         let id : take (p .id .len) (p .id .bytes) ≡ asked .id = ap (λ (x : ItemParts). take (x .id .len) (x .id .bytes)) e ∙ ap (λ (x : ItemId). take (x .len) (x .bytes)) (parts .id) ∙ id-taken (asked .id) in
         let same : leaves d t′ ≡ doing asked fresh holder t =
-        ed ∙ ap (performing placeCount fresh holder t) (ec ∙ ap (command (p .operation)) start-tree ∙ ap (λ (o : ℕ). command o (asked .payload)) op) in
+        ed ∙ ap (performing smallCount fresh holder t) (ec ∙ ap (command (p .operation)) start-tree ∙ ap (λ (o : ℕ). command o (asked .payload)) op) in
         let out-is : d .outcome ≡ doing asked fresh holder t .outcome = ap (λ (x : Did). x .outcome) same in
         let answer : answerOf (p .operation) (p .id) (d .outcome) ≡ answerTo asked (doing asked fresh holder t) =
         ap (λ (o : ℕ). record { operation = o; id = take (p .id .len) (p .id .bytes); outcome = d .outcome }) op

@@ -18,7 +18,7 @@ use Rattle.ttlv.specs.Parse.{message}
 use Rattle.ttlv.specs.Tree.{isRun, treeOf}
 use Rattle.ttlv.proofs.Message.{message-tree}
 use Rattle.values.specs.Values.{aboveZero}
-use Rattle.table.specs.Layout.{placeCount}
+use Rattle.table.specs.Layout.{smallCount}
 use Rattle.soundness.proofs.SoundIs.{sound-is}
 use Rattle.changes.specs.Dates.{countedClock, began}
 use Rattle.frame.specs.declared.Framing.{Framing}
@@ -106,17 +106,17 @@ module _ {request : List ℕ} {r : Request} (shape : BatchShape request r) where
     run = ap isRun lent-is ∙ shape .run;
     read = ap isSome lent-asks;
     few = subst (λ (o : Option (List Asked)). length (askedAll o) ≤ batchMost) (sym lent-asks) (shape .few);
-    table = sound-is placeCount t (p .right) .size;
+    table = sound-is smallCount t (p .right) .size;
     strip = p .strip-size;
     fits = p .room;
   }
 
   -- a batch of these items is the one that was asked for
-  ran-is : (strip t : List ℕ) → ranOver lentItems strip (framingOf request .option) t ≡ running placeCount strip t r
+  ran-is : (strip t : List ℕ) → ranOver lentItems strip (framingOf request .option) t ≡ running smallCount strip t r
   unfolding running askedAll
   ran-is strip t =
-      ap (λ (o : Option (List Asked)). batch placeCount strip (framingOf request .option) firstItem emptyHolder t (askedAll o)) lent-asks
-      ∙ ap (λ (k : ℕ). batch placeCount strip k firstItem emptyHolder t (r .items)) (shape .option)
+      ap (λ (o : Option (List Asked)). batch smallCount strip (framingOf request .option) firstItem emptyHolder t (askedAll o)) lent-asks
+      ∙ ap (λ (k : ℕ). batch smallCount strip k firstItem emptyHolder t (r .items)) (shape .option)
 
 -- ---- what `serve` answers
 
@@ -172,8 +172,8 @@ module _ {request t strip : List ℕ} {clock : ℕ} {out : List ℕ} {f : Framin
   pub runs-from : RunsWhole (items f) t strip out
   runs-from = subst (λ (x : Framing). RunsWhole (items x) t strip out) (sym (a .framing-is)) (runs (a .shape) (a .passed))
 
-  ran-from : (u : List ℕ) → ranOver (items f) strip (f .option) u ≡ running placeCount strip u (a .request-is)
-  ran-from u = subst (λ (x : Framing). ranOver (items x) strip (x .option) u ≡ running placeCount strip u (a .request-is)) (sym (a .framing-is)) (ran-is (a .shape) strip u)
+  ran-from : (u : List ℕ) → ranOver (items f) strip (f .option) u ≡ running smallCount strip u (a .request-is)
+  ran-from u = subst (λ (x : Framing). ranOver (items x) strip (x .option) u ≡ running smallCount strip u (a .request-is)) (sym (a .framing-is)) (ran-is (a .shape) strip u)
 
   -- refusal 10
   pub clock-away : aboveZero clock ≡ false → ServedIs request t strip clock out (record { number = 10; length = 0 }) t out
@@ -191,7 +191,7 @@ module _ {request t strip : List ℕ} {clock : ℕ} {out : List ℕ} {f : Framin
   unfolding carryOut answered
   served-is high {length} {t′} {out′} is =
       let whole : acceptedOver (items f) strip (f .option) clock t out ≡ serving request t strip clock out =
-      ap (answered (countedClock clock t) out) (ran-from (began placeCount (countedClock clock t) t)) ∙ sym (a .decides ∙ ifb-true _ _ _ high) in
+      ap (answered (countedClock clock t) out) (ran-from (began smallCount (countedClock clock t) t)) ∙ sym (a .decides ∙ ifb-true _ _ _ high) in
       record {
         number = ap (λ (x : Effect). x .number) whole;
         length = is .length ∙ ap (λ (x : Effect). x .length) whole;

@@ -23,7 +23,7 @@ use Rattle.fields.specs.declared.BodyField.{BodyField}
 use Rattle.fields.specs.declared.BodyField.the-variants.{Body, NoBody}
 use Rattle.ttlv_put.specs.Write.{Holds}
 use Rattle.ttlv_put.proofs.Holds.{holds-none, holds-then}
-use Rattle.table.specs.Layout.{placeCount, Table, materialSize}
+use Rattle.table.specs.Layout.{smallCount, Table, materialSize}
 use Rattle.tags.specs.Tags.{batchItem}
 use Rattle.batch_item.specs.Item.{Asked, itemIn, itemsIn}
 use Rattle.frame.specs.Frame.{batchMost, continue}
@@ -55,7 +55,7 @@ rest-lent next left = sym (take-all (length left - next) (drop next left) (rw le
 
 -- the batch from item i on
 abbrev from : List ℕ → ℕ → ℕ → ℕ → List ℕ → List Asked → Ran
-from fresh option i holder t later = batch placeCount fresh option i holder t later
+from fresh option i holder t later = batch smallCount fresh option i holder t later
 
 -- between two items: what is answered stands in the room, and the rest of the batch from here gives the whole
 pub record Mid (whole : Ran) (fresh : List ℕ) (option : ℕ) (out₀ t out left : List ℕ) (i holder at : ℕ) : Type 0 where
@@ -64,7 +64,7 @@ pub record Mid (whole : Ran) (fresh : List ℕ) (option : ℕ) (out₀ t out lef
   pub run : isRun left ≡ true
   pub items : itemsIn (treeOf left) ≡ some later
   pub few : i + length later ≤ batchMost
-  pub table : Table placeCount t
+  pub table : Table smallCount t
   pub strip : length fresh ≡ stripSize
   pub room : batchMost * longestItem ≤ length out₀
   pub same : length out ≡ length out₀
@@ -217,7 +217,7 @@ module _ {whole : Ran} {fresh : List ℕ} {option : ℕ} {out₀ t out left : Li
         now-is =
             ap (from fresh option i holder t) (x .split)
             ∙ ap (λ (d : Did). ifb (endsBatch option d) (lastly (answerTo (x .asked) d) (d .table)) (firstly (answerTo (x .asked) d) (from fresh option (i + 1) (d .holder) (d .table) (x .rest))))
-            (step-performs (envAt placeCount fresh i) holder t (x .asked))
+            (step-performs (envAt smallCount fresh i) holder t (x .asked))
             ∙ ap (λ (f : Bool). ifb f (lastly answer (did .table)) (firstly answer (from fresh option (i + 1) (did .holder) (did .table) (x .rest)))) ends-as
 
         -- nothing after this item

@@ -10,7 +10,7 @@ use Rattle.octets.specs.Maybe.{isSome}
 use Rattle.ttlv.specs.Items.{nil, group, encode}
 use Rattle.ttlv.specs.Tree.{isRun, treeOf}
 use Rattle.ttlv_put.specs.Write.{Holds}
-use Rattle.table.specs.Layout.{placeCount, Table}
+use Rattle.table.specs.Layout.{smallCount, Table}
 use Rattle.tags.specs.Tags.{batchItem}
 use Rattle.batch_item.specs.Item.{Asked, itemIn, itemsIn}
 use Rattle.frame.specs.Frame.{batchMost}
@@ -46,13 +46,13 @@ answerBytes a = encode (group batchItem (answerItems a) nil)
 
 -- what an item does on a table, with its part of the strip and a placeholder
 abbrev pub doing : Asked → List ℕ → ℕ → List ℕ → Did
-doing asked fresh holder t = performing placeCount fresh holder t (command (asked .operation) (asked .payload))
+doing asked fresh holder t = performing smallCount fresh holder t (command (asked .operation) (asked .payload))
 
 -- an item that can be carried out and answered: it was read, and table and room have their sizes
 pub record RunsOne (body t out : List ℕ) : Type 0 where
   pub run : isRun body ≡ true
   pub read : isSome (itemIn (treeOf body)) ≡ true
-  pub table : Table placeCount t
+  pub table : Table smallCount t
   pub room : longestItem ≤ length out
 
 -- one item carried out and answered
@@ -72,14 +72,14 @@ pub record RanIs (ran : Ran) (out : List ℕ) (r : BatchDone) (t′ out′ : Lis
 
 -- the batch of the items that some bytes say, on a table
 abbrev pub ranOver : List ℕ → List ℕ → ℕ → List ℕ → Ran
-ranOver items strip option t = batch placeCount strip option firstItem emptyHolder t (askedAll (itemsIn (treeOf items)))
+ranOver items strip option t = batch smallCount strip option firstItem emptyHolder t (askedAll (itemsIn (treeOf items)))
 
 -- a batch that can be run in so much room: its items were read, they are at most 16, and table, strip and room have their sizes
 pub record RunsIn (room : ℕ) (items t fresh out : List ℕ) : Type 0 where
   pub run : isRun items ≡ true
   pub read : isSome (itemsIn (treeOf items)) ≡ true
   pub few : length (askedAll (itemsIn (treeOf items))) ≤ batchMost
-  pub table : Table placeCount t
+  pub table : Table smallCount t
   pub strip : length fresh ≡ stripSize
   pub fits : room ≤ length out
 

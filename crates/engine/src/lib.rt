@@ -52,7 +52,7 @@ fn early_refusal(request: &[u8], table: &[u8], fresh: &[u8], room: usize) -> u32
     if fresh.len() != STRIP_SIZE {
         return 2;
     }
-    if !soundness::is_sound(table, Layout::PLACES) {
+    if !soundness::is_sound(table, Layout::SMALL_COUNT) {
         return 3;
     }
     if request.len() == 0 {
@@ -77,7 +77,7 @@ fn one_item(body: &[u8], table: &mut [u8], fresh: &[u8], holder: u32, out: &mut 
     let start = parts.payload;
     let operation = parts.operation;
     let command = payload::read_command(operation, &body[start..]);
-    let performed = act::perform(table, Layout::PLACES, holder, command, fresh);
+    let performed = act::perform(table, Layout::SMALL_COUNT, holder, command, fresh);
     let outcome = performed.outcome;
     let failed = plans::is_failed(outcome);
     let id = parts.id;
@@ -153,7 +153,7 @@ fn answer_all(
     requires { ⌜ RunsWhole (now items) (now table) (now fresh) (now out) ⌝ }
     ensures { λ r. ⌜ AcceptedIs (acceptedOver (now (items .entry)) (now (fresh .entry)) option clock (now (table .entry)) (now (out .entry))) r (now (table .exit)) (now (out .exit)) ⌝ }
 {
-    let counted = dates::begin(table, Layout::PLACES, clock);
+    let counted = dates::begin(table, Layout::SMALL_COUNT, clock);
     let done = run_items(items, table, fresh, option, &mut out[FRAME_SIZE..]);
     let used = done.used;
     front_write::write_front(out, counted, done.count, used);

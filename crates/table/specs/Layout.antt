@@ -2,8 +2,10 @@
 -- Assumes nothing.
 use mathlib.Core.Path.{_≡_}
 use Prim.Native.Nat.{ℕ, _+_, _*_, _≤_, _<_}
+use mathlib.Core.Bool.{Bool, _||_}
 use mathlib.Core.List.{List}
 use lib.ListN.{length}
+use lib.Dec.{eqb}
 
 -- "Lead, 16 bytes"
 abbrev pub leadSize : ℕ
@@ -29,9 +31,16 @@ bodyStart n i = leadSize + lineSize * n + bodySize * i
 abbrev pub sizeOf : ℕ → ℕ
 sizeOf n = leadSize + (lineSize + bodySize) * n
 
--- "place count 64"
-abbrev pub placeCount : ℕ
-placeCount = 64
+-- 02, L7, "The lead's place count may be 64 or 256": the count of a small table and that of a large one
+abbrev pub smallCount : ℕ
+smallCount = 64
+
+abbrev pub largeCount : ℕ
+largeCount = 256
+
+-- the place counts that there are
+abbrev pub placesOk : ℕ → Bool
+placesOk n = eqb n smallCount || eqb n largeCount
 
 -- the bytes of material that a body holds
 abbrev pub materialSize : ℕ
@@ -39,7 +48,7 @@ materialSize = 32
 
 -- ---- where the fields stand; the code has the same names (`Layout::LAST_IN` ..)
 
--- in the lead: "last serial issued (4), place count 64 (4)", and the latest clock seen (8)
+-- in the lead: "last serial issued (4), place count .. (4)", and the latest clock seen (8)
 abbrev pub lastIn : ℕ
 lastIn = 0
 

@@ -23,10 +23,15 @@ impl Layout {
 
     pub const MATERIAL: usize = 32;
 
-    // The places of the table that the engine keeps, and its bytes.
-    pub const PLACES: usize = 64;
+    // The places of a small table, and its bytes.
+    pub const SMALL_COUNT: usize = 64;
 
-    pub const SIZE: usize = Self::LEAD + (Self::LINE + Self::BODY) * Self::PLACES;
+    pub const SMALL_SIZE: usize = Self::LEAD + (Self::LINE + Self::BODY) * Self::SMALL_COUNT;
+
+    // The places of a large table, and its bytes.
+    pub const LARGE_COUNT: usize = 256;
+
+    pub const LARGE_SIZE: usize = Self::LEAD + (Self::LINE + Self::BODY) * Self::LARGE_COUNT;
 
     // Where the fields stand in the lead.
     pub const LAST_IN: usize = 0;

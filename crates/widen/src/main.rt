@@ -8,7 +8,7 @@ fn main() {
     // one byte above the larger old table, so that a longer input is seen
     let mut old = [0u8; convert::DATED_SIZE + 1];
     let n = io::read_full(0, &mut old);
-    let mut new = [0u8; Layout::SIZE];
+    let mut new = [0u8; Layout::SMALL_SIZE];
     if !convert::convert(&old[..n], &mut new) {
         io::write_all(2, b"widen: not a sound table of 4,624 or 5,648 bytes\n");
         return;

@@ -9,7 +9,7 @@ use lib.ListN.{length, take}
 use lib.Dec.{lit<}
 use Rattle.octets.specs.Octets.{fromBe, over}
 use Rattle.octets.proofs.Maybe.{some-is}
-use Rattle.table.specs.Layout.{placeCount}
+use Rattle.table.specs.Layout.{smallCount}
 use Rattle.table.specs.Records.{placeAt, withPlace, serialAt, blank}
 use Rattle.table.proofs.Blank.{serial-blank, latest-blank}
 use Rattle.answer.specs.Respond.{Response}
@@ -69,8 +69,8 @@ unfolding seen
 life-length = ap (λ (s : Seen). s .size) life-seen
 
 -- none stands there before
-blank-serial : serialAt (blank placeCount) 0 ≡ 0
-blank-serial = serial-blank placeCount 0 (lit< tt)
+blank-serial : serialAt (blank smallCount) 0 ≡ 0
+blank-serial = serial-blank smallCount 0 (lit< tt)
 
 -- nor where the first item begins
 begun-serial : serialAt (begunBy life) 0 ≡ 0
@@ -118,7 +118,7 @@ same-answer bytes tableOf d = let z : _≡_ {A = ℕ} 1 2 = sym (clock-of 1 refl
     a2 = given made d (calling lifeRequest 2) (lent-life 2 (lit< tt)) (life-accepted 2 refl) refl
 
     clock-of : (clock : ℕ) → max clock 0 ≡ clock → (a : Answered (calling lifeRequest clock) (made (calling lifeRequest clock))) → clockIn (answersIn (a .response)) ≡ clock
-    clock-of clock m a = ap clockIn (a .read-back) ∙ ap (max clock) (latest-blank placeCount) ∙ m
+    clock-of clock m a = ap clockIn (a .read-back) ∙ ap (max clock) (latest-blank smallCount) ∙ m
 
     same : answersIn (a1 .response) ≡ answersIn (a2 .response)
     same = ap answersIn (some-is (sym (a1 .readable) ∙ a2 .readable))
@@ -156,10 +156,10 @@ runs-past-stop d = zero-one (sym stopped-serial ∙ ap (λ (t : List ℕ). seria
 
 -- a box that leaves one key with another's material
 firstByte : List ℕ → ℕ
-firstByte t = fromBe (take 1 (placeAt placeCount t 0 .material))
+firstByte t = fromBe (take 1 (placeAt smallCount t 0 .material))
 
 shared : Call → List ℕ → List ℕ
-shared c due = withPlace placeCount due 0 (withMaterialOf (placeAt placeCount due 1) (placeAt placeCount due 0))
+shared c due = withPlace smallCount due 0 (withMaterialOf (placeAt smallCount due 1) (placeAt smallCount due 0))
 
 -- the first byte of the key at place 0, as it should be and as it is left
 record Materials : Type 0 where

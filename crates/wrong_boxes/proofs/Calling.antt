@@ -12,7 +12,7 @@ use Rattle.octets.specs.Octets.{Bytes, all, countedFrom}
 use Rattle.octets.specs.If.{ifb}
 use Rattle.octets.proofs.If.{ifb-true}
 use Rattle.octets.proofs.Bools.{and-l, and-r}
-use Rattle.table.specs.Layout.{placeCount}
+use Rattle.table.specs.Layout.{smallCount}
 use Rattle.table.specs.Records.{blank}
 use Rattle.engine.specs.Effects.{Effect}
 use Rattle.demands.specs.Box.{Call, Lent}
@@ -36,7 +36,7 @@ callingOn t request clock = record { request = request; table = t; strip = count
 
 -- on a blank table
 abbrev pub calling : List ℕ → ℕ → Call
-calling request clock = callingOn (blank placeCount) request clock
+calling request clock = callingOn (blank smallCount) request clock
 
 pub lent-on : (t request : List ℕ) (clock : ℕ) → Bytes t → all isByte request ≡ true → clock < 2 ^ 64 → Lent (callingOn t request clock)
 unfolding opened isByte
@@ -50,7 +50,7 @@ lent-on t request clock b r h = record {
 
 pub lent-blank : (request : List ℕ) (clock : ℕ) → all isByte request ≡ true → clock < 2 ^ 64 → Lent (calling request clock)
 unfolding opened isByte
-lent-blank request clock r h = lent-on (blank placeCount) request clock (bytes-test (blank placeCount) refl) r h
+lent-blank request clock r h = lent-on (blank smallCount) request clock (bytes-test (blank smallCount) refl) r h
 
 -- where no refusal is due, each box does what it does where a request is accepted
 pub accepted-is : (c : Call) (e : Effect) → lowest 1 (refusalConditions c) ≡ 0 → e ≡ orRefused c e

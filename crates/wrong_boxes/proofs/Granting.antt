@@ -8,7 +8,7 @@ use mathlib.Core.List.{List, [], _∷_, _++_}
 use lib.Dec.{eqb, lit<}
 use borrow.Author.Tests.{eq-eqb}
 use Rattle.octets.proofs.Bools.{and-l}
-use Rattle.table.specs.Layout.{placeCount}
+use Rattle.table.specs.Layout.{smallCount}
 use Rattle.table.specs.Records.{placeAt, serialAt}
 use Rattle.search.specs.Search.{newPlace}
 use Rattle.soundness.specs.Checked.{isAt}
@@ -40,7 +40,7 @@ record Sums : Type 0 where
   pub begun : ℕ
 
 sums : List Event → List ℕ → Sums
-sums log t = record { serial = serialAt t 0; spent = granted 1 log + placeAt placeCount t 0 .count; begun = limit 1 log }
+sums log t = record { serial = serialAt t 0; spent = granted 1 log + placeAt smallCount t 0 .count; begun = limit 1 log }
 
 sumsOf : Call → Effect → Sums
 sumsOf c e = sums (logged c e []) (e .table)
@@ -82,7 +82,7 @@ module _ (log : List Event) (t u : List ℕ) (ev : Event) (tame : Tame ev t u) (
   new = issuedBy (commandOf ev) (ev .answer .outcome)
 
   issues : new ≡ 0 → ⊥
-  issues e = true≢false (sym (and-l (not (eqb new 0)) (isAt i (newPlace placeCount t)) taken) ∙ ap not (eq-eqb new 0 e))
+  issues e = true≢false (sym (and-l (not (eqb new 0)) (isAt i (newPlace smallCount t)) taken) ∙ ap not (eq-eqb new 0 e))
 
   once : issued x log ≡ 1
   once = before .known x i z s
@@ -95,7 +95,7 @@ module _ (log : List Event) (t u : List ℕ) (ev : Event) (tame : Tame ev t u) (
   elsewhere j r true e = not-anew (sym (tame .taken j (r .below) e .serial) ∙ r .serial)
   elsewhere j r false e =
       let same : serialAt t j ≡ x = sym (tame .kept j (r .below) e) ∙ r .serial in
-      let q : j ≡ i = sound-is placeCount t (before .stays-sound) .distinct j i (r .below) (s .below) (λ k. z (sym same ∙ k)) (same ∙ sym (s .serial)) in
+      let q : j ≡ i = sound-is smallCount t (before .stays-sound) .distinct j i (r .below) (s .below) (λ k. z (sym same ∙ k)) (same ∙ sym (s .serial)) in
       true≢false (sym taken ∙ ap (takes ev t) (sym q) ∙ e)
 
   taken-gone : Gone x (granted x log) (ev ∷ log) u

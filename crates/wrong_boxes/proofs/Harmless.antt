@@ -23,7 +23,7 @@ use Rattle.batch_item.proofs.Bounds.{AllBounded}
 use Rattle.answer.specs.Respond.{Answer, respond}
 use Rattle.answer.specs.Read.{outcomeOk, answerOk, allowed}
 use Rattle.answer.proofs.Front.{response-size}
-use Rattle.table.specs.Layout.{placeCount}
+use Rattle.table.specs.Layout.{smallCount}
 use Rattle.table.specs.Records.{blank}
 use Rattle.values.specs.Values.{aboveZero}
 use Rattle.changes.specs.Records.{inState}
@@ -53,7 +53,7 @@ module _ (B : Box) (still : (c : Call) (e : Effect) → B c e → (k : ℕ) × (
   same-table c e b = ap (λ (x : Effect). x .table) (still c e b .1)
 
   -- so nothing ever happens
-  still-run : {log : List Event} {t : List ℕ} → Run B log t → (log ≡ []) × (t ≡ blank placeCount)
+  still-run : {log : List Event} {t : List ℕ} → Run B log t → (log ≡ []) × (t ≡ blank smallCount)
   unfolding logged onto
   still-run begins = (refl, refl)
   still-run (calls {log} c e r same lent b) =
@@ -63,7 +63,7 @@ module _ (B : Box) (still : (c : Call) (e : Effect) → B c e → (k : ℕ) × (
   still-order : {log : List Event} {t : List ℕ} → Run B log t → InOrder log t
   still-order {log} {t} r =
       let p = still-run r in
-      subst (λ (l : List Event). InOrder l t) (sym (p .0)) (subst (InOrder []) (sym (p .1)) (inv-order [] (blank placeCount) (blank-books .inv) (blank-books .dead)))
+      subst (λ (l : List Event). InOrder l t) (sym (p .0)) (subst (InOrder []) (sym (p .1)) (inv-order [] (blank smallCount) (blank-books .inv) (blank-books .dead)))
 
   still-opens : (c : Call) (number : ℕ) → Opens c number (c .table)
   unfolding inState
@@ -238,7 +238,7 @@ ran-rightly : (c : Call) (a : Accepted c) → ranRightly c ≡ ranBy c a
 unfolding ranUnder
 ran-rightly c a =
     ap (ranUnder (λ option. option) c) (frame-is c a)
-    ∙ ap (λ (k : ℕ). running placeCount (c .strip) (began placeCount k (c .table)) (requestOf (a .frame))) (sym (counting-is c))
+    ∙ ap (λ (k : ℕ). running smallCount (c .strip) (began smallCount k (c .table)) (requestOf (a .frame))) (sym (counting-is c))
 
 ran-fine : (c : Call) → Lent c → (a : Accepted c) → Fine (ranBy c a .answers)
 ran-fine c lent a = record {

@@ -16,7 +16,7 @@ use Rattle.octets.proofs.If.{ifb-false, on-if}
 use Rattle.octets.proofs.Bools.{and-no}
 use Rattle.ttlv.specs.Items.{nil}
 use Rattle.ttlv.specs.Parse.{message}
-use Rattle.table.specs.Layout.{placeCount}
+use Rattle.table.specs.Layout.{smallCount}
 use Rattle.table.specs.Records.{blank}
 use Rattle.soundness.specs.Sound.{sound}
 use Rattle.soundness.proofs.Blank.{blank-sound}
@@ -105,9 +105,9 @@ grant-command = refl
 
 -- ---- a call on any sound table
 
-pub accepted-on : (request t : List ℕ) → sound placeCount t ≡ true → lowest 1 (refusalConditions (calling request 1)) ≡ 0 → lowest 1 (refusalConditions (callingOn t request 1)) ≡ 0
+pub accepted-on : (request t : List ℕ) → sound smallCount t ≡ true → lowest 1 (refusalConditions (calling request 1)) ≡ 0 → lowest 1 (refusalConditions (callingOn t request 1)) ≡ 0
 unfolding refusalConditions frameOf
-accepted-on request t right e = rw (right ∙ sym (blank-sound placeCount (lit< tt))) e
+accepted-on request t right e = rw (right ∙ sym (blank-sound smallCount (lit< tt))) e
 
 create-accepted : lowest 1 (refusalConditions (calling createRequest 1)) ≡ 0
 unfolding opened createItem createRequest frameOf ofFrame refusalConditions lowest
@@ -129,22 +129,22 @@ take-bytes = refl
 
 module _ (option i holder : ℕ) (t : List ℕ) (asked : Asked) (did : Did) (is : step (own i) holder t asked ≡ did) where
   abbrev pub behind : List Asked → Ran
-  behind later = batch placeCount (countedFrom 0 512) option (i + 1) (did .holder) (did .table) later
+  behind later = batch smallCount (countedFrom 0 512) option (i + 1) (did .holder) (did .table) later
 
   -- the batch goes on with what is given for what the item did
   turned : (later : List Asked)
-      → batch placeCount (countedFrom 0 512) option i holder t (asked ∷ later)
+      → batch smallCount (countedFrom 0 512) option i holder t (asked ∷ later)
       ≡ ifb (endsBatch option did) (lastly (answerTo asked did) (did .table)) (firstly (answerTo asked did) (behind later))
   unfolding batch
   turned later =
       ap (λ (d : Did). ifb (endsBatch option d) (lastly (answerTo asked d) (d .table))
-      (firstly (answerTo asked d) (batch placeCount (countedFrom 0 512) option (i + 1) (d .holder) (d .table) later))) is
+      (firstly (answerTo asked d) (batch smallCount (countedFrom 0 512) option (i + 1) (d .holder) (d .table) later))) is
 
-  pub batch-last : batch placeCount (countedFrom 0 512) option i holder t (asked ∷ []) ≡ lastly (answerTo asked did) (did .table)
+  pub batch-last : batch smallCount (countedFrom 0 512) option i holder t (asked ∷ []) ≡ lastly (answerTo asked did) (did .table)
   unfolding batch
   batch-last = turned [] ∙ on-if (λ (r : Ran). r ≡ lastly (answerTo asked did) (did .table)) (λ h. refl) (λ h. refl)
 
-  pub batch-on : (later : List Asked) → isFailed (did .outcome) ≡ false → batch placeCount (countedFrom 0 512) option i holder t (asked ∷ later) ≡ firstly (answerTo asked did) (behind later)
+  pub batch-on : (later : List Asked) → isFailed (did .outcome) ≡ false → batch smallCount (countedFrom 0 512) option i holder t (asked ∷ later) ≡ firstly (answerTo asked did) (behind later)
   unfolding endsBatch
   batch-on later h = turned later ∙ ifb-false _ _ _ (and-no (isFailed (did .outcome)) _ h)
 
@@ -162,7 +162,7 @@ planned i holder t asked c e = ap (λ (x : Command). decided t (plan (own i) hol
 abbrev pub created : ℕ → List ℕ → Did
 created i t = record { outcome = Created (nextSerial t); table = grown i t; holder = nextSerial t }
 
-pub create-step : (i holder : ℕ) (t : List ℕ) → isFull placeCount t ≡ false → step (own i) holder t createAsked ≡ created i t
+pub create-step : (i holder : ℕ) (t : List ℕ) → isFull smallCount t ≡ false → step (own i) holder t createAsked ≡ created i t
 unfolding decided plan createPlan due carried ifb
 create-step i holder t room =
     planned i holder t createAsked (Create wanted) create-command
@@ -177,20 +177,20 @@ createCall t = callingOn t createRequest 1
 pub counted-one : (k : ℕ) (t request : List ℕ) → Filled k t → counted (callingOn t request 1) ≡ 1
 counted-one k t request f = max-eq-left (f .latest)
 
-create-ran : (k : ℕ) (t : List ℕ) → Filled k t → isFull placeCount (begunAt t) ≡ false
+create-ran : (k : ℕ) (t : List ℕ) → Filled k t → isFull smallCount (begunAt t) ≡ false
     → ranUnder (λ option. option) (createCall t) (frameOf (createCall t)) ≡ lastly (answerTo createAsked (created 0 (begunAt t))) (grown 0 (begunAt t))
 unfolding frameOf ranUnder running
 create-ran k t f room =
     let option = optionOf (frameFrom createRequest .header .option) in
     ap (ranUnder (λ option. option) (createCall t)) create-read
-    ∙ ap (λ (clock : ℕ). batch placeCount (countedFrom 0 512) option 0 0 (began placeCount clock t) (createAsked ∷ [])) (counted-one k t createRequest f)
+    ∙ ap (λ (clock : ℕ). batch smallCount (countedFrom 0 512) option 0 0 (began smallCount clock t) (createAsked ∷ [])) (counted-one k t createRequest f)
     ∙ batch-last option 0 0 (begunAt t) createAsked (created 0 (begunAt t)) (create-step 0 0 (begunAt t) room)
 
 -- what the box leaves of it
 abbrev createLeft : List ℕ → Effect
 createLeft t = regranting (createCall t) (lastly (answerTo createAsked (created 0 (begunAt t))) (grown 0 (begunAt t)))
 
-create-left : (k : ℕ) (t : List ℕ) → Filled k t → isFull placeCount (begunAt t) ≡ false → Regrants (createCall t) (createLeft t)
+create-left : (k : ℕ) (t : List ℕ) → Filled k t → isFull smallCount (begunAt t) ≡ false → Regrants (createCall t) (createLeft t)
 create-left k t f room =
     ap (regranting (createCall t)) (sym (create-ran k t f room))
     ∙ accepted-is (createCall t) _ (accepted-on createRequest t (f .held .right) create-accepted)
@@ -202,8 +202,8 @@ pub record Reached (k : ℕ) : Type 0 where
   pub run : Run Regrants log table
   pub filled : Filled k table
 
-pub reached : (k : ℕ) → k ≤ placeCount → Reached k
-reached zero h = record { log = []; table = blank placeCount; run = begins; filled = filled-blank }
+pub reached : (k : ℕ) → k ≤ smallCount → Reached k
+reached zero h = record { log = []; table = blank smallCount; run = begins; filled = filled-blank }
 reached (suc k) h =
     let r = reached k (omega arith) in
     let t = r .table in

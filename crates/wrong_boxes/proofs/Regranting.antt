@@ -13,7 +13,7 @@ use Rattle.octets.specs.Octets.{countedFrom}
 use Rattle.octets.proofs.If.{ifb-true, ifb-false}
 use Rattle.octets.proofs.Bools.{and-no, or-l}
 use Rattle.table.specs.declared.Record.{Record}
-use Rattle.table.specs.Layout.{placeCount}
+use Rattle.table.specs.Layout.{smallCount}
 use Rattle.table.specs.Records.{placeAt, withPlace, serialAt, stateAt, lastSerial, latestClock}
 use Rattle.table.proofs.Places.{state-is}
 use Rattle.search.specs.declared.Found.{Found}
@@ -72,15 +72,15 @@ destroy-next = refl
 
 -- on the table that its first item meets, whose latest clock is 1
 module _ (t : List ℕ) (f : Filled 64 t) (now : latestClock t ≡ 1) where
-  first-is : placeAt placeCount t 0 ≡ firstKey
+  first-is : placeAt smallCount t 0 ≡ firstKey
   first-is = f .first (omega arith)
 
   -- the Destroy
-  first-found : find placeCount t 1 ≡ At 0
-  first-found = find-is placeCount t 1 0 (λ z. omega arith) (lit< tt) (f .serials 0 (lit< tt)) (λ j h. absurd (omega arith))
+  first-found : find smallCount t 1 ≡ At 0
+  first-found = find-is smallCount t 1 0 (λ z. omega arith) (lit< tt) (f .serials 0 (lit< tt)) (λ j h. absurd (omega arith))
 
   abbrev emptied : List ℕ
-  emptied = withPlace placeCount t 0 deadKey
+  emptied = withPlace smallCount t 0 deadKey
 
   abbrev destroyed : Did
   destroyed = record { outcome = Done 1; table = emptied; holder = 0 }
@@ -91,65 +91,65 @@ module _ (t : List ℕ) (f : Filled 64 t) (now : latestClock t ≡ 1) where
       planned 0 0 t destroyAsked (Destroy (Serial 1)) destroy-command
       ∙ ap (λ (found : Found). decided t (onFound (own 0) 0 t (destroyPlan (own 0) 0 t) found)) first-found
       ∙ ap (λ (r : Record). decided t (destroyPlan (own 0) 0 t 0 r)) first-is
-      ∙ ap (λ (clock : ℕ). record { outcome = Done 1; table = withPlace placeCount t 0 (movedTo destroy 0 clock 5 firstKey); holder = 0 }) now
+      ∙ ap (λ (clock : ℕ). record { outcome = Done 1; table = withPlace smallCount t 0 (movedTo destroy 0 clock 5 firstKey); holder = 0 }) now
 
   first-stands : serialAt t 0 ≡ 0 → ⊥
   first-stands z = omega (arith, f .serials 0 (lit< tt))
 
-  first-dies : nextState destroy 0 (placeAt placeCount t 0 .state) ≡ To 5
+  first-dies : nextState destroy 0 (placeAt smallCount t 0 .state) ≡ To 5
   unfolding newRecord
   first-dies = ap (λ (r : Record). nextState destroy 0 (r .state)) first-is ∙ destroy-next
 
-  emptied-stored : Stored placeCount t 0 deadKey (lastSerial t) emptied
+  emptied-stored : Stored smallCount t 0 deadKey (lastSerial t) emptied
   emptied-stored =
-      subst (λ (clock : ℕ). Stored placeCount t 0 (movedTo destroy 0 clock 5 firstKey) (lastSerial t) (withPlace placeCount t 0 (movedTo destroy 0 clock 5 firstKey))) now
-      (subst (λ (r : Record). Stored placeCount t 0 (movedTo destroy 0 (latestClock t) 5 r) (lastSerial t) (withPlace placeCount t 0 (movedTo destroy 0 (latestClock t) 5 r))) first-is
-      (moved-leaves placeCount t (f .held) 0 (lit< tt) first-stands destroy 0 5 first-dies))
+      subst (λ (clock : ℕ). Stored smallCount t 0 (movedTo destroy 0 clock 5 firstKey) (lastSerial t) (withPlace smallCount t 0 (movedTo destroy 0 clock 5 firstKey))) now
+      (subst (λ (r : Record). Stored smallCount t 0 (movedTo destroy 0 (latestClock t) 5 r) (lastSerial t) (withPlace smallCount t 0 (movedTo destroy 0 (latestClock t) 5 r))) first-is
+      (moved-leaves smallCount t (f .held) 0 (lit< tt) first-stands destroy 0 5 first-dies))
 
-  emptied-held : Held placeCount emptied
+  emptied-held : Held smallCount emptied
   emptied-held =
-      subst (λ (clock : ℕ). Held placeCount (withPlace placeCount t 0 (movedTo destroy 0 clock 5 firstKey))) now
-      (subst (λ (r : Record). Held placeCount (withPlace placeCount t 0 (movedTo destroy 0 (latestClock t) 5 r))) first-is
-      (keeps-moved placeCount t (f .held) 0 (lit< tt) first-stands destroy 0 5 first-dies refl))
+      subst (λ (clock : ℕ). Held smallCount (withPlace smallCount t 0 (movedTo destroy 0 clock 5 firstKey))) now
+      (subst (λ (r : Record). Held smallCount (withPlace smallCount t 0 (movedTo destroy 0 (latestClock t) 5 r))) first-is
+      (keeps-moved smallCount t (f .held) 0 (lit< tt) first-stands destroy 0 5 first-dies refl))
 
-  emptied-serials : (i : ℕ) → i < placeCount → serialAt emptied i ≡ i + 1
+  emptied-serials : (i : ℕ) → i < smallCount → serialAt emptied i ≡ i + 1
   unfolding newRecord movedTo withDates inState
-  emptied-serials zero h = here-serial placeCount t 0 _ _ _ emptied-stored
-  emptied-serials (suc i) h = other-serial placeCount t 0 _ _ _ emptied-stored (suc i) h (λ e. omega arith) ∙ f .serials (suc i) h
+  emptied-serials zero h = here-serial smallCount t 0 _ _ _ emptied-stored
+  emptied-serials (suc i) h = other-serial smallCount t 0 _ _ _ emptied-stored (suc i) h (λ e. omega arith) ∙ f .serials (suc i) h
 
   emptied-last : lastSerial emptied ≡ 64
   emptied-last = emptied-stored .issued ∙ f .last
 
   -- the Create takes its place
-  emptied-due : newPlace placeCount emptied ≡ At 0
+  emptied-due : newPlace smallCount emptied ≡ At 0
   unfolding newRecord movedTo withDates inState
-  emptied-due = takes-first emptied emptied-serials (ap isDestroyed (state-is placeCount emptied 0 ∙ ap (λ (r : Record). r .state) (emptied-stored .here)))
+  emptied-due = takes-first emptied emptied-serials (ap isDestroyed (state-is smallCount emptied 0 ∙ ap (λ (r : Record). r .state) (emptied-stored .here)))
 
-  emptied-room : isFull placeCount emptied ≡ false
+  emptied-room : isFull smallCount emptied ≡ false
   emptied-room = has-room emptied 0 emptied-due (λ e. omega (arith, emptied-last))
 
   abbrev after : List ℕ
   after = grown 1 emptied
 
-  after-born : Born placeCount emptied (newRecord (nextSerial emptied) wanted (own 1 .fresh)) after
+  after-born : Born smallCount emptied (newRecord (nextSerial emptied) wanted (own 1 .fresh)) after
   after-born = grown-born 1 emptied emptied-held (omega arith) emptied-room
 
   after-here : after-born .place ≡ 0
   after-here = At-same (sym (after-born .due) ∙ emptied-due)
 
-  after-serials : (i : ℕ) → i < placeCount → serialAt after i ≡ 1 → ⊥
+  after-serials : (i : ℕ) → i < smallCount → serialAt after i ≡ 1 → ⊥
   unfolding newRecord
-  after-serials zero h e = omega (arith, e, ap (serialAt after) after-here, here-serial placeCount emptied (after-born .place) _ _ _ (after-born .stored), emptied-last)
+  after-serials zero h e = omega (arith, e, ap (serialAt after) after-here, here-serial smallCount emptied (after-born .place) _ _ _ (after-born .stored), emptied-last)
   after-serials (suc i) h e =
-      omega (arith, e, other-serial placeCount emptied (after-born .place) _ _ _ (after-born .stored) (suc i) h (λ q. omega (arith, q, after-here)), emptied-serials (suc i) h)
+      omega (arith, e, other-serial smallCount emptied (after-born .place) _ _ _ (after-born .stored) (suc i) h (λ q. omega (arith, q, after-here)), emptied-serials (suc i) h)
 
   after-last : lastSerial after ≡ 65
   unfolding newRecord
   after-last = after-born .stored .issued ∙ ap (λ (s : ℕ). s + 1) emptied-last
 
   -- so that the first key is not found
-  gone : find placeCount after 1 ≡ Nothing
-  gone = none-find placeCount after 1 after-serials
+  gone : find smallCount after 1 ≡ Nothing
+  gone = none-find smallCount after 1 after-serials
 
   grant-step : step (own 2) (nextSerial emptied) after grantAsked ≡ failing after ObjectNotFound
   unfolding opened decided
@@ -161,7 +161,7 @@ module _ (t : List ℕ) (f : Filled 64 t) (now : latestClock t ≡ 1) where
   abbrev ranRightly : Ran
   ranRightly = record { answers = answerTo destroyAsked destroyed ∷ answerTo createAsked (created 1 emptied) ∷ answerTo grantAsked (failing after ObjectNotFound) ∷ []; table = after }
 
-  take-ran : (option : ℕ) → batch placeCount (countedFrom 0 512) option 0 0 t (destroyAsked ∷ createAsked ∷ grantAsked ∷ []) ≡ ranRightly
+  take-ran : (option : ℕ) → batch smallCount (countedFrom 0 512) option 0 0 t (destroyAsked ∷ createAsked ∷ grantAsked ∷ []) ≡ ranRightly
   unfolding isFailed
   take-ran option =
       batch-on option 0 0 t destroyAsked destroyed destroy-step (createAsked ∷ grantAsked ∷ []) refl
@@ -235,7 +235,7 @@ module _ (u : List ℕ) (f : Filled 64 u) (now : latestClock u ≡ 1) where
   asks-gone : asksForGone left grantAsked ≡ true
   unfolding asksForGone namedBy sought isNothing
   asks-gone =
-      ap₂ (λ (o x : ℕ). eqb o getUsageAllocation && not (eqb x 0) && leb x (lastSerial left) && isNothing (find placeCount left x)) grant-operation (ap (namedBy 0) grant-command)
+      ap₂ (λ (o x : ℕ). eqb o getUsageAllocation && not (eqb x 0) && leb x (lastSerial left) && isNothing (find smallCount left x)) grant-operation (ap (namedBy 0) grant-command)
       ∙ ap₂ (λ (last : ℕ) (found : Found). leb 1 last && isNothing found) (after-last u f now) (gone u f now)
 
   -- Destroy and Create are answered as is due
@@ -270,7 +270,7 @@ module _ (log : List Event) (t : List ℕ) (run : Run Regrants log t) (f : Fille
   full = filled-begun 64 t f (omega arith)
 
   now-one : latestClock opening ≡ 1
-  now-one = began-latest placeCount t (f .held) 1 (f .latest) (omega arith)
+  now-one = began-latest smallCount t (f .held) 1 (f .latest) (omega arith)
 
   abbrev takeLeft : Effect
   takeLeft = responding takeCall takenAnswers (left opening full now-one)
@@ -280,7 +280,7 @@ module _ (log : List Event) (t : List ℕ) (run : Run Regrants log t) (f : Fille
   ran =
       let option = optionOf (frameFrom takeRequest .header .option) in
       ap (ranUnder (λ option. option) takeCall) take-read
-      ∙ ap (λ (clock : ℕ). batch placeCount (countedFrom 0 512) option 0 0 (began placeCount clock t) (destroyAsked ∷ createAsked ∷ grantAsked ∷ [])) (counted-one 64 t takeRequest f)
+      ∙ ap (λ (clock : ℕ). batch smallCount (countedFrom 0 512) option 0 0 (began smallCount clock t) (destroyAsked ∷ createAsked ∷ grantAsked ∷ [])) (counted-one 64 t takeRequest f)
       ∙ take-ran opening full now-one option
 
   take-left : Regrants takeCall takeLeft
@@ -301,20 +301,20 @@ module _ (log : List Event) (t : List ℕ) (run : Run Regrants log t) (f : Fille
 
   -- however the call may open, the first key waits in its place
   module _ (start : List ℕ) (due : DueOnly (counted takeCall) t start) where
-    start-serials : (i : ℕ) → i < placeCount → serialAt start i ≡ i + 1
+    start-serials : (i : ℕ) → i < smallCount → serialAt start i ≡ i + 1
     start-serials i l = due-serial t start due i l ∙ f .serials i l
 
     not-listed : (to : ℕ) → listedBy (counted takeCall) firstKey to ≡ false
     unfolding listedBy newRecord
     not-listed to = refl
 
-    start-state : placeAt placeCount start 0 .state ≡ 1
+    start-state : placeAt smallCount start 0 .state ≡ 1
     unfolding newRecord
     start-state =
-        let was : placeAt placeCount t 0 ≡ firstKey = f .first (omega arith) in
-        elim (ℕ-discrete (placeAt placeCount start 0 .state) (placeAt placeCount t 0 .state)) [
+        let was : placeAt smallCount t 0 ≡ firstKey = f .first (omega arith) in
+        elim (ℕ-discrete (placeAt smallCount start 0 .state) (placeAt smallCount t 0 .state)) [
           | yes e ↦ e ∙ ap (λ (r : Record). r .state) was
-          | no e ↦ absurd (true≢false (sym (due .moves 0 (lit< tt) e) ∙ ap (λ (r : Record). listedBy (counted takeCall) r (placeAt placeCount start 0 .state)) was ∙ not-listed _))
+          | no e ↦ absurd (true≢false (sym (due .moves 0 (lit< tt) e) ∙ ap (λ (r : Record). listedBy (counted takeCall) r (placeAt smallCount start 0 .state)) was ∙ not-listed _))
         ]
 
     -- and wherever the Destroy may have led, the Create takes its place
@@ -323,23 +323,23 @@ module _ (log : List Event) (t : List ℕ) (run : Run Regrants log t) (f : Fille
       unfolding issuedBy
       untaken i = and-no _ _ (ap (λ (c : Command). not (eqb (issuedBy c (Done 1)) 0)) destroy-command)
 
-      kept-serials : (i : ℕ) → i < placeCount → serialAt u i ≡ i + 1
+      kept-serials : (i : ℕ) → i < smallCount → serialAt u i ≡ i + 1
       kept-serials i l = tame .kept i l (untaken i) ∙ start-serials i l
 
-      start-found : find placeCount start 1 ≡ At 0
-      start-found = find-is placeCount start 1 0 (λ z. omega arith) (lit< tt) (start-serials 0 (lit< tt)) (λ j h. absurd (omega arith))
+      start-found : find smallCount start 1 ≡ At 0
+      start-found = find-is smallCount start 1 0 (λ z. omega arith) (lit< tt) (start-serials 0 (lit< tt)) (λ j h. absurd (omega arith))
 
       first-named : names destroyEvent start 0 ≡ true
       unfolding namedBy sought isAt
-      first-named = ap (λ (c : Command). isAt 0 (find placeCount start (namedBy 0 c))) destroy-command ∙ ap (isAt 0) start-found
+      first-named = ap (λ (c : Command). isAt 0 (find smallCount start (namedBy 0 c))) destroy-command ∙ ap (isAt 0) start-found
 
       first-dead : isDestroyed (stateAt u 0) ≡ true
       unfolding isFailed movesState codeOf
       first-dead =
           let way = tame .obeys 0 (lit< tt) first-named refl (ap movesState destroy-command) in
-          let same = ap₂ (λ (o : ℕ) (c : Command). listed o (codeOf c) (placeAt placeCount start 0 .state) (placeAt placeCount u 0 .state)) destroy-operation destroy-command in
-          let from = ap (λ (state : ℕ). listed destroy 0 state (placeAt placeCount u 0 .state)) start-state in
-          or-l _ _ (ap (λ (s : ℕ). eqb s 5) (state-is placeCount u 0) ∙ dies (placeAt placeCount u 0 .state) (sym from ∙ sym same ∙ way))
+          let same = ap₂ (λ (o : ℕ) (c : Command). listed o (codeOf c) (placeAt smallCount start 0 .state) (placeAt smallCount u 0 .state)) destroy-operation destroy-command in
+          let from = ap (λ (state : ℕ). listed destroy 0 state (placeAt smallCount u 0 .state)) start-state in
+          or-l _ _ (ap (λ (s : ℕ). eqb s 5) (state-is smallCount u 0) ∙ dies (placeAt smallCount u 0 .state) (sym from ∙ sym same ∙ way))
 
       takes-from : TakesFrom 1 createEvent u
       unfolding issuedBy isAt

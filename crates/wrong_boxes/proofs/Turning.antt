@@ -15,7 +15,7 @@ use Rattle.octets.specs.Maybe.{_>>=_}
 use Rattle.octets.specs.Octets.{all}
 use Rattle.octets.proofs.Bools.{and-no}
 use Rattle.table.specs.declared.Record.{Record}
-use Rattle.table.specs.Layout.{placeCount}
+use Rattle.table.specs.Layout.{smallCount}
 use Rattle.table.specs.Records.{stateAt, latestClock, withClock, blank}
 use Rattle.ttlv.specs.Items.{nil}
 use Rattle.ttlv.specs.Parse.{message}
@@ -39,11 +39,11 @@ use Rattle.wrong_boxes.proofs.Calling.{isByte, bytes-test, calling, cal
 
 -- on a table whose latest clock is 9, clock 5 is given
 abbrev earlier : Call
-earlier = callingOn (withClock (blank placeCount) 9) showRequest 5
+earlier = callingOn (withClock (blank smallCount) 9) showRequest 5
 
 lent-earlier : Lent earlier
 unfolding dated-opened isByte
-lent-earlier = lent-on (withClock (blank placeCount) 9) showRequest 5 (bytes-test (withClock (blank placeCount) 9) refl) refl (lit< tt)
+lent-earlier = lent-on (withClock (blank smallCount) 9) showRequest 5 (bytes-test (withClock (blank smallCount) 9) refl) refl (lit< tt)
 
 earlier-accepted : lowest 1 (refusalConditions earlier) ≡ 0
 unfolding dated-opened frameOf ofFrame refusalConditions lowest

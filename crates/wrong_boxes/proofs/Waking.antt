@@ -9,7 +9,7 @@ use lib.Dec.{eqb, lit<}
 use Rattle.octets.specs.If.{ifb}
 use Rattle.octets.proofs.Bools.{and-no}
 use Rattle.search.specs.declared.Found.the-variants.{At}
-use Rattle.table.specs.Layout.{placeCount}
+use Rattle.table.specs.Layout.{smallCount}
 use Rattle.table.specs.Records.{serialAt, stateAt, blank}
 use Rattle.search.specs.Search.{find}
 use Rattle.search.proofs.Finds.{find-is}
@@ -110,8 +110,8 @@ module _ (operation code : ℕ) (never : (from : ℕ) → listed operation code 
       serial : serialAt u 0 ≡ 1
       serial = sym (l .tame .kept 0 (lit< tt) untaken) ∙ ap (λ (x : Seen). x .serial) e
 
-      found : find placeCount u (namedBy (ev .held) (commandOf ev)) ≡ At 0
-      found = ap (λ (x : Seen). find placeCount u (x .named)) e ∙ find-is placeCount u 1 0 (λ z. omega arith) (lit< tt) serial (λ j h. absurd (omega arith))
+      found : find smallCount u (namedBy (ev .held) (commandOf ev)) ≡ At 0
+      found = ap (λ (x : Seen). find smallCount u (x .named)) e ∙ find-is smallCount u 1 0 (λ z. omega arith) (lit< tt) serial (λ j h. absurd (omega arith))
 
       way : listed operation code (recordIn u 0 .state) 2 ≡ true
       way =
@@ -150,13 +150,13 @@ alive-seen = refl
 
 pub leaves-alive : Demand3 LeavesAlive → ⊥
 unfolding alive seenOn
-leaves-alive d = no-waking destroy 0 destroy-not (d .goes [] (blank placeCount) begins life alive refl (lent-life 1 (lit< tt)) (accepted-is life alive (life-accepted 1 refl)) .path) alive-seen
+leaves-alive d = no-waking destroy 0 destroy-not (d .goes [] (blank smallCount) begins life alive refl (lent-life 1 (lit< tt)) (accepted-is life alive (life-accepted 1 refl)) .path) alive-seen
 
 -- ---- the next call wakes it
 
 -- it leaves of the life of a key what it should: the key is destroyed
 first-left : Effect
-first-left = withTable (λ due. ifb (eqb (stateAt (blank placeCount) 0) 5) (woken due) due) (served life)
+first-left = withTable (λ due. ifb (eqb (stateAt (blank smallCount) 0) 5) (woken due) due) (served life)
 
 -- then Revoke for a compromise, which should lead from 5 to 6
 next : Call

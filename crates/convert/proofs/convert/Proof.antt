@@ -9,7 +9,7 @@ use borrow.Author.Tests.{not-true, not-false}
 use Rattle.octets.specs.If.{ifb}
 use Rattle.octets.specs.Octets.{allZero}
 use Rattle.octets.proofs.If.{ifb-false}
-use Rattle.table.specs.Layout.{placeCount, Table}
+use Rattle.table.specs.Layout.{smallCount, Table}
 use Rattle.soundness.specs.Sound.{sound}
 use Rattle.convert.specs.Old.{Age, plain, dated, width, OldTable, widened}
 use Rattle.convert.specs.OldSound.{leadZeros, soundOld}
@@ -30,19 +30,19 @@ module _ (old new : List ℕ) where
   unfolding converted
   declined e = (sym e, sym (ifb-false _ _ _ e))
 
-  unsound : soundOld plain placeCount old ≡ false → soundOld dated placeCount old ≡ false → Is false new
+  unsound : soundOld plain smallCount old ≡ false → soundOld dated smallCount old ≡ false → Is false new
   unsound p d = declined (neither-converts old new p d)
 
   -- the check of the new table has decided
-  decided : (age : Age) → Table placeCount new → OldTable (width age) placeCount old → (age ≡ plain → allZero (leadZeros old) ≡ true) → {r : Bool} {left : List ℕ}
-      → r ≡ sound placeCount (widened (width age) placeCount old) → left ≡ ifSound (width age) old new → Is r left
+  decided : (age : Age) → Table smallCount new → OldTable (width age) smallCount old → (age ≡ plain → allZero (leadZeros old) ≡ true) → {r : Bool} {left : List ℕ}
+      → r ≡ sound smallCount (widened (width age) smallCount old) → left ≡ ifSound (width age) old new → Is r left
   unfolding converted ifSound
   decided age room big zeros e h =
-      let same : sound placeCount (widened (width age) placeCount old) ≡ converts old new = old-sound placeCount old age big zeros ∙ sym (converts-as old new age big room) in (
+      let same : sound smallCount (widened (width age) smallCount old) ≡ converts old new = old-sound smallCount old age big zeros ∙ sym (converts-as old new age big room) in (
         e ∙ same,
         h
-            ∙ ap (λ (b : Bool). ifb b (widened (width age) placeCount old) new) same
-            ∙ ap (λ (a : Age). ifb (converts old new) (widened (width a) placeCount old) new) (sym (age-is old age big)),
+            ∙ ap (λ (b : Bool). ifb b (widened (width age) smallCount old) new) same
+            ∙ ap (λ (a : Age). ifb (converts old new) (widened (width a) smallCount old) new) (sym (age-is old age big)),
       )
 
 -- ---- the code
@@ -80,7 +80,7 @@ returns-2 c =
 
 -- ---- and the old one is none of L3
 
-undated : (c : tie.Else2) → soundOld dated placeCount (Old (c .before)) ≡ false
+undated : (c : tie.Else2) → soundOld dated smallCount (Old (c .before)) ≡ false
 undated c = other-size (Old (c .before)) dated (c .if2 .left)
 
 returns-3 : tie.Need-returns-3
@@ -109,7 +109,7 @@ returns-4 : tie.Need-returns-4
 returns-4 c =
     let at-zeros = c .before in
     let at-room = looked at-zeros .before in
-    unsound (Old at-room) (New at-room) (unzeroed placeCount (Old at-room) (sym (at-zeros .all-zero .ensures) ∙ not-true _ (c .if4 .taken))) (undated (looked at-zeros))
+    unsound (Old at-room) (New at-room) (unzeroed smallCount (Old at-room) (sym (at-zeros .all-zero .ensures) ∙ not-true _ (c .if4 .taken))) (undated (looked at-zeros))
 
 store-sound-requires-2 : tie.Need-store-sound-requires-2
 store-sound-requires-2 c κs = search needs

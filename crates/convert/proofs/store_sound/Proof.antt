@@ -9,7 +9,7 @@ use lib.Seq.{sets}
 use borrow.Author.Tests.{not-true, not-false}
 use Rattle.octets.proofs.If.{ifb-true, ifb-false}
 use Rattle.octets.proofs.Stores.{sets-whole}
-use Rattle.table.specs.Layout.{placeCount}
+use Rattle.table.specs.Layout.{smallCount}
 use Rattle.soundness.specs.Sound.{sound}
 use Rattle.convert.specs.Old.{BothTables, widened}
 use Rattle.convert.specs.Convert.{ifSound}
@@ -22,18 +22,18 @@ use Rattle.convert.proofs.store_sound.Tie as tie
 module _ (w : ℕ) (old new : List ℕ) where
   -- the answer, and what is left
   abbrev Is : Bool → List ℕ → Type 0
-  Is r left = (r ≡ sound placeCount (widened w placeCount old)) × (left ≡ ifSound w old new)
+  Is r left = (r ≡ sound smallCount (widened w smallCount old)) × (left ≡ ifSound w old new)
 
-  unsound : {wide : List ℕ} → wide ≡ widened w placeCount old → sound placeCount wide ≡ false → Is false new
+  unsound : {wide : List ℕ} → wide ≡ widened w smallCount old → sound smallCount wide ≡ false → Is false new
   unfolding ifSound
-  unsound e h = let s = ap (sound placeCount) (sym e) ∙ h in (sym s, sym (ifb-false _ _ _ s))
+  unsound e h = let s = ap (sound smallCount) (sym e) ∙ h in (sym s, sym (ifb-false _ _ _ s))
 
-  stored : {wide left : List ℕ} → BothTables w placeCount old new → wide ≡ widened w placeCount old → sound placeCount wide ≡ true → left ≡ sets new 0 wide → Is true left
+  stored : {wide left : List ℕ} → BothTables w smallCount old new → wide ≡ widened w smallCount old → sound smallCount wide ≡ true → left ≡ sets new 0 wide → Is true left
   unfolding ifSound
   stored both e h put =
-      let s = ap (sound placeCount) (sym e) ∙ h in
-      let long = length-widened w placeCount old (both .fits) (both .old-sized) in
-      (sym s, put ∙ ap (sets new 0) e ∙ sets-whole new (widened w placeCount old) (long ∙ sym (both .new-sized)) ∙ sym (ifb-true _ _ _ s))
+      let s = ap (sound smallCount) (sym e) ∙ h in
+      let long = length-widened w smallCount old (both .fits) (both .old-sized) in
+      (sym s, put ∙ ap (sets new 0) e ∙ sets-whole new (widened w smallCount old) (long ∙ sym (both .new-sized)) ∙ sym (ifb-true _ _ _ s))
 
 -- ---- the code
 
