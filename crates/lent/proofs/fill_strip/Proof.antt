@@ -1,4 +1,4 @@
--- `benchlib::fill_strip`. What is written counts up from 0.
+-- `lent::fill_strip`. What is written counts up from 0.
 -- Assumes nothing.
 use Prim.Native.Nat.{_-_, _≤_}
 use mathlib.Core.Path.{_≡_, refl, sym, ap, _∙_}
@@ -6,10 +6,10 @@ use lib.ListN.{length, take, length-set}
 use lib.Seq.{take-all}
 use native.Mathlib.Omega.{arith}
 use Rattle.octets.specs.Octets.{countedFrom}
-use Rattle.benchlib.proofs.Counted.{counted-step}
+use Rattle.lent.proofs.Fills.{counted-on}
 use borrow.Author.Needs.{needs}
-use Rattle.benchlib.proofs.fill_strip.Statement.{statement}
-use Rattle.benchlib.proofs.fill_strip.Tie as tie
+use Rattle.lent.proofs.fill_strip.Statement.{statement}
+use Rattle.lent.proofs.fill_strip.Tie as tie
 
 abbrev Inv-loop : tie.InvT-loop
 Inv-loop s₀ i₀ s i = (length s ≡ length s₀) × ((i ≤ length s) × (take i s ≡ countedFrom 0 i))
@@ -36,7 +36,7 @@ loop-less c = rw length-set (omega arith)
 loop-again : tie.Need-loop-again Inv-loop μ-loop
 loop-again c =
     let k = c .before .loop in
-    (rw length-set (k .inv .0), (rw length-set (omega arith), counted-step (k .s) (k .i) (omega arith) (k .inv .1 .1)))
+    (rw length-set (k .inv .0), (rw length-set (omega arith), counted-on (k .s) (k .i) (omega arith) (k .inv .1 .1)))
 
 same-length : tie.Need-same-length Inv-loop μ-loop
 same-length c = search needs

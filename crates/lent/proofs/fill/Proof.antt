@@ -1,28 +1,20 @@
--- `cardslib::fill`. What is written is the byte again and again.
+-- `lent::fill`. What is written is the byte again and again.
 -- Assumes nothing.
+use Prim.Native.Nat.{ℕ, _-_, _≤_}
 use mathlib.Core.Path.{_≡_, refl, sym, ap, _∙_}
-use Prim.Native.Nat.{ℕ, zero, suc, _+_, _-_, _≤_, _<_}
-use mathlib.Core.List.{List, [], _∷_, _++_}
+use lib.ListN.{length, take, replicate, length-set}
+use lib.Seq.{take-all}
 use native.Mathlib.Omega.{arith}
-use native.Mathlib.Numerals.{add-one}
-use lib.ListN.{length, take, replicate, set, length-set}
-use lib.Seq.{take-suc-set, take-all}
+use Rattle.lent.proofs.Fills.{filled-on}
 use borrow.Author.Needs.{needs}
-use Rattle.cardslib.proofs.fill.Statement.{statement}
-use Rattle.cardslib.proofs.fill.Tie as tie
+use Rattle.lent.proofs.fill.Statement.{statement}
+use Rattle.lent.proofs.fill.Tie as tie
 
 abbrev Inv-loop : tie.InvT-loop
 Inv-loop s₀ b i₀ s i = (length s ≡ length s₀) × ((i ≤ length s) × (take i s ≡ replicate i b))
 
 abbrev μ-loop : tie.MeasureT-loop
 μ-loop s₀ b i₀ s i = length s - i
-
-one-more : (n b : ℕ) → replicate (suc n) b ≡ replicate n b ++ (b ∷ [])
-one-more zero b = refl
-one-more (suc n) b = ap (λ (s : List ℕ). b ∷ s) (one-more n b)
-
-filled : (s : List ℕ) (i b : ℕ) → i < length s → take i s ≡ replicate i b → take (i + 1) (set s i b) ≡ replicate (i + 1) b
-filled s i b h e = rw (add-one, take-suc-set s i b h, e) (sym (one-more i b))
 
 loop-holds : tie.Need-loop-holds Inv-loop μ-loop
 loop-holds c = (refl, (omega arith, refl))
@@ -39,7 +31,7 @@ loop-less c = rw length-set (omega arith)
 loop-again : tie.Need-loop-again Inv-loop μ-loop
 loop-again c =
     let k = c .before .loop in
-    (rw length-set (k .inv .0), (rw length-set (omega arith), filled (k .s) (k .i) (c .before .before .args .b) (omega arith) (k .inv .1 .1)))
+    (rw length-set (k .inv .0), (rw length-set (omega arith), filled-on (k .s) (k .i) (c .before .before .args .b) (omega arith) (k .inv .1 .1)))
 
 same-length : tie.Need-same-length Inv-loop μ-loop
 same-length c = search needs
