@@ -10,7 +10,6 @@ use Rattle.octets.specs.Octets.{over}
 use Rattle.octets.proofs.Over.{lent, over-front}
 use Rattle.ttlv.specs.Items.{encode}
 use Rattle.ttlv.proofs.Back.{eights}
-use Rattle.table.specs.Layout.{smallCount}
 use Rattle.changes.specs.Dates.{countedClock, began}
 use Rattle.changes.proofs.Sweep.{length-began}
 use Rattle.frame.specs.Frame.{batchMost}
@@ -58,26 +57,26 @@ module _ {ran : Ran} (out : List ℕ) {t′ ys : List ℕ} {done : BatchDone} (i
 
 -- ---- the whole
 
-module _ {items t strip out : List ℕ} (asks : RunsWhole items t strip out) (clock : ℕ) where
+module _ {n : ℕ} {items t strip out : List ℕ} (asks : RunsWhole n items t strip out) (clock : ℕ) where
   -- the front has its room
   pub front-fits : frameSize ≤ length out
   front-fits = omega (arith, asks .fits)
 
   -- what the batch asks of the table that it meets
-  pub runs-behind : {u : List ℕ} → u ≡ began smallCount (countedClock clock t) t → Runs items u strip (behind out)
+  pub runs-behind : {u : List ℕ} → u ≡ began n (countedClock clock t) t → Runs n items u strip (behind out)
   runs-behind e = record {
     run = asks .run;
     read = asks .read;
     few = asks .few;
-    table = ap length e ∙ length-began smallCount (countedClock clock t) t ∙ asks .table;
+    table = ap length e ∙ length-began n (countedClock clock t) t ∙ asks .table;
     strip = asks .strip;
     fits = rw (length-take, length-drop) (omega (arith, asks .fits));
   }
 
-  pub accepted-is : (option : ℕ) {counted : ℕ} {u t′ ys out′ : List ℕ} {done : BatchDone} → counted ≡ countedClock clock t → u ≡ began smallCount (countedClock clock t) t
-      → RanIs (ranOver items strip option u) (behind out) done t′ ys
+  pub accepted-is : (option : ℕ) {counted : ℕ} {u t′ ys out′ : List ℕ} {done : BatchDone} → counted ≡ countedClock clock t → u ≡ began n (countedClock clock t) t
+      → RanIs (ranOver n items strip option u) (behind out) done t′ ys
       → out′ ≡ over (front counted (done .count) (done .used)) (putMid frameSize (length out - frameSize) out ys)
-      → AcceptedIs (acceptedOver items strip option clock t out) (frameSize + done .used) t′ out′
+      → AcceptedIs (acceptedOver n items strip option clock t out) (frameSize + done .used) t′ out′
   accepted-is option {counted} {u} {t′} {ys} {out′} {done} c e is w =
-      answered-is out (subst (λ (v : List ℕ). RanIs (ranOver items strip option v) (behind out) done t′ ys) e is) (countedClock clock t) front-fits
+      answered-is out (subst (λ (v : List ℕ). RanIs (ranOver n items strip option v) (behind out) done t′ ys) e is) (countedClock clock t) front-fits
       (w ∙ ap (λ (k : ℕ). over (front k (done .count) (done .used)) (putMid frameSize (length out - frameSize) out ys)) c)

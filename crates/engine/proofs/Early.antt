@@ -10,8 +10,7 @@ use borrow.Author.Tests.{ltb-false, eqb-true, not-true, not-false}
 use Rattle.octets.specs.Maybe.{isSome}
 use Rattle.octets.proofs.If.{chain, on-if}
 use Rattle.ttlv.specs.Parse.{message}
-use Rattle.table.specs.Layout.{smallCount}
-use Rattle.soundness.specs.Sound.{sound}
+use Rattle.place_counts.specs.Counts.{tableRight}
 use Rattle.engine.specs.Effects.{roomLeast, stripSize, requestMost}
 use Rattle.engine.specs.Serving.{earlyRefusal}
 
@@ -33,11 +32,11 @@ module _ (request t strip : List ℕ) (room : ℕ) where
     early-2 h = sym (simp chain)
 
     module _ (b : length strip ≡ stripSize) where
-      pub early-3 : sound smallCount t ≡ false → 3 ≡ earlyRefusal request t strip room
+      pub early-3 : tableRight t ≡ false → 3 ≡ earlyRefusal request t strip room
       unfolding earlyRefusal
       early-3 h = sym (simp (chain, h))
 
-      module _ (s : sound smallCount t ≡ true) where
+      module _ (s : tableRight t ≡ true) where
         pub early-4 : length request ≡ 0 → 4 ≡ earlyRefusal request t strip room
         unfolding earlyRefusal
         early-4 h = sym (simp (chain, s))
@@ -63,14 +62,14 @@ pub record Passed (request t strip out : List ℕ) : Type 0 where
   pub none-early : earlyRefusal request t strip (length out) ≡ 0
   pub room : roomLeast ≤ length out
   pub strip-size : length strip ≡ stripSize
-  pub right : sound smallCount t ≡ true
+  pub right : tableRight t ≡ true
   pub is-message : isSome (message request) ≡ true
 
 module _ (request t strip out : List ℕ) where
   -- the ladder, by its number
   data Early : ℕ → Type 0 where
     refuses : (k : ℕ) → Early (suc k)
-    passes : roomLeast ≤ length out → length strip ≡ stripSize → sound smallCount t ≡ true → isSome (message request) ≡ true → Early 0
+    passes : roomLeast ≤ length out → length strip ≡ stripSize → tableRight t ≡ true → isSome (message request) ≡ true → Early 0
 
   early : Early (earlyRefusal request t strip (length out))
   unfolding earlyRefusal

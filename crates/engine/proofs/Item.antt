@@ -13,7 +13,6 @@ use Rattle.ttlv.specs.Items.{nil, group}
 use Rattle.ttlv.specs.Tree.{isRun, treeOf}
 use Rattle.fields.proofs.Lift.{cut-tree}
 use Rattle.ttlv_put.specs.Write.{Holds}
-use Rattle.table.specs.Layout.{smallCount}
 use Rattle.batch_item.specs.declared.ItemId.{ItemId}
 use Rattle.batch_item.specs.declared.ItemParts.{ItemParts}
 use Rattle.tags.specs.Tags.{batchItem}
@@ -44,7 +43,7 @@ id-taken : (v : List ℕ) → take (idOf v .len) (idOf v .bytes) ≡ v
 unfolding idOf
 id-taken v = take-at v (replicate (16 - length v) 0) (length v) refl
 
-module _ {body t out : List ℕ} (one : RunsOne body t out) where
+module _ {n : ℕ} {body t out : List ℕ} (one : RunsOne n body t out) where
   -- the parts of the item are those that were asked
   parts : PartsShape body (askedIn body)
   parts = parts-shape body (askedIn body) (one .run) (asked-is (itemIn (treeOf body)) (one .read))
@@ -73,17 +72,17 @@ module _ {body t out : List ℕ} (one : RunsOne body t out) where
 
     -- what was read, carried out and written is the item
     pub item-is : {fresh : List ℕ} {holder : ℕ} {c : Command} (d : Performed) {failed : Bool} {used : ℕ} {t′ out′ : List ℕ}
-        → c ≡ command (p .operation) (treeOf (payload p)) → leaves d t′ ≡ performing smallCount fresh holder t c → failed ≡ isFailed (d .outcome)
+        → c ≡ command (p .operation) (treeOf (payload p)) → leaves d t′ ≡ performing n fresh holder t c → failed ≡ isFailed (d .outcome)
         → Puts longestItem (group batchItem (answerItems (answerOf (p .operation) (p .id) (d .outcome))) nil) out out′ used
-        → ItemIs (askedIn body) t fresh holder out (record { failed = failed; holder = d .holder; used = used }) t′ out′
+        → ItemIs n (askedIn body) t fresh holder out (record { failed = failed; holder = d .holder; used = used }) t′ out′
     item-is {fresh} {holder} {c} d {failed} {used} {t′} {out′} ec ed ef h =
         let asked = askedIn body in
         let op : p .operation ≡ asked .operation = ap (λ (x : ItemParts). x .operation) e ∙ parts .operation in
         let id : take (p .id .len) (p .id .bytes) ≡ asked .id = ap (λ (x : ItemParts). take (x .id .len) (x .id .bytes)) e ∙ ap (λ (x : ItemId). take (x .len) (x .bytes)) (parts .id) ∙ id-taken (asked .id) in
-        let same : leaves d t′ ≡ doing asked fresh holder t =
-        ed ∙ ap (performing smallCount fresh holder t) (ec ∙ ap (command (p .operation)) start-tree ∙ ap (λ (o : ℕ). command o (asked .payload)) op) in
-        let out-is : d .outcome ≡ doing asked fresh holder t .outcome = ap (λ (x : Did). x .outcome) same in
-        let answer : answerOf (p .operation) (p .id) (d .outcome) ≡ answerTo asked (doing asked fresh holder t) =
+        let same : leaves d t′ ≡ doing n asked fresh holder t =
+        ed ∙ ap (performing n fresh holder t) (ec ∙ ap (command (p .operation)) start-tree ∙ ap (λ (o : ℕ). command o (asked .payload)) op) in
+        let out-is : d .outcome ≡ doing n asked fresh holder t .outcome = ap (λ (x : Did). x .outcome) same in
+        let answer : answerOf (p .operation) (p .id) (d .outcome) ≡ answerTo asked (doing n asked fresh holder t) =
         ap (λ (o : ℕ). record { operation = o; id = take (p .id .len) (p .id .bytes); outcome = d .outcome }) op
         ∙ ap (λ (v : List ℕ). record { operation = asked .operation; id = v; outcome = d .outcome }) id
         ∙ ap (λ (o : Outcome). record { operation = asked .operation; id = asked .id; outcome = o }) out-is in

@@ -18,7 +18,9 @@ use Rattle.ttlv.specs.Parse.{message}
 use Rattle.ttlv.specs.Tree.{isRun, treeOf}
 use Rattle.ttlv.proofs.Message.{message-tree}
 use Rattle.values.specs.Values.{aboveZero}
-use Rattle.table.specs.Layout.{smallCount}
+use Rattle.table.specs.Layout.{Table, HasLead}
+use Rattle.table.specs.Records.{placesSaid}
+use Rattle.place_counts.proofs.Counts.{right-sound}
 use Rattle.soundness.proofs.SoundIs.{sound-is}
 use Rattle.changes.specs.Dates.{countedClock, began}
 use Rattle.frame.specs.declared.Framing.{Framing}
@@ -100,23 +102,23 @@ module _ {request : List ℕ} {r : Request} (shape : BatchShape request r) where
   lent-asks = ap (λ (u : List ℕ). itemsIn (treeOf u)) lent-is ∙ shape .items
 
   -- what answering asks
-  runs : {t strip out : List ℕ} → Passed request t strip out → RunsWhole lentItems t strip out
+  runs : {t strip out : List ℕ} → Passed request t strip out → RunsWhole (placesSaid t) lentItems t strip out
   unfolding isSome askedAll
   runs {t} p = record {
     run = ap isRun lent-is ∙ shape .run;
     read = ap isSome lent-asks;
     few = subst (λ (o : Option (List Asked)). length (askedAll o) ≤ batchMost) (sym lent-asks) (shape .few);
-    table = sound-is smallCount t (p .right) .size;
+    table = sound-is (placesSaid t) t (right-sound t (p .right)) .size;
     strip = p .strip-size;
     fits = p .room;
   }
 
   -- a batch of these items is the one that was asked for
-  ran-is : (strip t : List ℕ) → ranOver lentItems strip (framingOf request .option) t ≡ running smallCount strip t r
+  ran-is : (n : ℕ) (strip t : List ℕ) → ranOver n lentItems strip (framingOf request .option) t ≡ running n strip t r
   unfolding running askedAll
-  ran-is strip t =
-      ap (λ (o : Option (List Asked)). batch smallCount strip (framingOf request .option) firstItem emptyHolder t (askedAll o)) lent-asks
-      ∙ ap (λ (k : ℕ). batch smallCount strip k firstItem emptyHolder t (r .items)) (shape .option)
+  ran-is n strip t =
+      ap (λ (o : Option (List Asked)). batch n strip (framingOf request .option) firstItem emptyHolder t (askedAll o)) lent-asks
+      ∙ ap (λ (k : ℕ). batch n strip k firstItem emptyHolder t (r .items)) (shape .option)
 
 -- ---- what `serve` answers
 
@@ -169,29 +171,42 @@ module _ {request t strip : List ℕ} {clock : ℕ} {out : List ℕ} {f : Framin
   abbrev items : Framing → List ℕ
   items x = take (length request - x .items) (drop (x .items) request)
 
-  pub runs-from : RunsWhole (items f) t strip out
-  runs-from = subst (λ (x : Framing). RunsWhole (items x) t strip out) (sym (a .framing-is)) (runs (a .shape) (a .passed))
+  -- the table is as large as its lead says, so the lead is there
+  sized : Table (placesSaid t) t
+  sized = sound-is (placesSaid t) t (right-sound t (a .passed .right)) .size
 
-  ran-from : (u : List ℕ) → ranOver (items f) strip (f .option) u ≡ running smallCount strip u (a .request-is)
-  ran-from u = subst (λ (x : Framing). ranOver (items x) strip (x .option) u ≡ running smallCount strip u (a .request-is)) (sym (a .framing-is)) (ran-is (a .shape) strip u)
+  pub lead-there : HasLead t
+  lead-there = omega (arith, sized)
+
+  -- with the places that the lead says, as they were read
+  pub runs-from : {n : ℕ} → n ≡ placesSaid t → RunsWhole n (items f) t strip out
+  runs-from e =
+      subst (λ (k : ℕ). RunsWhole k (items f) t strip out) (sym e)
+      (subst (λ (x : Framing). RunsWhole (placesSaid t) (items x) t strip out) (sym (a .framing-is)) (runs (a .shape) (a .passed)))
+
+  ran-from : (n : ℕ) (u : List ℕ) → ranOver n (items f) strip (f .option) u ≡ running n strip u (a .request-is)
+  ran-from n u = subst (λ (x : Framing). ranOver n (items x) strip (x .option) u ≡ running n strip u (a .request-is)) (sym (a .framing-is)) (ran-is (a .shape) n strip u)
 
   -- refusal 10
   pub clock-away : aboveZero clock ≡ false → ServedIs request t strip clock out (record { number = 10; length = 0 }) t out
   unfolding carryOut
   clock-away low = away-is 10 (a .decides ∙ ifb-false _ _ _ low)
 
-  -- the clock, given as the same 64 bits
-  pub clock-taken : {bits : ℕ} → bits ≡ clock → {length : ℕ} {t′ out′ : List ℕ} → AcceptedIs (acceptedOver (items f) strip (f .option) bits t out) length t′ out′
-      → AcceptedIs (acceptedOver (items f) strip (f .option) clock t out) length t′ out′
-  clock-taken e {length} {t′} {out′} is = subst (λ (k : ℕ). AcceptedIs (acceptedOver (items f) strip (f .option) k t out) length t′ out′) e is
+  -- the places as they were read, and the clock, given as the same 64 bits
+  pub taken-as : {n : ℕ} → n ≡ placesSaid t → {bits : ℕ} → bits ≡ clock → {length : ℕ} {t′ out′ : List ℕ}
+      → AcceptedIs (acceptedOver n (items f) strip (f .option) bits t out) length t′ out′
+      → AcceptedIs (acceptedOver (placesSaid t) (items f) strip (f .option) clock t out) length t′ out′
+  taken-as {n} p e {length} {t′} {out′} is =
+      subst (λ (k : ℕ). AcceptedIs (acceptedOver k (items f) strip (f .option) clock t out) length t′ out′) p
+      (subst (λ (k : ℕ). AcceptedIs (acceptedOver n (items f) strip (f .option) k t out) length t′ out′) e is)
 
   -- none
-  pub served-is : aboveZero clock ≡ true → {length : ℕ} {t′ out′ : List ℕ} → AcceptedIs (acceptedOver (items f) strip (f .option) clock t out) length t′ out′
+  pub served-is : aboveZero clock ≡ true → {length : ℕ} {t′ out′ : List ℕ} → AcceptedIs (acceptedOver (placesSaid t) (items f) strip (f .option) clock t out) length t′ out′
       → ServedIs request t strip clock out (record { number = 0; length = length }) t′ out′
   unfolding carryOut answered
   served-is high {length} {t′} {out′} is =
-      let whole : acceptedOver (items f) strip (f .option) clock t out ≡ serving request t strip clock out =
-      ap (answered (countedClock clock t) out) (ran-from (began smallCount (countedClock clock t) t)) ∙ sym (a .decides ∙ ifb-true _ _ _ high) in
+      let whole : acceptedOver (placesSaid t) (items f) strip (f .option) clock t out ≡ serving request t strip clock out =
+      ap (answered (countedClock clock t) out) (ran-from (placesSaid t) (began (placesSaid t) (countedClock clock t) t)) ∙ sym (a .decides ∙ ifb-true _ _ _ high) in
       record {
         number = ap (λ (x : Effect). x .number) whole;
         length = is .length ∙ ap (λ (x : Effect). x .length) whole;

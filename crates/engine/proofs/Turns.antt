@@ -23,7 +23,7 @@ use Rattle.fields.specs.declared.BodyField.{BodyField}
 use Rattle.fields.specs.declared.BodyField.the-variants.{Body, NoBody}
 use Rattle.ttlv_put.specs.Write.{Holds}
 use Rattle.ttlv_put.proofs.Holds.{holds-none, holds-then}
-use Rattle.table.specs.Layout.{smallCount, Table, materialSize}
+use Rattle.table.specs.Layout.{Table, materialSize}
 use Rattle.tags.specs.Tags.{batchItem}
 use Rattle.batch_item.specs.Item.{Asked, itemIn, itemsIn}
 use Rattle.frame.specs.Frame.{batchMost, continue}
@@ -54,30 +54,30 @@ rest-lent : (next : ℕ) (left : List ℕ) → drop next left ≡ take (length l
 rest-lent next left = sym (take-all (length left - next) (drop next left) (rw length-drop (omega arith)))
 
 -- the batch from item i on
-abbrev from : List ℕ → ℕ → ℕ → ℕ → List ℕ → List Asked → Ran
-from fresh option i holder t later = batch smallCount fresh option i holder t later
+abbrev from : ℕ → List ℕ → ℕ → ℕ → ℕ → List ℕ → List Asked → Ran
+from n fresh option i holder t later = batch n fresh option i holder t later
 
 -- between two items: what is answered stands in the room, and the rest of the batch from here gives the whole
-pub record Mid (whole : Ran) (fresh : List ℕ) (option : ℕ) (out₀ t out left : List ℕ) (i holder at : ℕ) : Type 0 where
+pub record Mid (n : ℕ) (whole : Ran) (fresh : List ℕ) (option : ℕ) (out₀ t out left : List ℕ) (i holder at : ℕ) : Type 0 where
   pub later : List Asked
   pub done : List Answer
   pub run : isRun left ≡ true
   pub items : itemsIn (treeOf left) ≡ some later
   pub few : i + length later ≤ batchMost
-  pub table : Table smallCount t
+  pub table : Table n t
   pub strip : length fresh ≡ stripSize
   pub room : batchMost * longestItem ≤ length out₀
   pub same : length out ≡ length out₀
   pub used : at ≤ longestItem * i
   pub count : length done ≡ i
-  pub answers : done ++ from fresh option i holder t later .answers ≡ whole .answers
-  pub tables : from fresh option i holder t later .table ≡ whole .table
+  pub answers : done ++ from n fresh option i holder t later .answers ≡ whole .answers
+  pub tables : from n fresh option i holder t later .table ≡ whole .table
   pub bytes : Holds (encode (batchItems done)) out₀ out at
 
 -- how it begins
-pub begins : {items t fresh out : List ℕ} (option : ℕ) → Runs items t fresh out → Mid (ranOver items fresh option t) fresh option out t out items firstItem emptyHolder 0
+pub begins : {n : ℕ} {items t fresh out : List ℕ} (option : ℕ) → Runs n items t fresh out → Mid n (ranOver n items fresh option t) fresh option out t out items firstItem emptyHolder 0
 unfolding batchItems encode
-begins {items} {t} {fresh} {out} option h = record {
+begins {n} {items} {t} {fresh} {out} option h = record {
   later = askedAll (itemsIn (treeOf items));
   done = [];
   run = h .run;
@@ -94,7 +94,7 @@ begins {items} {t} {fresh} {out} option h = record {
   bytes = holds-none out;
 }
 
-module _ {whole : Ran} {fresh : List ℕ} {option : ℕ} {out₀ t out left : List ℕ} {i holder at : ℕ} (m : Mid whole fresh option out₀ t out left i holder at) where
+module _ {n : ℕ} {whole : Ran} {fresh : List ℕ} {option : ℕ} {out₀ t out left : List ℕ} {i holder at : ℕ} (m : Mid n whole fresh option out₀ t out left i holder at) where
   -- no item is left
   pub ended : bodyAt left batchItem ≡ NoBody → RanIs whole out₀ (record { count = i; used = at }) t out
   unfolding batch
@@ -105,11 +105,11 @@ module _ {whole : Ran} {fresh : List ℕ} {option : ℕ} {out₀ t out left : Li
         where
           over-here : RanIs whole out₀ (record { count = i; used = at }) t out
           over-here =
-              let a : m .done ≡ whole .answers = sym (append-nil (m .done)) ∙ ap (λ (x : List Asked). m .done ++ from fresh option i holder t x .answers) (sym l) ∙ m .answers in
+              let a : m .done ≡ whole .answers = sym (append-nil (m .done)) ∙ ap (λ (x : List Asked). m .done ++ from n fresh option i holder t x .answers) (sym l) ∙ m .answers in
               record {
                 count = sym (m .count) ∙ ap length a;
                 most = omega (arith, m .used, m .few);
-                table = ap (λ (x : List Asked). from fresh option i holder t x .table) (sym l) ∙ m .tables;
+                table = ap (λ (x : List Asked). from n fresh option i holder t x .table) (sym l) ∙ m .tables;
                 bytes = subst (λ (x : List Answer). Holds (encode (batchItems x)) out₀ out at) a (m .bytes);
               }
       go (a ∷ later) l =
@@ -168,7 +168,7 @@ module _ {whole : Ran} {fresh : List ℕ} {option : ℕ} {out₀ t out left : Li
     next-index = let l = fits in omega arith
 
     -- what it asks
-    pub next-runs : RunsOne (part left 8 (next - 8)) t (midOf at (length out - at) out)
+    pub next-runs : RunsOne n (part left 8 (next - 8)) t (midOf at (length out - at) out)
     unfolding isSome
     next-runs = record {
       run = x .item-run;
@@ -179,23 +179,23 @@ module _ {whole : Ran} {fresh : List ℕ} {option : ℕ} {out₀ t out left : Li
 
     -- what became of it, with its body and its part of the strip as they are lent
     module _ {r : ItemDone} {t′ ys : List ℕ}
-        (lent-is : ItemIs (askedIn (part left 8 (next - 8))) t (take (materialSize * i + materialSize - materialSize * i) (drop (materialSize * i) fresh)) holder (midOf at (length out - at) out) r t′ ys) where
+        (lent-is : ItemIs n (askedIn (part left 8 (next - 8))) t (take (materialSize * i + materialSize - materialSize * i) (drop (materialSize * i) fresh)) holder (midOf at (length out - at) out) r t′ ys) where
       abbrev did : Did
-      did = doing (x .asked) (part fresh (materialSize * i) materialSize) holder t
+      did = doing n (x .asked) (part fresh (materialSize * i) materialSize) holder t
 
       abbrev answer : Answer
-      answer = answerTo (x .asked) (doing (x .asked) (part fresh (materialSize * i) materialSize) holder t)
+      answer = answerTo (x .asked) (doing n (x .asked) (part fresh (materialSize * i) materialSize) holder t)
 
       -- the room after the item
       abbrev room′ : List ℕ
       room′ = putMid at (length out - at) out ys
 
-      is : ItemIs (x .asked) t (part fresh (materialSize * i) materialSize) holder (midOf at (length out - at) out) r t′ ys
+      is : ItemIs n (x .asked) t (part fresh (materialSize * i) materialSize) holder (midOf at (length out - at) out) r t′ ys
       unfolding askedOr
       is =
           let e : materialSize * i + materialSize - materialSize * i ≡ materialSize = omega arith in
-          subst (λ (a : Asked). ItemIs a t (part fresh (materialSize * i) materialSize) holder (midOf at (length out - at) out) r t′ ys) (ap askedOr (x .item))
-          (subst (λ (k : ℕ). ItemIs (askedIn (part left 8 (next - 8))) t (take k (drop (materialSize * i) fresh)) holder (midOf at (length out - at) out) r t′ ys) e lent-is)
+          subst (λ (a : Asked). ItemIs n a t (part fresh (materialSize * i) materialSize) holder (midOf at (length out - at) out) r t′ ys) (ap askedOr (x .item))
+          (subst (λ (k : ℕ). ItemIs n (askedIn (part left 8 (next - 8))) t (take k (drop (materialSize * i) fresh)) holder (midOf at (length out - at) out) r t′ ys) e lent-is)
 
       written : Holds (encode (batchItems (m .done ++ (answer ∷ [])))) out₀ room′ (at + r .used)
       unfolding batchItems
@@ -212,18 +212,18 @@ module _ {whole : Ran} {fresh : List ℕ} {option : ℕ} {out₀ t out left : Li
         ends-as = sym (tested ∙ ap (λ (f : Bool). f && not (eqb option continue)) (is .failed))
 
         -- the batch from here, by how it goes on
-        now-is : from fresh option i holder t (m .later) ≡ ifb b (lastly answer (did .table)) (firstly answer (from fresh option (i + 1) (did .holder) (did .table) (x .rest)))
+        now-is : from n fresh option i holder t (m .later) ≡ ifb b (lastly answer (did .table)) (firstly answer (from n fresh option (i + 1) (did .holder) (did .table) (x .rest)))
         unfolding batch
         now-is =
-            ap (from fresh option i holder t) (x .split)
-            ∙ ap (λ (d : Did). ifb (endsBatch option d) (lastly (answerTo (x .asked) d) (d .table)) (firstly (answerTo (x .asked) d) (from fresh option (i + 1) (d .holder) (d .table) (x .rest))))
-            (step-performs (envAt smallCount fresh i) holder t (x .asked))
-            ∙ ap (λ (f : Bool). ifb f (lastly answer (did .table)) (firstly answer (from fresh option (i + 1) (did .holder) (did .table) (x .rest)))) ends-as
+            ap (from n fresh option i holder t) (x .split)
+            ∙ ap (λ (d : Did). ifb (endsBatch option d) (lastly (answerTo (x .asked) d) (d .table)) (firstly (answerTo (x .asked) d) (from n fresh option (i + 1) (d .holder) (d .table) (x .rest))))
+            (step-performs (envAt n fresh i) holder t (x .asked))
+            ∙ ap (λ (f : Bool). ifb f (lastly answer (did .table)) (firstly answer (from n fresh option (i + 1) (did .holder) (did .table) (x .rest)))) ends-as
 
         -- nothing after this item
         pub stopped : b ≡ true → RanIs whole out₀ (record { count = i + 1; used = at + r .used }) t′ room′
         stopped e =
-            let q : from fresh option i holder t (m .later) ≡ lastly answer (did .table) = now-is ∙ ifb-true b _ _ e in
+            let q : from n fresh option i holder t (m .later) ≡ lastly answer (did .table) = now-is ∙ ifb-true b _ _ e in
             let a : m .done ++ (answer ∷ []) ≡ whole .answers = ap (λ (y : Ran). m .done ++ y .answers) (sym q) ∙ m .answers in
             record {
               count = sym count-more ∙ ap length a;
@@ -234,11 +234,11 @@ module _ {whole : Ran} {fresh : List ℕ} {option : ℕ} {out₀ t out left : Li
 
         -- the next item
         pub again : b ≡ false → length t′ ≡ length t → length ys ≡ length (midOf at (length out - at) out)
-            → Mid whole fresh option out₀ t′ room′ (take (length left - next) (drop next left)) (i + 1) (r .holder) (at + r .used)
+            → Mid n whole fresh option out₀ t′ room′ (take (length left - next) (drop next left)) (i + 1) (r .holder) (at + r .used)
         again e lt ly =
-            let q : from fresh option i holder t (m .later) ≡ firstly answer (from fresh option (i + 1) (did .holder) (did .table) (x .rest)) = now-is ∙ ifb-false b _ _ e in
-            let same-from : from fresh option (i + 1) (r .holder) t′ (x .rest) ≡ from fresh option (i + 1) (did .holder) (did .table) (x .rest) =
-            ap (λ (h : ℕ). from fresh option (i + 1) h t′ (x .rest)) (is .held) ∙ ap (λ (u : List ℕ). from fresh option (i + 1) (did .holder) u (x .rest)) (is .table) in
+            let q : from n fresh option i holder t (m .later) ≡ firstly answer (from n fresh option (i + 1) (did .holder) (did .table) (x .rest)) = now-is ∙ ifb-false b _ _ e in
+            let same-from : from n fresh option (i + 1) (r .holder) t′ (x .rest) ≡ from n fresh option (i + 1) (did .holder) (did .table) (x .rest) =
+            ap (λ (h : ℕ). from n fresh option (i + 1) h t′ (x .rest)) (is .held) ∙ ap (λ (u : List ℕ). from n fresh option (i + 1) (did .holder) u (x .rest)) (is .table) in
             record {
               later = x .rest;
               done = m .done ++ (answer ∷ []);
@@ -252,7 +252,7 @@ module _ {whole : Ran} {fresh : List ℕ} {option : ℕ} {out₀ t out left : Li
               used = omega (arith, m .used, is .few);
               count = count-more;
               answers =
-                  append-assoc (m .done) (answer ∷ []) (from fresh option (i + 1) (r .holder) t′ (x .rest) .answers)
+                  append-assoc (m .done) (answer ∷ []) (from n fresh option (i + 1) (r .holder) t′ (x .rest) .answers)
                   ∙ ap (λ (y : Ran). m .done ++ (answer ∷ y .answers)) same-from
                   ∙ ap (λ (y : Ran). m .done ++ y .answers) (sym q) ∙ m .answers;
               tables = ap (λ (y : Ran). y .table) same-from ∙ ap (λ (y : Ran). y .table) (sym q) ∙ m .tables;

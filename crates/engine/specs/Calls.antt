@@ -10,7 +10,7 @@ use Rattle.octets.specs.Maybe.{isSome}
 use Rattle.ttlv.specs.Items.{nil, group, encode}
 use Rattle.ttlv.specs.Tree.{isRun, treeOf}
 use Rattle.ttlv_put.specs.Write.{Holds}
-use Rattle.table.specs.Layout.{smallCount, Table}
+use Rattle.table.specs.Layout.{Table}
 use Rattle.tags.specs.Tags.{batchItem}
 use Rattle.batch_item.specs.Item.{Asked, itemIn, itemsIn}
 use Rattle.frame.specs.Frame.{batchMost}
@@ -44,24 +44,24 @@ askedAll (some items) = items
 abbrev pub answerBytes : Answer → List ℕ
 answerBytes a = encode (group batchItem (answerItems a) nil)
 
--- what an item does on a table, with its part of the strip and a placeholder
-abbrev pub doing : Asked → List ℕ → ℕ → List ℕ → Did
-doing asked fresh holder t = performing smallCount fresh holder t (command (asked .operation) (asked .payload))
+-- what an item does on a table of n places, with its part of the strip and a placeholder
+abbrev pub doing : ℕ → Asked → List ℕ → ℕ → List ℕ → Did
+doing n asked fresh holder t = performing n fresh holder t (command (asked .operation) (asked .payload))
 
 -- an item that can be carried out and answered: it was read, and table and room have their sizes
-pub record RunsOne (body t out : List ℕ) : Type 0 where
+pub record RunsOne (n : ℕ) (body t out : List ℕ) : Type 0 where
   pub run : isRun body ≡ true
   pub read : isSome (itemIn (treeOf body)) ≡ true
-  pub table : Table smallCount t
+  pub table : Table n t
   pub room : longestItem ≤ length out
 
 -- one item carried out and answered
-pub record ItemIs (asked : Asked) (t fresh : List ℕ) (holder : ℕ) (out : List ℕ) (r : ItemDone) (t′ out′ : List ℕ) : Type 0 where
-  pub failed : r .failed ≡ isFailed (doing asked fresh holder t .outcome)
-  pub held : r .holder ≡ doing asked fresh holder t .holder
-  pub table : t′ ≡ doing asked fresh holder t .table
+pub record ItemIs (n : ℕ) (asked : Asked) (t fresh : List ℕ) (holder : ℕ) (out : List ℕ) (r : ItemDone) (t′ out′ : List ℕ) : Type 0 where
+  pub failed : r .failed ≡ isFailed (doing n asked fresh holder t .outcome)
+  pub held : r .holder ≡ doing n asked fresh holder t .holder
+  pub table : t′ ≡ doing n asked fresh holder t .table
   pub few : r .used ≤ longestItem
-  pub bytes : Holds (answerBytes (answerTo asked (doing asked fresh holder t))) out out′ (r .used)
+  pub bytes : Holds (answerBytes (answerTo asked (doing n asked fresh holder t))) out out′ (r .used)
 
 -- a batch carried out and answered
 pub record RanIs (ran : Ran) (out : List ℕ) (r : BatchDone) (t′ out′ : List ℕ) : Type 0 where
@@ -70,30 +70,30 @@ pub record RanIs (ran : Ran) (out : List ℕ) (r : BatchDone) (t′ out′ : Lis
   pub table : t′ ≡ ran .table
   pub bytes : Holds (encode (batchItems (ran .answers))) out out′ (r .used)
 
--- the batch of the items that some bytes say, on a table
-abbrev pub ranOver : List ℕ → List ℕ → ℕ → List ℕ → Ran
-ranOver items strip option t = batch smallCount strip option firstItem emptyHolder t (askedAll (itemsIn (treeOf items)))
+-- the batch of the items that some bytes say, on a table of n places
+abbrev pub ranOver : ℕ → List ℕ → List ℕ → ℕ → List ℕ → Ran
+ranOver n items strip option t = batch n strip option firstItem emptyHolder t (askedAll (itemsIn (treeOf items)))
 
 -- a batch that can be run in so much room: its items were read, they are at most 16, and table, strip and room have their sizes
-pub record RunsIn (room : ℕ) (items t fresh out : List ℕ) : Type 0 where
+pub record RunsIn (n room : ℕ) (items t fresh out : List ℕ) : Type 0 where
   pub run : isRun items ≡ true
   pub read : isSome (itemsIn (treeOf items)) ≡ true
   pub few : length (askedAll (itemsIn (treeOf items))) ≤ batchMost
-  pub table : Table smallCount t
+  pub table : Table n t
   pub strip : length fresh ≡ stripSize
   pub fits : room ≤ length out
 
 -- the room of the answers alone
-abbrev pub Runs : List ℕ → List ℕ → List ℕ → List ℕ → Type 0
-Runs items t fresh out = RunsIn (batchMost * longestItem) items t fresh out
+abbrev pub Runs : ℕ → List ℕ → List ℕ → List ℕ → List ℕ → Type 0
+Runs n items t fresh out = RunsIn n (batchMost * longestItem) items t fresh out
 
 -- the room of the whole response
-abbrev pub RunsWhole : List ℕ → List ℕ → List ℕ → List ℕ → Type 0
-RunsWhole items t fresh out = RunsIn roomLeast items t fresh out
+abbrev pub RunsWhole : ℕ → List ℕ → List ℕ → List ℕ → List ℕ → Type 0
+RunsWhole n items t fresh out = RunsIn n roomLeast items t fresh out
 
--- what an accepted request leaves, where these bytes are its items
-abbrev pub acceptedOver : List ℕ → List ℕ → ℕ → ℕ → List ℕ → List ℕ → Effect
-acceptedOver items strip option clock t out = accepted clock t (ranOver items strip option) out
+-- what an accepted request leaves of a table of n places, where these bytes are its items
+abbrev pub acceptedOver : ℕ → List ℕ → List ℕ → ℕ → ℕ → List ℕ → List ℕ → Effect
+acceptedOver n items strip option clock t out = accepted n clock t (ranOver n items strip option) out
 
 -- its length, table and output
 pub record AcceptedIs (e : Effect) (r : ℕ) (t′ out′ : List ℕ) : Type 0 where

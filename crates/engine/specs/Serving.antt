@@ -11,8 +11,8 @@ use Rattle.octets.specs.Octets.{over}
 use Rattle.ttlv.specs.Items.{encode}
 use Rattle.ttlv.specs.Parse.{message}
 use Rattle.values.specs.Values.{aboveZero}
-use Rattle.table.specs.Layout.{smallCount}
-use Rattle.soundness.specs.Sound.{sound}
+use Rattle.table.specs.Records.{placesSaid}
+use Rattle.place_counts.specs.Counts.{tableRight}
 use Rattle.changes.specs.Dates.{countedClock, began}
 use Rattle.frame.specs.Frame.{Framed, refused, asked, frameIn, framing}
 use Rattle.answer.specs.Respond.{Response, respond}
@@ -45,7 +45,7 @@ unfoldable pub earlyRefusal : List ℕ → List ℕ → List ℕ → ℕ → ℕ
 earlyRefusal request t strip room =
     ifb (ltb room roomLeast) 1
     (ifb (not (eqb (length strip) stripSize)) 2
-    (ifb (not (sound smallCount t)) 3
+    (ifb (not (tableRight t)) 3
     (ifb (eqb (length request) 0 || ltb requestMost (length request)) 4
     (ifb (not (isSome (message request))) 5
     0))))
@@ -54,15 +54,16 @@ earlyRefusal request t strip room =
 abbrev pub requested : List ℕ → Framed
 requested request = framing (message request >>= frameIn)
 
--- an accepted request: the clock that counts is stored, what is due by it is done, and then the items are carried out and answered
-abbrev pub accepted : ℕ → List ℕ → (List ℕ → Ran) → List ℕ → Effect
-accepted clock t items out = let counted = countedClock clock t in answered counted out (items (began smallCount counted t))
+-- an accepted request on a table of so many places: the clock that counts is stored, what is due by it is done, and then the items are carried out and answered
+abbrev pub accepted : ℕ → ℕ → List ℕ → (List ℕ → Ran) → List ℕ → Effect
+accepted places clock t items out = let counted = countedClock clock t in answered counted out (items (began places counted t))
 
--- the frame's refusal; refusal 10, "a clock given below 1 .. tested last"; or the batch
+-- the frame's refusal; refusal 10, "a clock given below 1 .. tested last"; or the batch, on as many places as the table's lead says
 unfoldable pub carryOut : ℕ → List ℕ → List ℕ → List ℕ → Framed → Effect
 carryOut clock t strip out (refused number) = turnedAway t out number
 carryOut clock t strip out (asked request) =
-    let taken = accepted clock t (λ start. running smallCount strip start request) out in
+    let places = placesSaid t in
+    let taken = accepted places clock t (λ start. running places strip start request) out in
     ifb (aboveZero clock) taken (turnedAway t out 10)
 
 -- the whole outcome; the clock comes as its 64 bits

@@ -52,7 +52,7 @@ fn early_refusal(request: &[u8], table: &[u8], fresh: &[u8], room: usize) -> u32
     if fresh.len() != STRIP_SIZE {
         return 2;
     }
-    if !soundness::is_sound(table, Layout::SMALL_COUNT) {
+    if !place_counts::table_right(table) {
         return 3;
     }
     if request.len() == 0 {
@@ -69,15 +69,22 @@ fn early_refusal(request: &[u8], table: &[u8], fresh: &[u8], room: usize) -> u32
 
 // One item: read, carried out on the table, and answered in the room that is lent. `run_items`
 // shows what it asks.
-fn one_item(body: &[u8], table: &mut [u8], fresh: &[u8], holder: u32, out: &mut [u8]) -> ItemDone
-    requires { ⌜ RunsOne (now body) (now table) (now out) ⌝ }
-    ensures { λ r. ⌜ ItemIs (askedIn (now (body .entry))) (now (table .entry)) (now (fresh .entry)) holder (now (out .entry)) r (now (table .exit)) (now (out .exit)) ⌝ }
+fn one_item(
+    body: &[u8],
+    table: &mut [u8],
+    n: usize,
+    fresh: &[u8],
+    holder: u32,
+    out: &mut [u8],
+) -> ItemDone
+    requires { ⌜ RunsOne n (now body) (now table) (now out) ⌝ }
+    ensures { λ r. ⌜ ItemIs n (askedIn (now (body .entry))) (now (table .entry)) (now (fresh .entry)) holder (now (out .entry)) r (now (table .exit)) (now (out .exit)) ⌝ }
 {
     let parts = batch_item::read_item(body);
     let start = parts.payload;
     let operation = parts.operation;
     let command = payload::read_command(operation, &body[start..]);
-    let performed = act::perform(table, Layout::SMALL_COUNT, holder, command, fresh);
+    let performed = act::perform(table, n, holder, command, fresh);
     let outcome = performed.outcome;
     let failed = plans::is_failed(outcome);
     let id = parts.id;
@@ -92,9 +99,16 @@ fn one_item(body: &[u8], table: &mut [u8], fresh: &[u8], holder: u32, out: &mut 
 // The batch: the items one after the other, each answered in the room that follows the one before
 // it; under Stop nothing after the first failed one. `answer_all` shows what it asks: the frame was
 // read, and the sizes are right.
-fn run_items(items: &[u8], table: &mut [u8], fresh: &[u8], option: u32, out: &mut [u8]) -> BatchDone
-    requires { ⌜ Runs (now items) (now table) (now fresh) (now out) ⌝ }
-    ensures { λ r. ⌜ RanIs (ranOver (now (items .entry)) (now (fresh .entry)) option (now (table .entry))) (now (out .entry)) r (now (table .exit)) (now (out .exit)) ⌝ }
+fn run_items(
+    items: &[u8],
+    table: &mut [u8],
+    n: usize,
+    fresh: &[u8],
+    option: u32,
+    out: &mut [u8],
+) -> BatchDone
+    requires { ⌜ Runs n (now items) (now table) (now fresh) (now out) ⌝ }
+    ensures { λ r. ⌜ RanIs (ranOver n (now (items .entry)) (now (fresh .entry)) option (now (table .entry))) (now (out .entry)) r (now (table .exit)) (now (out .exit)) ⌝ }
 {
     let mut left = items;
     let mut i: usize = 0;
@@ -102,16 +116,15 @@ fn run_items(items: &[u8], table: &mut [u8], fresh: &[u8], option: u32, out: &mu
     let mut at: usize = 0;
     loop {
         let BodyField::Body { next } = fields::body_field(left, tags::BATCH_ITEM) else {
-            return BatchDone {
-                count: i as u32,
-                used: at,
-            };
+            let count = i as u32;
+            return BatchDone { count, used: at };
         };
         let from = Layout::MATERIAL * i;
         let to = from + Layout::MATERIAL;
         let done = one_item(
             &left[8..next],
             table,
+            n,
             &fresh[from..to],
             holder,
             &mut out[at..],
@@ -119,10 +132,8 @@ fn run_items(items: &[u8], table: &mut [u8], fresh: &[u8], option: u32, out: &mu
         at += done.used;
         i += 1;
         if ends(option, done.failed) {
-            return BatchDone {
-                count: i as u32,
-                used: at,
-            };
+            let count = i as u32;
+            return BatchDone { count, used: at };
         }
         holder = done.holder;
         left = &left[next..];
@@ -141,20 +152,21 @@ fn ends(option: u32, failed: bool) -> bool
 
 // An accepted request: the clock that counts is stored and what is due by it is done, then the
 // items are carried out and answered, and the front is written. Answers the length of the response.
-// `serve` shows what it asks.
+// `serve` shows what it asks, with n the number of places that the table's lead says.
 fn answer_all(
     items: &[u8],
     table: &mut [u8],
+    n: usize,
     fresh: &[u8],
     option: u32,
     clock: u64,
     out: &mut [u8],
 ) -> usize
-    requires { ⌜ RunsWhole (now items) (now table) (now fresh) (now out) ⌝ }
-    ensures { λ r. ⌜ AcceptedIs (acceptedOver (now (items .entry)) (now (fresh .entry)) option clock (now (table .entry)) (now (out .entry))) r (now (table .exit)) (now (out .exit)) ⌝ }
+    requires { ⌜ RunsWhole n (now items) (now table) (now fresh) (now out) ⌝ }
+    ensures { λ r. ⌜ AcceptedIs (acceptedOver n (now (items .entry)) (now (fresh .entry)) option clock (now (table .entry)) (now (out .entry))) r (now (table .exit)) (now (out .exit)) ⌝ }
 {
-    let counted = dates::begin(table, Layout::SMALL_COUNT, clock);
-    let done = run_items(items, table, fresh, option, &mut out[FRAME_SIZE..]);
+    let counted = dates::begin(table, n, clock);
+    let done = run_items(items, table, n, fresh, option, &mut out[FRAME_SIZE..]);
     let used = done.used;
     front_write::write_front(out, counted, done.count, used);
     FRAME_SIZE + used
@@ -184,8 +196,9 @@ pub fn serve(request: &[u8], table: &mut [u8], fresh: &[u8], clock: i64, out: &m
             length: 0,
         };
     }
+    let n = table::places_said(table) as usize;
     let from = framing.items;
     let option = framing.option;
-    let length = answer_all(&request[from..], table, fresh, option, bits, out);
+    let length = answer_all(&request[from..], table, n, fresh, option, bits, out);
     Served { number: 0, length }
 }

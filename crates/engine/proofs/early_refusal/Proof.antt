@@ -11,8 +11,8 @@ returns c = search early-1
 returns-2 : tie.Need-returns-2
 returns-2 c = search early-2
 
-is-sound-requires : tie.Need-is-sound-requires
-is-sound-requires c κs = search needs
+table-right-requires : tie.Need-table-right-requires
+table-right-requires c κs = search needs
 
 returns-3 : tie.Need-returns-3
 returns-3 c = search (early-3, no-if)
@@ -38,7 +38,7 @@ early-refusal-spec =
     (tie.spec
     returns
     returns-2
-    is-sound-requires
+    table-right-requires
     returns-3
     returns-4
     returns-5

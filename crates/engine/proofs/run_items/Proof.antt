@@ -12,10 +12,10 @@ use Rattle.engine.proofs.run_items.Statement.{statement}
 use Rattle.engine.proofs.run_items.Tie as tie
 
 abbrev Inv-loop : tie.InvT-loop
-Inv-loop items table₀ fresh option out₀ left₀ i₀ holder₀ at₀ table out left i holder at = Mid (ranOver items fresh option table₀) fresh option out₀ table out left i holder at
+Inv-loop items table₀ n fresh option out₀ left₀ i₀ holder₀ at₀ table out left i holder at = Mid n (ranOver n items fresh option table₀) fresh option out₀ table out left i holder at
 
 abbrev μ-loop : tie.MeasureT-loop
-μ-loop items table₀ fresh option out₀ left₀ i₀ holder₀ at₀ table out left i holder at = length left
+μ-loop items table₀ n fresh option out₀ left₀ i₀ holder₀ at₀ table out left i holder at = length left
 
 loop-holds : tie.Need-loop-holds Inv-loop μ-loop
 loop-holds c = let at-start = c .before .before .before .before in begins (at-start .args .option) (at-start .pre)
@@ -34,8 +34,8 @@ enum-told c = search needs
 abbrev last : tie.After-enum-told Inv-loop μ-loop → tie.At-loop Inv-loop μ-loop
 last c = c .before .before .before
 
-cast-t15 : tie.Need-cast-t15 Inv-loop μ-loop
-cast-t15 c = omega (arith, last c .loop .inv .few)
+cast-count : tie.Need-cast-count Inv-loop μ-loop
+cast-count c = omega (arith, last c .loop .inv .few)
 
 same-length : tie.Need-same-length Inv-loop μ-loop
 same-length c = last c .loop .inv .table ∙ sym (last c .before .before .before .before .before .pre .table)
@@ -115,8 +115,8 @@ add-i c = omega (arith, index (asked (done c)))
 ends-requires : tie.Need-ends-requires Inv-loop μ-loop
 ends-requires c κs = search needs
 
-cast-t31 : tie.Need-cast-t31 Inv-loop μ-loop
-cast-t31 c = omega (arith, index (asked (done (c .before .before))))
+cast-count-2 : tie.Need-cast-count-2 Inv-loop μ-loop
+cast-count-2 c = omega (arith, index (asked (done (c .before .before))))
 
 same-length-3 : tie.Need-same-length-3 Inv-loop μ-loop
 same-length-3 c = search needs
@@ -152,7 +152,7 @@ loop-again c =
     let at-passed = passed (c .before) in
     let at-next = asked at-passed in
     let d = at-passed .one-item in
-    again (turn at-next .loop .inv) (item at-next) (d .ensures) (c .before .before .ends .ensures) (c .before .if1 .left) (d .kept .1 .0) (d .kept .1 .1 .1 .1 .0)
+    again (turn at-next .loop .inv) (item at-next) (d .ensures) (c .before .before .ends .ensures) (c .before .if1 .left) (d .kept .1 .0) (d .kept .1 .1 .1 .1 .1 .0)
 
 pub run-items-spec : {M : Type 1} → statement M
 run-items-spec =
@@ -164,7 +164,7 @@ run-items-spec =
     body-field-requires
     enum-known-next
     enum-told
-    cast-t15
+    cast-count
     same-length
     same-length-2
     returns
@@ -183,7 +183,7 @@ run-items-spec =
     add-at
     add-i
     ends-requires
-    cast-t31
+    cast-count-2
     same-length-3
     same-length-4
     returns-2

@@ -10,7 +10,7 @@ use mir.Facts.{toZ-ofZ}
 use borrow.Author.Tests.{not-true, not-false}
 use Rattle.values.specs.Values.{aboveZero}
 use Rattle.engine.proofs.Early.{Passed, passed}
-use Rattle.engine.proofs.Serves.{Asks, early-away, frame-away, frame-asks, from-within, runs-from, clock-away, clock-taken, served-is}
+use Rattle.engine.proofs.Serves.{Asks, early-away, frame-away, frame-asks, from-within, lead-there, runs-from, clock-away, taken-as, served-is}
 use borrow.Author.Needs.{needs}
 use Rattle.engine.proofs.serve.Statement.{statement}
 use Rattle.engine.proofs.serve.Tie as tie
@@ -95,27 +95,38 @@ tested c = c .above-zero .ensures ∙ ap aboveZero (bits-are c)
 returns-3 : tie.Need-returns-3
 returns-3 c = let at-clock = c .before in clock-away (asks (framed at-clock)) (sym (tested at-clock) ∙ not-true _ (c .if3 .taken))
 
--- ---- the call is answered: it is lent its items, the table, the strip and the room
+-- ---- the places that the table's lead says are read
 
 abbrev clocked : tie.Else3 → tie.Else2
 clocked c = framed (c .before)
 
+places-said-requires : tie.Need-places-said-requires
+places-said-requires c κs = lead-there (asks (clocked (c .before)))
+
+cast-n : tie.Need-cast-n
+cast-n c = search needs
+
+-- ---- the call is answered: it is lent its items, the table, the strip and the room
+
+abbrev counted : tie.After-places-said → tie.Else2
+counted c = clocked (c .before .before)
+
 sub-answer-all : tie.Need-sub-answer-all
-sub-answer-all c = from-within (asks (clocked c))
+sub-answer-all c = from-within (asks (counted c))
 
 part-answer-all-start : tie.Need-part-answer-all-start
-part-answer-all-start c = omega (arith, from-within (asks (clocked c)))
+part-answer-all-start c = omega (arith, from-within (asks (counted c)))
 
 part-answer-all-end : tie.Need-part-answer-all-end
 part-answer-all-end c = search needs
 
-abbrev answers : tie.After-answer-all-arg3 → tie.Else3
+abbrev answers : tie.After-answer-all-arg3 → tie.After-places-said
 answers c = c .before .before .before
 
 answer-all-requires : tie.Need-answer-all-requires
-answer-all-requires c κs = runs-from (asks (clocked (answers c)))
+answer-all-requires c κs = let at-read = answers c in runs-from (asks (counted at-read)) (at-read .places-said .ensures)
 
-abbrev answered : tie.After-answer-all → tie.Else3
+abbrev answered : tie.After-answer-all → tie.After-places-said
 answered c = answers (c .before)
 
 same-length-4 : tie.Need-same-length-4
@@ -127,9 +138,11 @@ same-length-5 c = search needs
 returns-4 : tie.Need-returns-4
 returns-4 c =
     let at-all = c .before .before .before .before in
-    let at-clock = answered at-all .before in
+    let at-read = answered at-all in
+    let at-pass = at-read .before .before in
+    let at-clock = at-pass .before in
     let at-asks = asks (framed at-clock) in
-    served-is at-asks (sym (tested at-clock) ∙ not-false _ (answered at-all .if3 .left)) (clock-taken at-asks (bits-are at-clock) (at-all .answer-all .ensures))
+    served-is at-asks (sym (tested at-clock) ∙ not-false _ (at-pass .if3 .left)) (taken-as at-asks (at-read .places-said .ensures) (bits-are at-clock) (at-all .answer-all .ensures))
 
 pub serve-spec : {M : Type 1} → statement M
 serve-spec =
@@ -145,6 +158,8 @@ serve-spec =
     above-zero-requires
     same-length-3
     returns-3
+    places-said-requires
+    cast-n
     sub-answer-all
     part-answer-all-start
     part-answer-all-end
