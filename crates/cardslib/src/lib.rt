@@ -2,7 +2,6 @@
 // refusal, and bytes of the table, as lines. Assumes nothing; every function is proved safe and
 // ends. What a line says is proved; what is printed is tested, and the call is the engine's.
 ghost use mathlib.Core.Path.{_≡_};
-ghost use lib.ListN.{length, replicate};
 ghost use Rattle.cardslib.specs.Usual.{usualSetting};
 use commands::Buffer;
 use commands::Done;
@@ -23,47 +22,37 @@ const OUTPUT_ROOM: usize = 8192;
 // What the output is full of at first.
 const UNTOUCHED: u8 = 255;
 
-// The setting that a blank table starts with: clock 1, and room, strip and table of their sizes.
-fn usual() -> Setting
-    ensures { λ r. ⌜ r ≡ usualSetting ⌝ }
+// The setting that a blank table of this size starts with: clock 1, and room and strip of theirs.
+fn usual(size: usize) -> Setting
+    ensures { λ r. ⌜ r ≡ usualSetting size ⌝ }
 {
     Setting {
         clock: 1,
         room: engine::ROOM_LEAST,
         strip: engine::STRIP_SIZE,
-        size: Layout::SMALL_SIZE,
+        size,
     }
 }
 
-// Every byte of s is b.
-fn fill(s: &mut [u8], b: u8)
-    ensures { λ _. ⌜ now (s .exit) ≡ replicate (length (now (s .entry))) b ⌝ }
-{
-    let mut i: usize = 0;
-    while i < s.len() {
-        s[i] = b;
-        i += 1;
-    }
-}
-
-// `blank`: the table, the output and the setting as they are at first.
+// `blank`, `blank COUNT`: the table, the output and the setting as they are at first.
 fn blank(rest: &[u8], table: &mut [u8], out: &mut [u8], setting: Setting) -> Done {
     let refused = Done {
         good: false,
         setting,
     };
-    if rest.len() != 0 {
+    let Number::Is(n) = commands::places_in(rest) else {
+        return refused;
+    };
+    let size = Layout { places: n }.size();
+    if table.len() < size {
         return refused;
     }
-    if table.len() < Layout::SMALL_SIZE {
-        return refused;
-    }
-    let fresh = benchlib::blank_table();
-    octets::put_all(table, 0, &fresh);
-    fill(out, UNTOUCHED);
+    lent::fill(table, 0);
+    lent::blank_over(&mut table[..size], n);
+    lent::fill(out, UNTOUCHED);
     Done {
         good: true,
-        setting: usual(),
+        setting: usual(size),
     }
 }
 
@@ -73,7 +62,7 @@ fn put(rest: &[u8], table: &mut [u8]) -> bool {
     let Number::Is(at) = script::number_in(&rest[..gap]) else {
         return false;
     };
-    let mut bytes = [0u8; Layout::SMALL_SIZE];
+    let mut bytes = [0u8; Layout::LARGE_SIZE];
     let Bytes::Count(n) = hex_text::bytes_in(&rest[gap..], &mut bytes) else {
         return false;
     };
@@ -202,7 +191,7 @@ fn one_line(line: &[u8], table: &mut [u8], strip: &[u8], out: &mut [u8], s: Sett
 
 // All lines of a text.
 fn script(text: &[u8], table: &mut [u8], strip: &[u8], out: &mut [u8]) {
-    let mut s = usual();
+    let mut s = usual(Layout::SMALL_SIZE);
     let mut left = text;
     while 0 < left.len() {
         let end = lines::find(left, b'\n');
@@ -220,9 +209,10 @@ pub fn run(fd: i32) {
         printlib::too_long();
         return;
     }
-    let mut table = benchlib::blank_table();
+    let mut table = [0u8; Layout::LARGE_SIZE];
+    lent::blank_over(&mut table[..Layout::SMALL_SIZE], Layout::SMALL_COUNT);
     let mut strip = [0u8; STRIP_ROOM];
-    benchlib::fill_strip(&mut strip);
+    lent::fill_strip(&mut strip);
     let mut out = [UNTOUCHED; OUTPUT_ROOM];
     script(&text[..n], &mut table, &strip, &mut out);
 }

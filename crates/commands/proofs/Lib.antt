@@ -1,3 +1,4 @@
--- That each answer is unique.
+-- Laws of the place count of a line, and that each answer is unique.
 -- Assumes nothing.
+pub mod Places
 pub mod Unique

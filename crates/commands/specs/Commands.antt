@@ -6,6 +6,8 @@ use mathlib.Core.List.{List, [], _∷_}
 use Rattle.octets.specs.If.{ifb}
 use Rattle.octets.specs.Octets.{same}
 use Rattle.hex.specs.Texts.{codes}
+use Rattle.table.specs.Layout.{smallCount, placesOk}
+use Rattle.script.specs.Numbers.{numberIn}
 use Rattle.script.specs.declared.Number.{Number}
 use Rattle.script.specs.declared.Number.the-variants.{Is, NoNumber}
 use Rattle.script.specs.declared.Clock.{Clock}
@@ -48,6 +50,16 @@ refused s = record { good = false; setting = s }
 
 abbrev pub taken : Setting → Done
 taken s = record { good = true; setting = s }
+
+-- a number that is the place count of tables that there are
+abbrev pub ifPlaces : Number → Number
+ifPlaces NoNumber = NoNumber
+ifPlaces (Is n) = ifb (placesOk n) (Is n) NoNumber
+
+-- how many places the table of a `blank` line has: as many as it says, and a small table's where it says nothing
+unfoldable pub placesIn : List ℕ → Number
+placesIn [] = Is smallCount
+placesIn (c ∷ s) = ifPlaces (numberIn (c ∷ s))
 
 -- another clock
 unfoldable pub withClock : Setting → Clock → Done

@@ -3,9 +3,10 @@
 ghost use mathlib.Core.Path.{_≡_};
 ghost use lib.ListN.{replicate};
 ghost use Rattle.script.specs.Numbers.{numberIn, clockIn};
-ghost use Rattle.commands.specs.Commands.{verbOf, withClock, lending};
+ghost use Rattle.commands.specs.Commands.{verbOf, withClock, lending, placesIn};
 use script::Clock;
 use script::Number;
+use table::Layout;
 
 // The bytes of room for a script: one more than the longest.
 pub const SCRIPT_ROOM: usize = 524288;
@@ -84,6 +85,23 @@ pub fn verb_of(word: &[u8]) -> Verb
         return Verb::Output;
     }
     Verb::Unknown
+}
+
+// `blank`, `blank COUNT`: the place count, which is that of a small table where the line says none.
+pub fn places_in(rest: &[u8]) -> Number
+    ensures { λ r. ⌜ r ≡ placesIn (now (rest .entry)) ⌝ }
+{
+    if rest.len() == 0 {
+        return Number::Is(Layout::SMALL_COUNT);
+    }
+    let Number::Is(n) = script::number_in(rest) else {
+        return Number::NoNumber;
+    };
+    if (n == Layout::SMALL_COUNT) | (n == Layout::LARGE_COUNT) {
+        Number::Is(n)
+    } else {
+        Number::NoNumber
+    }
 }
 
 // `clock NUMBER`: the clock from here on.

@@ -11,7 +11,7 @@ use Rattle.cardslib.proofs.put.Statement.{statement}
 use Rattle.cardslib.proofs.put.Tie as tie
 
 -- where the bytes were read, and that they fit
-within : (c : tie.After-n) → c .n .given .0 .0 ≤ 8208
+within : (c : tie.After-n) → c .n .given .0 .0 ≤ 32784
 within c =
     let w = count-within (c .before .before .before .bytes-in .ensures) (c .n .given .1) in
     omega arith
