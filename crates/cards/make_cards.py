@@ -320,15 +320,16 @@ def shown(name, state, bits=128, mask=4, limit=None, replaced=None, replacement=
     return done(GET_ATTRIBUTES, identifier(name), structure(ATTRIBUTES, *fields), id=id)
 
 
-# ---- the stored table: a lead of 16 bytes, 64 lines of 16, 64 bodies of 112
+# ---- the stored table: a lead of 16 bytes, and for each of 64 or 256 places a line of 16 and a body of 112
 
-PLACES = 64
-TABLE_SIZE = 8208
+SMALL = 64
+LARGE = 256
 BODY_SIZE = 112
 MATERIAL_IN = 24
 ACTIVATION_IN = 56
 DEACTIVATION_IN = 64
 NAME_IN = 72
+PLACE_COUNT = 4
 LATEST_CLOCK = 8
 
 
@@ -336,13 +337,17 @@ def line_at(place):
     return 16 + 16 * place
 
 
-def body_at(place):
-    return 16 + 16 * PLACES + BODY_SIZE * place
+def body_at(place, places=SMALL):
+    return 16 + 16 * places + BODY_SIZE * place
 
 
-def lead(last, latest=1):
+def size_of(places):
+    return body_at(places, places)
+
+
+def lead(last, latest=1, places=SMALL):
     """The latest clock is 1 after a first request that was accepted, and 0 before."""
-    return last.to_bytes(4, "big") + PLACES.to_bytes(4, "big") + latest.to_bytes(8, "big")
+    return last.to_bytes(4, "big") + places.to_bytes(4, "big") + latest.to_bytes(8, "big")
 
 
 def line(serial, state, unit=0, bits=128, replaced=0, replacement=0):
@@ -438,14 +443,15 @@ def check_builders():
     assert len(request(*[everything] * 15, option=CONTINUE)) == 88 + 15 * 264 == 4048 and len(request(*[everything] * 16, option=CONTINUE)) == 4312
     assert handed("00000001", bytes(range(16)))[-len(PRINTED_KEY) :] == PRINTED_KEY
     assert [len(handed("00000001", bytes(size), id=id)) for size in (16, 24, 32)] == [200, 208, 216]
-    assert line_at(1) - line_at(0) == 16 and body_at(0) == 1040 and body_at(PLACES) == TABLE_SIZE
+    assert line_at(1) - line_at(0) == 16 and body_at(0) == 1040 and body_at(0, LARGE) == 4112
+    assert size_of(SMALL) == 8208 and size_of(LARGE) == 32784
     assert len(lead(0)) == len(line(1, 1)) == 16 and len(body()) == BODY_SIZE
 
 
 # ---- the script and what comes of it
 
 
-SCRIPT_ROOM = 524288  # a script has to stay below
+SCRIPT_ROOM = 1048576  # a script has to stay below
 
 
 def grouped(octets):
@@ -460,6 +466,7 @@ class Script:
         self.lines = []
         self.expected = []
         self.names = set()
+        self.places = SMALL
 
     def say(self, line):
         self.lines.append(line)
@@ -469,11 +476,16 @@ class Script:
         for line in words:
             self.say("# " + line)
 
-    def blank(self):
-        self.say("blank")
+    def blank(self, places=SMALL):
+        self.places = places
+        self.say("blank" if places == SMALL else f"blank {places}")
+
+    def body_at(self, place):
+        """Where the body of a place of the table at hand stands."""
+        return body_at(place, self.places)
 
     def put(self, at, octets):
-        assert at + len(octets) <= TABLE_SIZE
+        assert at + len(octets) <= size_of(self.places)
         self.say(f"put {at} {grouped(octets)}")
 
     def name(self, name):
@@ -517,7 +529,7 @@ class Script:
 
     def key(self, place, line, body):
         self.put(line_at(place), line)
-        self.put(body_at(place), body)
+        self.put(self.body_at(place), body)
 
     def bad(self, line):
         """A line that is none of a script."""
@@ -2372,6 +2384,128 @@ def cards_of_names_and_places(s):
     s.table("L6 name field of place 0, moved", body_at(0) + NAME_IN, bytes(40))
 
 
+# ---- L7: 64 or 256 places
+
+OTHER_COUNTS = (0, 63, 65, 128, 255, 257, 2**32 - 1)
+
+
+def cards_of_place_counts(s):
+    s.about(
+        "L7: the lead's place count may be 64 or 256, and the table's size follows from it; any other count is refusal 3, in a table of either size and in one",
+        "of its own. The table is blank but for its count.",
+    )
+    asked = request(attributes())
+    s.blank(LARGE)
+    for count in OTHER_COUNTS:
+        s.put(PLACE_COUNT, count.to_bytes(4, "big"))
+        own = [size_of(count)] if size_of(count) < size_of(LARGE) else []
+        for size in [*own, size_of(SMALL), size_of(LARGE)]:
+            s.say(f"size {size}")
+            s.refused(f"L7 refusal 3, {count} places in {size} bytes", asked, 3)
+    s.about("L7: the size of the other count, and one byte less than its own; then both counts in their sizes, over the same bytes.")
+    for count, sizes in [(LARGE, (8208, 32783)), (SMALL, (32784, 8336))]:
+        s.put(PLACE_COUNT, count.to_bytes(4, "big"))
+        for size in sizes:
+            s.say(f"size {size}")
+            s.refused(f"L7 refusal 3, {count} places in {size} bytes", asked, 3)
+        s.table(f"L7 lead of {count} places after refusals", 0, lead(0, latest=0, places=count))
+    nothing = (attributes(), failed(GET_ATTRIBUTES, OBJECT_NOT_FOUND))
+    for count in (SMALL, LARGE):
+        s.put(PLACE_COUNT, count.to_bytes(4, "big"))
+        s.say(f"size {size_of(count)}")
+        s.card(f"L7 {count} places in {size_of(count)} bytes", nothing)
+
+
+def cards_of_a_large_table(s):
+    s.about("L7: a blank table of 256 places: its bodies begin where 256 lines end, and where those of 64 places began stands the line of place 64.")
+    s.blank(LARGE)
+    s.table("L7 lead of a blank table of 256 places", 0, lead(0, latest=0, places=LARGE))
+    s.card("L7 Create, the first of 256", (create(called("pump")), created(ONE)))
+    s.table("L7 lead and lines after the first of 256", 0, lead(1, places=LARGE) + line(1, 1) + bytes(16))
+    s.table("L7 line of place 64, free", body_at(0), bytes(16))
+    s.table("L7 bodies after the first of 256", s.body_at(0), body(0, 0, 4, fresh(0, 16), letters="pump") + bytes(BODY_SIZE))
+    s.about("L7: what is sound at places above 63. The first is sound: keys 2 and 3 at places 64 and 255. Each fault is laid over it and taken back.")
+    s.put(0, lead(3, places=LARGE)[:4])
+    s.key(64, line(2, 2, 1), body(100, 40, 4, material(2)))
+    s.key(255, line(3, 5), body(letters="tap"))
+    asked, answer = attributes(TWO), shown(TWO, 2, limit=(100, 40, 1))
+    s.card("L7 sound table of 256 places", (asked, answer))
+    for name, at, fault, right in [
+        ("a free line with a state, place 254", line_at(254) + 4, b"\1", b"\0"),
+        ("a free body with a byte, place 254", s.body_at(255) - 1, b"\1", b"\0"),
+        ("a serial at places 64 and 255", line_at(255), unhex("00000002"), unhex("00000003")),
+        ("state 7 at place 255", line_at(255) + 4, b"\7", b"\5"),
+        ("count above total at place 64", s.body_at(64) + 8, numbers(101), numbers(40)),
+        ("a key byte in state 5 at place 255", s.body_at(255) + MATERIAL_IN + 31, b"\1", b"\0"),
+        ("a link to place 0 that does not name back", line_at(255) + 8, unhex("00000001"), bytes(4)),
+        ("a name at places 0 and 255", s.body_at(255) + NAME_IN, name_field("pump"), name_field("tap")),
+        ("the last byte of the table", size_of(LARGE) - 1, b"\1", b"\0"),
+    ]:
+        s.put(at, fault)
+        s.refused(f"L7 unsound, {name}", request(asked), 3)
+        s.put(at, right)
+    s.card("L7 sound table of 256 places again", (asked, answer))
+
+
+def cards_of_256_keys(s):
+    s.about("L7: where a new key goes. 255 live keys, Active and without limit, serials 1 to 255 in order: the 256th takes place 255, and the 257th fails.")
+    s.blank(LARGE)
+    s.put(0, lead(255, places=LARGE)[:4])
+    s.put(line_at(0), b"".join(line(serial, 2) for serial in range(1, 256)))
+    last = name_of(256)
+    s.card("L7 the 256th Create", (create(limit(100, 2), called("last")), created(last)))
+    s.table("L7 lines of places 254 and 255", line_at(254), line(255, 2) + line(256, 1, 2))
+    s.table("L7 body of place 255", s.body_at(255), body(100, 100, 4, fresh(0, 16), letters="last"))
+    s.fails("L7 256 live keys, Create", create(), CREATE, SERVER_LIMIT_EXCEEDED)
+    s.fails("L7 256 live keys, Re-key", rekey(ONE), REKEY, SERVER_LIMIT_EXCEEDED)
+    s.fails("L7 256 live keys, Create with the name of place 255", create(called("last")), CREATE, NON_UNIQUE_NAME)
+    s.table("L7 lead of 256 live keys", 0, lead(256, places=LARGE))
+    s.about("L7: the key at place 255 by its name and by its identifier.")
+    s.card(
+        "L7 Locate and what follows at place 255",
+        (locate("last"), found(last)),
+        (activate(), named(ACTIVATE, last)),
+        (allocate(None, 60), named(ALLOCATE, last)),
+        (get(last), handed(last, fresh(0, 16))),
+        (attributes(last), shown(last, 2, limit=(100, 40, 2), activation=1, letters="last")),
+        (allocate(last, 41), failed(ALLOCATE, USAGE_LIMIT_EXCEEDED)),
+    )
+    s.table("L7 body of place 255 after a grant", s.body_at(255), body(100, 40, 4, fresh(0, 16), 1, letters="last"))
+    s.about("L7: place 200 destroyed: the new key sits there and the old identifier is not found.")
+    old, new = name_of(201), name_of(257)
+    s.card("L7 place 200, destroyed", (revoke(old, 1), named(REVOKE, old)), (destroy(old), named(DESTROY, old)))
+    s.card("L7 place 200, Create", (create(bits=256, mask=12), created(new)), (attributes(old), failed(GET_ATTRIBUTES, OBJECT_NOT_FOUND)))
+    s.table("L7 lines of places 199 to 201", line_at(199), line(200, 2) + line(257, 1, bits=256) + line(202, 2))
+    s.table("L7 body of place 200", s.body_at(200), body(0, 0, 12, fresh(0, 32)))
+    s.about("L7: Re-key of the key at place 255 into the free place 100, past the destroyed place 64, which a Create takes then.")
+    s.put(line_at(64), line(65, 6))
+    s.put(line_at(100), bytes(16))
+    heir = name_of(258)
+    s.card("L7 Re-key into place 100, Create in place 64", (rekey(last), named(REKEY, heir)), (locate("last"), found(heir)), (create(), created(name_of(259))))
+    s.table("L7 line of place 100, linked", line_at(100), line(258, 2, 2, replaced=256))
+    s.table("L7 line of place 255, linked", line_at(255), line(256, 2, 2, replacement=258))
+    s.table("L7 body of place 100", s.body_at(100), body(100, 100, 4, fresh(0, 16), 1, letters="last"))
+    s.table("L7 name field of place 255, moved", s.body_at(255) + NAME_IN, bytes(40))
+    s.table("L7 lines of places 63 to 65", line_at(63), line(64, 2) + line(259, 1) + line(66, 2))
+
+
+def cards_of_due_changes_in_a_large_table(s):
+    s.about("L7: due changes at places 63 and 64 and at the last, and the key at place 255 as the items of the same request find it.")
+    s.blank(LARGE)
+    s.put(0, lead(4, places=LARGE)[:4])
+    for serial, (place, *key) in enumerate([(63, 1, 7), (64, 1, 7), (128, 1, 8), (255, 2, 0, 7)], 1):
+        s.key(place, line(serial, key[0], 2), dated(*key))
+    s.say("clock 6")
+    s.fails("L7 clock 6, one before the dates", destroy(FOUR), DESTROY, WRONG, clock=6)
+    s.say("clock 7")
+    s.card("L7 clock 7, the dates have come", (allocate(TWO, 50), named(ALLOCATE, TWO)), (destroy(FOUR), named(DESTROY, FOUR)), clock=7)
+    s.table("L7 lead after the due changes", 0, lead(4, latest=7, places=LARGE))
+    s.table("L7 lines of places 63 and 64 after the due changes", line_at(63), line(1, 2, 2) + line(2, 2, 2))
+    s.table("L7 line of place 128 after the due changes", line_at(128), line(3, 1, 2))
+    s.table("L7 line of place 255 after the due changes", line_at(255), line(4, 5, 2))
+    s.table("L7 body of place 64 after the due changes", s.body_at(64), body(100, 0, 4, material(1), 7))
+
+
 # ---- refusals
 
 
@@ -2399,7 +2533,7 @@ def cards_of_refusals_1_to_4(s):
     s.table("line after refusal 2", line_at(0), line(1, 1))
     s.say("strip 512")
     s.about("Refusal 3: the table's size. That of 01, 4,624 bytes, and that of L3, 5,648, are none any more.")
-    for length in (0, 15, 4624, 5648, 8192, 8207):
+    for length in (0, 15, 4624, 5648, 8192, 8207, 8209):
         s.say(f"size {length}")
         s.refused(f"refusal 3, table of {length} bytes", good, 3)
     s.say("size 8208")
@@ -2412,7 +2546,7 @@ def cards_of_refusals_1_to_4(s):
     s.refused("refusal 4, request of 4097 bytes", request(long) + b"\0", 4)
     s.table("line after refusal 4", line_at(0), line(1, 1))
     s.about("The whole table after these refusals; then the room may be larger than it must.")
-    whole = lead(1) + line(1, 1).ljust(16 * PLACES, b"\0") + body(0, 0, 4, fresh(0, 16)).ljust(BODY_SIZE * PLACES, b"\0")
+    whole = lead(1) + line(1, 1).ljust(16 * SMALL, b"\0") + body(0, 0, 4, fresh(0, 16)).ljust(BODY_SIZE * SMALL, b"\0")
     s.table("whole table after refusals 1 to 4", 0, whole)
     s.say("room 8192")
     s.card("room 8192", (activate(ONE), named(ACTIVATE, ONE)))
@@ -2475,7 +2609,7 @@ def cards_of_unsound_tables(s):
         (line(3, 5), body()),
         (line(4, 2, 0, 192), body(0, 0, 4, bytes([4] * 24))),
     ]
-    sound = lead(6) + b"".join(line for line, _ in keys).ljust(16 * PLACES, b"\0") + b"".join(body for _, body in keys).ljust(BODY_SIZE * PLACES, b"\0")
+    sound = lead(6) + b"".join(line for line, _ in keys).ljust(16 * SMALL, b"\0") + b"".join(body for _, body in keys).ljust(BODY_SIZE * SMALL, b"\0")
     s.blank()
     s.put(0, sound[: line_at(4)])
     s.put(body_at(0), sound[body_at(0) : body_at(4)])
@@ -2686,15 +2820,26 @@ def cards_of_bad_lines(s):
     for line in [
         "bogus",
         "Blank",
-        "blank 1",
+        "blank 0",
+        "blank 63",
+        "blank 65",
+        "blank 128",
+        "blank 255",
+        "blank 257",
+        "blank 4294967360",
+        "blank 18446744073709551616",
+        "blank -64",
+        "blank 256 ",
+        "blank 64 256",
+        "blank large",
         "put",
         "put 4",
         "put x 00",
         "put 4 0",
         "put 4 0G",
         "put 4 ff",
-        "put 8208 00",
-        "put 8207 0000",
+        "put 32784 00",
+        "put 32783 0000",
         "put 18446744073709551616 00",
         "clock",
         "clock x",
@@ -2715,14 +2860,14 @@ def cards_of_bad_lines(s):
         "table no numbers: ",
         "table one number: 4",
         "table three numbers: 4 4 4",
-        "table beyond: 8204 5",
+        "table beyond: 32780 5",
         "table far beyond: 18446744073709551609 18446744073709551609",
         "output beyond: 8192 1",
     ]:
         s.bad(line)
     s.table("table after bad lines", 0, lead(0, latest=0))
     s.about("More lent than there is.")
-    for verb, most in [("room", 8192), ("strip", 1024), ("size", 8208)]:
+    for verb, most in [("room", 8192), ("strip", 1024), ("size", 32784)]:
         s.blank()
         s.say(f"{verb} {most + 1}")
         s.name(f"{verb} {most + 1}")
@@ -2735,12 +2880,13 @@ def all_cards():
     s.say("# The bench cards of document 01, and one success and each failure of each operation, each refusal, and what the table holds after some of them.")
     s.say("# Written by make_cards.py, together with what is expected of it. The commands, one a line; numbers are decimal, and blanks between bytes are skipped:")
     for command in [
-        "blank                       a blank table, an output full of FF, clock 1, room 6360, strip 512 (the bytes 0 to 255 twice), size 8208",
+        "blank                       a blank table of 64 places, an output full of FF, clock 1, room 6360, strip 512 (the bytes 0 to 255 twice), size 8208",
+        "blank COUNT                 the same with a table of 64 or 256 places, and its size: 8208 or 32784",
         "put OFFSET HEX              lays bytes over the table",
         "clock NUMBER                the clock from here on, from -2^63 to 2^63 - 1",
         "room NUMBER                 how many bytes of output are lent from here on, at most 8192",
         "strip NUMBER                how many bytes of the strip, at most 1024",
-        "size NUMBER                 how many bytes of the table, at most 8208",
+        "size NUMBER                 how many bytes of the table, at most 32784",
         "request NAME: HEX           serves a request of at most 8192 bytes, and prints NAME and the response, or the refusal",
         "table NAME: OFFSET LENGTH   prints NAME and bytes of the table",
         "output NAME: OFFSET LENGTH  prints NAME and bytes of the output",
@@ -2801,6 +2947,10 @@ def all_cards():
         cards_of_locate,
         cards_of_moved_names,
         cards_of_names_and_places,
+        cards_of_place_counts,
+        cards_of_a_large_table,
+        cards_of_256_keys,
+        cards_of_due_changes_in_a_large_table,
         cards_of_refusals_1_to_4,
         cards_of_unsound_tables,
         cards_of_sound_dates,

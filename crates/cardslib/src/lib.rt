@@ -189,9 +189,9 @@ fn one_line(line: &[u8], table: &mut [u8], strip: &[u8], out: &mut [u8], s: Sett
     done.setting
 }
 
-// All lines of a text.
-fn script(text: &[u8], table: &mut [u8], strip: &[u8], out: &mut [u8]) {
-    let mut s = usual(Layout::SMALL_SIZE);
+// All lines of a text, from this setting on.
+fn script(text: &[u8], table: &mut [u8], strip: &[u8], out: &mut [u8], first: Setting) {
+    let mut s = first;
     let mut left = text;
     while 0 < left.len() {
         let end = lines::find(left, b'\n');
@@ -201,7 +201,8 @@ fn script(text: &[u8], table: &mut [u8], strip: &[u8], out: &mut [u8]) {
     }
 }
 
-// Runs the script that is read from a file descriptor; of one that is too long only that is said.
+// Runs the script that is read from a file descriptor, as if a `blank` stood in front of it; of one
+// that is too long only that is said.
 pub fn run(fd: i32) {
     let mut text = commands::script_room();
     let n = io::read_full(fd, &mut text);
@@ -210,9 +211,10 @@ pub fn run(fd: i32) {
         return;
     }
     let mut table = [0u8; Layout::LARGE_SIZE];
-    lent::blank_over(&mut table[..Layout::SMALL_SIZE], Layout::SMALL_COUNT);
     let mut strip = [0u8; STRIP_ROOM];
     lent::fill_strip(&mut strip);
-    let mut out = [UNTOUCHED; OUTPUT_ROOM];
-    script(&text[..n], &mut table, &strip, &mut out);
+    let mut out = [0u8; OUTPUT_ROOM];
+    let first = blank(b"", &mut table, &mut out, usual(Layout::SMALL_SIZE));
+    let s = first.setting;
+    script(&text[..n], &mut table, &strip, &mut out, s);
 }

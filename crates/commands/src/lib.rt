@@ -9,7 +9,7 @@ use script::Number;
 use table::Layout;
 
 // The bytes of room for a script: one more than the longest.
-pub const SCRIPT_ROOM: usize = 524288;
+pub const SCRIPT_ROOM: usize = 1048576;
 
 // What is lent to a call besides the request.
 pub enum Buffer {
@@ -48,7 +48,7 @@ pub struct Done {
 
 // Room for a script, all zero.
 pub fn script_room() -> [u8; SCRIPT_ROOM]
-    ensures { λ r. ⌜ r ≡ replicate 524288 0 ⌝ }
+    ensures { λ r. ⌜ r ≡ replicate 1048576 0 ⌝ }
 {
     [0u8; SCRIPT_ROOM]
 }

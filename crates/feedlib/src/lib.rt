@@ -10,11 +10,14 @@ ghost use Rattle.feedlib.specs.Head.{headOf};
 // The bytes of a head.
 const HEAD: usize = 24;
 
-// The most that the buffers of request, table and output hold.
-const MOST: usize = 9216;
+// The most that each buffer holds: more than a call takes, so that wrong sizes can be sent.
+const REQUEST_MOST: usize = 9216;
 
-// The most that the buffer of the strip holds.
+const TABLE_MOST: usize = 33792;
+
 const STRIP_MOST: usize = 1024;
+
+const OUTPUT_MOST: usize = 9216;
 
 // What stands in front of a call: the lengths of its buffers, and the clock.
 struct Head {
@@ -52,7 +55,7 @@ fn read_head(s: &[u8]) -> Head
 fn too_large() -> bool {
     io::write_all(
         2,
-        b"feed: a length is above what is held: 9216 for request, table and output, 1024 for the strip\n",
+        b"feed: a length is above what is held: 9216 for request and output, 33792 for the table, 1024 for the strip\n",
     );
     false
 }
@@ -111,22 +114,22 @@ fn headed(from: i32, to: i32, head: Head) -> bool {
     let t = head.table;
     let s = head.strip;
     let o = head.room;
-    if MOST < r {
+    if REQUEST_MOST < r {
         return too_large();
     }
-    if MOST < t {
+    if TABLE_MOST < t {
         return too_large();
     }
     if STRIP_MOST < s {
         return too_large();
     }
-    if MOST < o {
+    if OUTPUT_MOST < o {
         return too_large();
     }
-    let mut request = [0u8; MOST];
-    let mut table = [0u8; MOST];
+    let mut request = [0u8; REQUEST_MOST];
+    let mut table = [0u8; TABLE_MOST];
     let mut strip = [0u8; STRIP_MOST];
-    let mut out = [0u8; MOST];
+    let mut out = [0u8; OUTPUT_MOST];
     call(
         from,
         to,

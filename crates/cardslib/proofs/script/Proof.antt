@@ -9,13 +9,10 @@ use Rattle.cardslib.proofs.script.Statement.{statement}
 use Rattle.cardslib.proofs.script.Tie as tie
 
 abbrev Inv-loop : tie.InvT-loop
-Inv-loop text table₀ strip out₀ s₀ left₀ table out s left = (length table ≡ length table₀) × (length out ≡ length out₀)
+Inv-loop text table₀ strip out₀ first left₀ table out s left = (length table ≡ length table₀) × (length out ≡ length out₀)
 
 abbrev μ-loop : tie.MeasureT-loop
-μ-loop text table₀ strip out₀ s₀ left₀ table out s left = length left
-
-usual-requires : tie.Need-usual-requires Inv-loop μ-loop
-usual-requires c κs = search needs
+μ-loop text table₀ strip out₀ first left₀ table out s left = length left
 
 loop-holds : tie.Need-loop-holds Inv-loop μ-loop
 loop-holds c = search needs
@@ -62,7 +59,6 @@ script-spec =
     (tie.spec
     Inv-loop
     μ-loop
-    usual-requires
     loop-holds
     find-requires
     slice-aggregate-one-line
