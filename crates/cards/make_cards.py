@@ -2402,7 +2402,7 @@ def cards_of_place_counts(s):
         for size in [*own, size_of(SMALL), size_of(LARGE)]:
             s.say(f"size {size}")
             s.refused(f"L7 refusal 3, {count} places in {size} bytes", asked, 3)
-    s.about("L7: the size of the other count, and one byte less than its own; then both counts in their sizes, over the same bytes.")
+    s.about("L7: the size of the other count; one byte too few for 256 places, one place too many for 64. Then both counts in their sizes, over the same bytes.")
     for count, sizes in [(LARGE, (8208, 32783)), (SMALL, (32784, 8336))]:
         s.put(PLACE_COUNT, count.to_bytes(4, "big"))
         for size in sizes:
@@ -2436,7 +2436,7 @@ def cards_of_a_large_table(s):
         ("a serial at places 64 and 255", line_at(255), unhex("00000002"), unhex("00000003")),
         ("state 7 at place 255", line_at(255) + 4, b"\7", b"\5"),
         ("count above total at place 64", s.body_at(64) + 8, numbers(101), numbers(40)),
-        ("a key byte in state 5 at place 255", s.body_at(255) + MATERIAL_IN + 31, b"\1", b"\0"),
+        ("a key byte in state 5 at place 255", s.body_at(255) + MATERIAL_IN + 15, b"\1", b"\0"),
         ("a link to place 0 that does not name back", line_at(255) + 8, unhex("00000001"), bytes(4)),
         ("a name at places 0 and 255", s.body_at(255) + NAME_IN, name_field("pump"), name_field("tap")),
         ("the last byte of the table", size_of(LARGE) - 1, b"\1", b"\0"),
@@ -2504,6 +2504,10 @@ def cards_of_due_changes_in_a_large_table(s):
     s.table("L7 line of place 128 after the due changes", line_at(128), line(3, 1, 2))
     s.table("L7 line of place 255 after the due changes", line_at(255), line(4, 5, 2))
     s.table("L7 body of place 64 after the due changes", s.body_at(64), body(100, 0, 4, material(1), 7))
+    s.about("L7: a blank table of 64 places in the place of that one: nothing of it is left, behind the smaller table neither.")
+    s.say("blank 64")
+    s.table("L7 lead of a blank table of 64 places", 0, lead(0, latest=0))
+    s.table("L7 bytes behind it, where the body of place 64 was", s.body_at(64), bytes(BODY_SIZE))
 
 
 # ---- refusals
