@@ -76,8 +76,8 @@ issue-grants x (Get target) o h = refl
 issue-grants x (Locate name) o h = refl
 
 -- whoever stood at a place that is taken is gone
-module _ (log : List Event) (t u : List ℕ) (ev : Event) (tame : Tame ev t u) (before : InOrder log t) (after : InOrder (ev ∷ log) u)
-    (x i : ℕ) (z : x ≡ 0 → ⊥) (s : Stands x t i) (taken : takes ev t i ≡ true) where
+module _ (log : List Event) (t u : List ℕ) (ev : Event) (tame : Tame smallCount ev t u) (before : InOrder smallCount log t) (after : InOrder smallCount (ev ∷ log) u)
+    (x i : ℕ) (z : x ≡ 0 → ⊥) (s : Stands smallCount x t i) (taken : takes smallCount ev t i ≡ true) where
   abbrev new : ℕ
   new = issuedBy (commandOf ev) (ev .answer .outcome)
 
@@ -91,22 +91,22 @@ module _ (log : List Event) (t u : List ℕ) (ev : Event) (tame : Tame ev t u) (
   not-anew e = omega (arith, issued-now x ev log e, after .once x z, once)
 
   -- the place that is taken is the only one that had its serial
-  elsewhere : (j : ℕ) → Stands x u j → (b : Bool) → takes ev t j ≡ b → ⊥
+  elsewhere : (j : ℕ) → Stands smallCount x u j → (b : Bool) → takes smallCount ev t j ≡ b → ⊥
   elsewhere j r true e = not-anew (sym (tame .taken j (r .below) e .serial) ∙ r .serial)
   elsewhere j r false e =
       let same : serialAt t j ≡ x = sym (tame .kept j (r .below) e) ∙ r .serial in
       let q : j ≡ i = sound-is smallCount t (before .stays-sound) .distinct j i (r .below) (s .below) (λ k. z (sym same ∙ k)) (same ∙ sym (s .serial)) in
-      true≢false (sym taken ∙ ap (takes ev t) (sym q) ∙ e)
+      true≢false (sym taken ∙ ap (takes smallCount ev t) (sym q) ∙ e)
 
-  taken-gone : Gone x (granted x log) (ev ∷ log) u
+  taken-gone : Gone smallCount x (granted x log) (ev ∷ log) u
   taken-gone = record {
     once = omega (arith, issued-before x ev log not-anew, once);
-    away = λ j r. elsewhere j r (takes ev t j) refl;
+    away = λ j r. elsewhere j r (takes smallCount ev t j) refl;
     same = omega (arith, granted-more x ev log, issue-grants x (commandOf ev) (ev .answer .outcome) issues);
   }
 
 -- so it has the same units behind the whole call
-path-taken : (log events : List Event) (t v : List ℕ) (ev : Event) (x i : ℕ) → InOrder log t → Path log t (ev ∷ events) v → (x ≡ 0 → ⊥) → Stands x t i → takes ev t i ≡ true
+path-taken : (log events : List Event) (t v : List ℕ) (ev : Event) (x i : ℕ) → InOrder smallCount log t → Path smallCount log t (ev ∷ events) v → (x ≡ 0 → ⊥) → Stands smallCount x t i → takes smallCount ev t i ≡ true
     → granted x (onto (ev ∷ events) log) ≡ granted x log
 unfolding onto
 path-taken log events t v ev x i before (went _ u tame after rest) z s taken = path-gone x (granted x log) z rest (taken-gone log t u ev tame before after x i z s taken) .same
@@ -116,13 +116,13 @@ pub grants-taken : (B : Box) → GrantsTaken B → Demand3 B → ⊥
 unfolding logged
 grants-taken B g d = g .more (ap (λ (events : List Event). granted (g .x) (onto events (g .log))) (g .events-are) ∙ ap (granted (g .x)) (onto-append (g .before) (g .taker ∷ g .later) (g .log)) ∙ same-units)
   where
-    going : Goes (g .log) (g .c) (g .e)
+    going : Goes smallCount (g .log) (g .c) (g .e)
     going = d .goes (g .log) (g .t) (g .run) (g .c) (g .e) (g .same) (g .lent) (g .left)
 
-    path : Path (g .log) (going .start) (g .before ++ (g .taker ∷ g .later)) (g .e .table)
-    path = subst (λ (events : List Event). Path (g .log) (going .start) events (g .e .table)) (g .events-are) (going .path)
+    path : Path smallCount (g .log) (going .start) (g .before ++ (g .taker ∷ g .later)) (g .e .table)
+    path = subst (λ (events : List Event). Path smallCount (g .log) (going .start) events (g .e .table)) (g .events-are) (going .path)
 
-    between : Between (g .log) (going .start) (g .before) (g .taker ∷ g .later) (g .e .table)
+    between : Between smallCount (g .log) (going .start) (g .before) (g .taker ∷ g .later) (g .e .table)
     between = path-between (g .before) (g .taker ∷ g .later) path
 
     from : TakesFrom (g .x) (g .taker) (between .table)

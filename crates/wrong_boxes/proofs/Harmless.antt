@@ -53,19 +53,19 @@ module _ (B : Box) (still : (c : Call) (e : Effect) → B c e → (k : ℕ) × (
   same-table c e b = ap (λ (x : Effect). x .table) (still c e b .1)
 
   -- so nothing ever happens
-  still-run : {log : List Event} {t : List ℕ} → Run B log t → (log ≡ []) × (t ≡ blank smallCount)
+  still-run : {log : List Event} {t : List ℕ} → Run smallCount B log t → (log ≡ []) × (t ≡ blank smallCount)
   unfolding logged onto
   still-run begins = (refl, refl)
   still-run (calls {log} c e r same lent b) =
       let before = still-run r in
       (ap (λ (events : List Event). onto events log) (no-events c e b) ∙ before .0, same-table c e b ∙ same ∙ before .1)
 
-  still-order : {log : List Event} {t : List ℕ} → Run B log t → InOrder log t
+  still-order : {log : List Event} {t : List ℕ} → Run smallCount B log t → InOrder smallCount log t
   still-order {log} {t} r =
       let p = still-run r in
-      subst (λ (l : List Event). InOrder l t) (sym (p .0)) (subst (InOrder []) (sym (p .1)) (inv-order [] (blank smallCount) (blank-books .inv) (blank-books .dead)))
+      subst (λ (l : List Event). InOrder smallCount l t) (sym (p .0)) (subst (InOrder smallCount []) (sym (p .1)) (inv-order [] (blank smallCount) (blank-books .inv) (blank-books .dead)))
 
-  still-opens : (c : Call) (number : ℕ) → Opens c number (c .table)
+  still-opens : (c : Call) (number : ℕ) → Opens smallCount c number (c .table)
   unfolding inState
   still-opens c zero = accepted (record { latest = inl refl; issued = refl; moves = λ i low h. absurd (h refl); others = λ i low. refl })
   still-opens c (suc k) = refused (λ z. (let q : suc k ≡ 0 = z in omega arith))
@@ -75,8 +75,8 @@ module _ (B : Box) (still : (c : Call) (e : Effect) → B c e → (k : ℕ) × (
     goes = λ log t r c e same lent b. record {
       start = c .table;
       opens = still-opens c (e .number);
-      order = subst (InOrder log) (sym same) (still-order r);
-      path = subst (λ (u : List ℕ). Path log (c .table) (eventsOf c e) u) (sym (same-table c e b)) (subst (λ (events : List Event). Path log (c .table) events (c .table)) (sym (no-events c e b)) arrived);
+      order = subst (InOrder smallCount log) (sym same) (still-order r);
+      path = subst (λ (u : List ℕ). Path smallCount log (c .table) (eventsOf c e) u) (sym (same-table c e b)) (subst (λ (events : List Event). Path smallCount log (c .table) events (c .table)) (sym (no-events c e b)) arrived);
     };
     asked = λ log t r c e same lent b.
         let p = still c e b in

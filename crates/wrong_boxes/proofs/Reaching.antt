@@ -199,7 +199,7 @@ create-left k t f room =
 pub record Reached (k : ℕ) : Type 0 where
   pub log : List Event
   pub table : List ℕ
-  pub run : Run Regrants log table
+  pub run : Run smallCount Regrants log table
   pub filled : Filled k table
 
 pub reached : (k : ℕ) → k ≤ smallCount → Reached k
