@@ -58,7 +58,7 @@ use Rattle.cases.proofs.Cases.{opened}
 use Rattle.wrong_boxes.proofs.Calling.{callingOn, lent-on, accepted-is}
 use Rattle.wrong_boxes.proofs.Granting.{grants-taken}
 use Rattle.wrong_boxes.proofs.Filling.{wanted, own, grown, has-room, grown-born, firstKey, Filled, begunAt, filled-begun, takes-first}
-use Rattle.wrong_boxes.proofs.Reaching.{createItem, createRequest, takeRequest, frameOr, frameFrom, itemAt, createAsked, destroyAsked, grantAsked, take-read, create-command, destroy-command, grant-command, counted-one, accepted-on, take-accepted, take-bytes, batch-last, batch-on, decided, planned, created, create-step, reached}
+use Rattle.wrong_boxes.proofs.Reaching.{createItem, createRequest, takeRequest, frameOr, frameFrom, itemAt, createAsked, destroyAsked, grantAsked, take-read, create-command, destroy-command, grant-command, counted-one, ran-small, accepted-on, take-accepted, take-bytes, batch-last, batch-on, decided, planned, created, create-step, reached}
 
 -- ---- the last call, on a full table
 
@@ -280,7 +280,7 @@ module _ (log : List Event) (t : List ℕ) (run : Run smallCount Regrants log t)
   ran =
       let option = optionOf (frameFrom takeRequest .header .option) in
       ap (ranUnder (λ option. option) takeCall) take-read
-      ∙ ap (λ (clock : ℕ). batch smallCount (countedFrom 0 512) option 0 0 (began smallCount clock t) (destroyAsked ∷ createAsked ∷ grantAsked ∷ [])) (counted-one 64 t takeRequest f)
+      ∙ ran-small 64 t takeRequest f option (destroyAsked ∷ createAsked ∷ grantAsked ∷ [])
       ∙ take-ran opening full now-one option
 
   take-left : Regrants takeCall takeLeft
@@ -341,7 +341,7 @@ module _ (log : List Event) (t : List ℕ) (run : Run smallCount Regrants log t)
           let from = ap (λ (state : ℕ). listed destroy 0 state (placeAt smallCount u 0 .state)) start-state in
           or-l _ _ (ap (λ (s : ℕ). eqb s 5) (state-is smallCount u 0) ∙ dies (placeAt smallCount u 0 .state) (sym from ∙ sym same ∙ way))
 
-      takes-from : TakesFrom 1 createEvent u
+      takes-from : TakesFrom smallCount 1 createEvent u
       unfolding issuedBy isAt
       takes-from = record {
         place = 0;
@@ -361,6 +361,8 @@ module _ (log : List Event) (t : List ℕ) (run : Run smallCount Regrants log t)
   grants-first : GrantsTaken Regrants
   unfolding onto
   grants-first = record {
+    places = smallCount;
+    some-count = refl;
     log = log;
     t = t;
     run = run;

@@ -16,7 +16,7 @@ use Rattle.octets.specs.Octets.{all}
 use Rattle.octets.proofs.Bools.{and-no}
 use Rattle.table.specs.declared.Record.{Record}
 use Rattle.table.specs.Layout.{smallCount}
-use Rattle.table.specs.Records.{stateAt, latestClock, withClock, blank}
+use Rattle.table.specs.Records.{placeAt, stateAt, latestClock, withClock, blank}
 use Rattle.ttlv.specs.Items.{nil}
 use Rattle.ttlv.specs.Parse.{message}
 use Rattle.rules.specs.Numbers.{getAttributes}
@@ -204,7 +204,7 @@ module _ (made : Call → List ℕ → List ℕ) (d : Demand3 (Leaves made)) {la
       let lent-second = lent-on (second .table) showRequest 9 (bytes-test (second .table) (ap (λ (s : Seen). s .bytes-second) is)) show-bytes (lit< tt) in
       let lent-third = lent-on (third .table) showRequest 5 (bytes-test (third .table) (ap (λ (s : Seen). s .bytes-third) is)) show-bytes (lit< tt) in
       let q = calls second (leftOf made second) r refl lent-second (accepted-is second (leftOf made second) (ap (λ (s : Seen). s .taken-second) is)) in
-      d .goes _ _ q third left refl lent-third (accepted-is third left (ap (λ (s : Seen). s .taken-third) is))
+      d smallCount refl .goes _ _ q third left refl lent-third (accepted-is third left (ap (λ (s : Seen). s .taken-third) is))
 
   abbrev start : List ℕ
   start = going .start

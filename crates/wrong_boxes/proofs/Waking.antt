@@ -10,7 +10,7 @@ use Rattle.octets.specs.If.{ifb}
 use Rattle.octets.proofs.Bools.{and-no}
 use Rattle.search.specs.declared.Found.the-variants.{At}
 use Rattle.table.specs.Layout.{smallCount}
-use Rattle.table.specs.Records.{serialAt, stateAt, blank}
+use Rattle.table.specs.Records.{placeAt, serialAt, stateAt, blank}
 use Rattle.search.specs.Search.{find}
 use Rattle.search.proofs.Finds.{find-is}
 use Rattle.soundness.specs.Checked.{isAt}
@@ -150,7 +150,7 @@ alive-seen = refl
 
 pub leaves-alive : Demand3 LeavesAlive → ⊥
 unfolding alive seenOn
-leaves-alive d = no-waking destroy 0 destroy-not (d .goes [] (blank smallCount) begins life alive refl (lent-life 1 (lit< tt)) (accepted-is life alive (life-accepted 1 refl)) .path) alive-seen
+leaves-alive d = no-waking destroy 0 destroy-not (d smallCount refl .goes [] (blank smallCount) begins life alive refl (lent-life 1 (lit< tt)) (accepted-is life alive (life-accepted 1 refl)) .path) alive-seen
 
 -- ---- the next call wakes it
 
@@ -192,4 +192,4 @@ pub wakes : Demand3 Wakes → ⊥
 unfolding first-left next next-left withTable seenOn
 wakes d =
     let r = calls life first-left begins refl (lent-life 1 (lit< tt)) (accepted-is life first-left (life-accepted 1 refl)) in
-    no-waking revoke 2 revoke-not (d .goes (logged life first-left []) (first-left .table) r next next-left refl lent-next (accepted-is next next-left next-accepted) .path) next-seen
+    no-waking revoke 2 revoke-not (d smallCount refl .goes (logged life first-left []) (first-left .table) r next next-left refl lent-next (accepted-is next next-left next-accepted) .path) next-seen

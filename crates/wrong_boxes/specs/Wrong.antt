@@ -11,7 +11,8 @@ use lib.Dec.{leb, ltb, eqb}
 use Rattle.octets.specs.If.{ifb}
 use Rattle.octets.specs.Octets.{over}
 use Rattle.table.specs.declared.Record.{Record}
-use Rattle.table.specs.Records.{stateAt, lastSerial, withPlace, withClock}
+use Rattle.table.specs.Layout.{smallCount, placesOk}
+use Rattle.table.specs.Records.{placeAt, stateAt, lastSerial, withPlace, withClock}
 use Rattle.search.specs.Search.{isNothing, find}
 use Rattle.rules.specs.declared.Reason.the-variants.{InvalidField, ObjectDestroyed}
 use Rattle.rules.specs.Numbers.{active, deactivated, destroyed, getUsageAllocation, reasonNumber}
@@ -137,18 +138,20 @@ refilled t = withPlace smallCount t 0 (withCount (placeAt smallCount t 0 .total)
 abbrev pub InventsCount : Box
 InventsCount = Leaves (λ c due. refilled due)
 
--- an item takes the place where x stands, in the table u that it meets
-pub record TakesFrom (x : ℕ) (taker : Event) (u : List ℕ) : Type 0 where
+-- an item takes the place where x stands, in the table u of n places that it meets
+pub record TakesFrom (n x : ℕ) (taker : Event) (u : List ℕ) : Type 0 where
   pub place : ℕ
-  pub stood : Stands smallCount x u place
-  pub taken : takes smallCount taker u place ≡ true
+  pub stood : Stands n x u place
+  pub taken : takes n taker u place ≡ true
 
--- a box that grants units in the batch in which the place was taken: in a call of a run, some item takes the place where x stands, wherever the items before it
+-- a box that grants units in the batch in which the place was taken: in a call of a run on a table of either count, some item takes the place where x stands, wherever the items before it
 -- may have led, and behind the call x has other units than it had then
 pub record GrantsTaken (B : Box) : Type 0 where
+  pub places : ℕ
+  pub some-count : placesOk places ≡ true
   pub log : List Event
   pub t : List ℕ
-  pub run : Run smallCount B log t
+  pub run : Run places B log t
   pub c : Call
   pub e : Effect
   pub same : c .table ≡ t
@@ -160,7 +163,7 @@ pub record GrantsTaken (B : Box) : Type 0 where
   pub events-are : eventsOf c e ≡ before ++ (taker ∷ later)
   pub x : ℕ
   pub known : x ≡ 0 → ⊥
-  pub taken : (start u : List ℕ) → Opens smallCount c (e .number) start → Path smallCount log start before u → TakesFrom x taker u
+  pub taken : (start u : List ℕ) → Opens places c (e .number) start → Path places log start before u → TakesFrom places x taker u
   pub more : granted x (logged c e log) ≡ granted x (onto before log) → ⊥
 
 -- whether an item asks units for an identifier that was issued and does not stand in the table t
