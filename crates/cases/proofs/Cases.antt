@@ -27,6 +27,7 @@ use Rattle.changes.specs.Records.{materialFrom, newRecord, heirActivation, heir
 use Rattle.changes.specs.Dates.{ripened, isRipe, ripeAt, ripeFrom, countedClock, began}
 use Rattle.date_rules.specs.Dates.{startedState, stoppedState, datedState}
 use Rattle.rules.specs.States.{canRevoke, canDestroy, activateTests, revokeTests, destroyTests, moveTests, revokedState, destroyedState, movedState, nextUnless, nextState, grantTests, leftUnless, granting}
+use Rattle.place_counts.specs.Counts.{tableRight}
 use Rattle.rules.specs.Tests.{due}
 use Rattle.batch_item.specs.Item.{idOk, idBytes, itemIn, itemsIn}
 use Rattle.frame.specs.Frame.{versionIn, headerIn, frameIn, optionOf, framing, framed}
@@ -44,7 +45,7 @@ use Rattle.cases.specs.Cards.{sameItems, isRead, integerRead, integerMal
 
 -- the definitions that the cases compute with: who opens this opens them all
 unfoldable pub opened : Unit {0}
-unfolding wordsOf wordBytes wordsOk filled ifb _>>=_ _>>_ isSome be fromBeAfter fromBe all same startsWith ended bytesOf bodyOf numberOf optional encode itemOk wellFormed headed firstOf putValue putGroup more walk parse isOne message lengthOk text valueOk digits identifier fromDigitsAfter serialOf line body recordOf placeAt withPlace serialAt stateAt nameAt nameField storedName nameText nameOf nameOk sameName shapeRight findName isTaken nameBody nameFirst onlyNameIn orNoName lastNameIn lastSerial withLast placesSaid latestClock withClock blank firstFrom isNothing orElse find freePlace destroyedPlace newPlace sizeRight countRight latestRight freeRight zerosRight distinctRight issuedRight stateRight bitsRight maskRight limitRight tailRight wipedRight replacedRight replacementRight datesRight orderRight startedRight nameRight nameTextRight namesDiffer ifStands linksRight breaksFree breaksStanding orLater faultFrom firstFault sound isFull bornAt withBorn withHeir materialFrom newRecord heirActivation heirDeactivation offsetWrong heirDated heirOf linkedTo inState withDates movedTo withCount ripened isRipe ripeAt ripeFrom countedClock began startedState stoppedState datedState canRevoke canDestroy activateTests revokeTests destroyTests moveTests revokedState destroyedState movedState nextUnless nextState grantTests leftUnless granting due versionIn headerIn idOk idBytes itemIn itemsIn frameIn optionOf framing framed limitIn limitFirst dateFirst orUnset datedIn wantedOf limitedIn maskedIn attributesIn createIn targetOf targetIn offsetOf rekeyIn aloneIn allocationIn revokeIn locateIn orInvalid command sought carried shownOf createPlan rekeyPlan allocationPlan activatePlan revokePlan destroyPlan showPlan keyOf getPlan serialFound locatePlan onFound plan step isFailed spelled setDate fixed serialIn limitsFirst orNoLimits linkFirst orNoLink linkIn nameShown locatedIn nameShownOk shownIn createdIn doneIn showedIn keyRead keyBlockIn keyIn gotIn payloadIn reasonAmong failureIn successIn outcomeIn answerIn answersOf headIn shownOk keyOk outcomeOk answerOk allowed ifAllowed answersIn dateItems limitItems linkItems nameItems locatedItems attributeItems materialOf keyItems outcomeItems idItems answerItems batchItems versionItems headerItems respond endsBatch batch running answered earlyRefusal carryOut serving sameItems isRead integerRead integerMalformed booleanMalformed textOfEight textOfNine nested countedFrom callAt tableFrom answers refuses stateLeft countLeft depthEight depthNine depthRead depthRefused grantRequest grantResponse grantsCounted overRequest overResponse grantTooLarge lifeRequest lifeResponse compromiseRequest compromiseResponse destroyedInTurn rekeyRequest rekeyResponse rekeyedTwice stopRequest stopResponse stopsThere continueRequest continueResponse goesOn lastRequest lastResponse lastSerialIssued pCases allHold
+unfolding wordsOf wordBytes wordsOk filled ifb _>>=_ _>>_ isSome be fromBeAfter fromBe all same startsWith ended bytesOf bodyOf numberOf optional encode itemOk wellFormed headed firstOf putValue putGroup more walk parse isOne message lengthOk text valueOk digits identifier fromDigitsAfter serialOf line body recordOf placeAt withPlace serialAt stateAt nameAt nameField storedName nameText nameOf nameOk sameName shapeRight findName isTaken nameBody nameFirst onlyNameIn orNoName lastNameIn lastSerial withLast placesSaid latestClock withClock blank firstFrom isNothing orElse find freePlace destroyedPlace newPlace sizeRight countRight latestRight freeRight zerosRight distinctRight issuedRight stateRight bitsRight maskRight limitRight tailRight wipedRight replacedRight replacementRight datesRight orderRight startedRight nameRight nameTextRight namesDiffer ifStands linksRight breaksFree breaksStanding orLater faultFrom firstFault sound tableRight isFull bornAt withBorn withHeir materialFrom newRecord heirActivation heirDeactivation offsetWrong heirDated heirOf linkedTo inState withDates movedTo withCount ripened isRipe ripeAt ripeFrom countedClock began startedState stoppedState datedState canRevoke canDestroy activateTests revokeTests destroyTests moveTests revokedState destroyedState movedState nextUnless nextState grantTests leftUnless granting due versionIn headerIn idOk idBytes itemIn itemsIn frameIn optionOf framing framed limitIn limitFirst dateFirst orUnset datedIn wantedOf limitedIn maskedIn attributesIn createIn targetOf targetIn offsetOf rekeyIn aloneIn allocationIn revokeIn locateIn orInvalid command sought carried shownOf createPlan rekeyPlan allocationPlan activatePlan revokePlan destroyPlan showPlan keyOf getPlan serialFound locatePlan onFound plan step isFailed spelled setDate fixed serialIn limitsFirst orNoLimits linkFirst orNoLink linkIn nameShown locatedIn nameShownOk shownIn createdIn doneIn showedIn keyRead keyBlockIn keyIn gotIn payloadIn reasonAmong failureIn successIn outcomeIn answerIn answersOf headIn shownOk keyOk outcomeOk answerOk allowed ifAllowed answersIn dateItems limitItems linkItems nameItems locatedItems attributeItems materialOf keyItems outcomeItems idItems answerItems batchItems versionItems headerItems respond endsBatch batch running answered earlyRefusal carryOut serving sameItems isRead integerRead integerMalformed booleanMalformed textOfEight textOfNine nested countedFrom callAt tableFrom answers refuses stateLeft countLeft depthEight depthNine depthRead depthRefused grantRequest grantResponse grantsCounted overRequest overResponse grantTooLarge lifeRequest lifeResponse compromiseRequest compromiseResponse destroyedInTurn rekeyRequest rekeyResponse rekeyedTwice stopRequest stopResponse stopsThere continueRequest continueResponse goesOn lastRequest lastResponse lastSerialIssued pCases allHold
 opened = tt
 
 -- a list holds if its first n do, and those behind them

@@ -18,8 +18,7 @@ use Rattle.act.specs.Act.{step}
 use Rattle.answer.specs.Respond.{Answer}
 use Rattle.engine.specs.Batch.{Ran, answerTo, lastly, firstly, endsBatch, batch}
 use Rattle.demands.specs.Demand2.{Link, Due, planOf, answerFor, goesOn, linkAt, Chain, none-left, stops, goes-on}
-use Rattle.demands.specs.Box.{Call}
-use Rattle.table.specs.Layout.{smallCount}
+use Rattle.demands.specs.Box.{Call, placesOf}
 
 -- the link of an item that is carried out
 abbrev pub linkTo : Env → ℕ → List ℕ → Asked → Link
@@ -62,14 +61,14 @@ ends-not option did = go (isFailed (did .outcome)) (eqb option continue)
 module _ (c : Call) (option : ℕ) where
   -- the items of a call from number i on
   abbrev pub ranFrom : ℕ → ℕ → List ℕ → List Asked → Ran
-  ranFrom i holder t items = batch smallCount (c .strip) option i holder t items
+  ranFrom i holder t items = batch (placesOf c) (c .strip) option i holder t items
 
   pub batch-chain : (items : List Asked) (i holder : ℕ) (t : List ℕ) → Chained c option i holder t items (ranFrom i holder t items)
   unfolding batch answerFor
   batch-chain [] i holder t = record { links = []; chain = none-left; answers = refl }
   batch-chain (asked ∷ later) i holder t =
-      turn (step (envAt smallCount (c .strip) i) holder t asked) (step-due (envAt smallCount (c .strip) i) holder t asked)
-      (batch-chain later (i + 1) (step (envAt smallCount (c .strip) i) holder t asked .holder) (step (envAt smallCount (c .strip) i) holder t asked .table))
+      turn (step (envAt (placesOf c) (c .strip) i) holder t asked) (step-due (envAt (placesOf c) (c .strip) i) holder t asked)
+      (batch-chain later (i + 1) (step (envAt (placesOf c) (c .strip) i) holder t asked .holder) (step (envAt (placesOf c) (c .strip) i) holder t asked .table))
     where
       turn : (did : Did) → Due (linkAt c i holder t asked did) → Chained c option (i + 1) (did .holder) (did .table) later (ranFrom (i + 1) (did .holder) (did .table) later)
           → Chained c option i holder t (asked ∷ later)

@@ -10,6 +10,7 @@ use lib.Dec.{eqb}
 use borrow.Author.Tests.{eqb-true}
 use Rattle.octets.proofs.Bools.{both, or-l, or-r}
 use Rattle.octets.proofs.If.{ifb-true, ifb-false, on-bool}
+use Rattle.table.specs.Records.{placeAt}
 use Rattle.search.specs.Search.{isDestroyed}
 use Rattle.soundness.specs.Sound.{sound}
 use Rattle.soundness.proofs.SoundIs.{sound-is}
@@ -23,7 +24,6 @@ use Rattle.plans.specs.declared.Outcome.the-variants.{Failed, Created, Done, Sh
 use Rattle.plans.specs.Plans.{isFailed}
 use Rattle.answer.proofs.Tests.{on-or}
 use Rattle.engine.proofs.Commands.{Commanded, not-supported, not-valid, to-create, to-rekey, to-allocate, to-activate, to-revoke, to-destroy, to-show, to-get, to-locate, commanded}
-use Rattle.demands.specs.Box.{placesOf, recordIn}
 use Rattle.demands.specs.Log.{Event, commandOf, issuedBy, issued, handedBy, destroyedBy, wasDestroyed, handedDead}
 use Rattle.demands.specs.Demand3.{Stands, isUnderstood, movesState, carries, codeOf, takes, listed, About, Tame, asksKey, asksName}
 use Rattle.demands.proofs.Logged.{issued-now, issued-before}
@@ -176,17 +176,17 @@ handed-is c (Located serial) x z e = absurd (z (sym e))
 
 -- ---- the dead, in the log and in the table
 
-pub record Dead (log : List Event) (t : List ℕ) : Type 0 where
-  pub states : (x i : ℕ) → (x ≡ 0 → ⊥) → Stands x t i → wasDestroyed x log ≡ true → isDestroyed (recordIn t i .state) ≡ true
+pub record Dead (n : ℕ) (log : List Event) (t : List ℕ) : Type 0 where
+  pub states : (x i : ℕ) → (x ≡ 0 → ⊥) → Stands n x t i → wasDestroyed x log ≡ true → isDestroyed (placeAt n t i .state) ≡ true
   pub known : (x : ℕ) → (x ≡ 0 → ⊥) → wasDestroyed x log ≡ true → 1 ≤ issued x log
   pub silent : (x : ℕ) → (x ≡ 0 → ⊥) → handedDead x log ≡ 0
 
-pub none-dead : (t : List ℕ) → Dead [] t
+pub none-dead : (n : ℕ) (t : List ℕ) → Dead n [] t
 unfolding wasDestroyed handedDead
-none-dead t = record { states = λ x i z s w. absurd (false≢true w); known = λ x z w. absurd (false≢true w); silent = λ x z. refl }
+none-dead n t = record { states = λ x i z s w. absurd (false≢true w); known = λ x z w. absurd (false≢true w); silent = λ x z. refl }
 
-module _ (log : List Event) (t u : List ℕ) (ev : Event) (tame : Tame ev t u) (right : sound (placesOf t) t ≡ true)
-    (stood : (x i : ℕ) → (x ≡ 0 → ⊥) → Stands x t i → issued x log ≡ 1) (once : (x : ℕ) → (x ≡ 0 → ⊥) → issued x (ev ∷ log) ≤ 1) (d : Dead log t) where
+module _ {n : ℕ} (log : List Event) (t u : List ℕ) (ev : Event) (tame : Tame n ev t u) (right : sound n t ≡ true)
+    (stood : (x i : ℕ) → (x ≡ 0 → ⊥) → Stands n x t i → issued x log ≡ 1) (once : (x : ℕ) → (x ≡ 0 → ⊥) → issued x (ev ∷ log) ≤ 1) (d : Dead n log t) where
   abbrev o : Outcome
   o = ev .answer .outcome
 
@@ -194,7 +194,7 @@ module _ (log : List Event) (t u : List ℕ) (ev : Event) (tame : Tame ev t u) (
   c = commandOf ev
 
   -- the record that a success is about stands, with the identifier that is carried
-  about-stands : (x : ℕ) → carries o ≡ x → (a : About ev t) → Stands x t (a .place)
+  about-stands : (x : ℕ) → carries o ≡ x → (a : About n ev t) → Stands n x t (a .place)
   about-stands x e a = record { below = a .below; serial = sym (a .serial) ∙ e }
 
   -- what is not understood fails
@@ -213,24 +213,24 @@ module _ (log : List Event) (t u : List ℕ) (ev : Event) (tame : Tame ev t u) (
     did : Destroys c
     did = destroys (ev .asked .operation) c (commanded (ev .asked .operation) (ev .asked .payload)) asked (is-understood (said .succeeded))
 
-    whose : About ev t
+    whose : About n ev t
     whose = tame .about (said .succeeded) (did .issues o) (moves-not c (did .moves))
 
     -- its record stood, and is in a destroyed state
-    destroyed-stood : Stands x t (whose .place)
+    destroyed-stood : Stands n x t (whose .place)
     destroyed-stood = about-stands x (said .carried) whose
 
-    destroyed-there : isDestroyed (recordIn u (whose .place) .state) ≡ true
+    destroyed-there : isDestroyed (placeAt n u (whose .place) .state) ≡ true
     destroyed-there =
-        listed-destroys (codeOf c) (recordIn t (whose .place) .state) (recordIn u (whose .place) .state)
-        (subst (λ (n : ℕ). listed n (codeOf c) (recordIn t (whose .place) .state) (recordIn u (whose .place) .state) ≡ true) asked
+        listed-destroys (codeOf c) (placeAt n t (whose .place) .state) (placeAt n u (whose .place) .state)
+        (subst (λ (operation : ℕ). listed operation (codeOf c) (placeAt n t (whose .place) .state) (placeAt n u (whose .place) .state) ≡ true) asked
         (tame .obeys (whose .place) (whose .below) (whose .named) (said .succeeded) (did .moves)))
 
   -- ---- behind it
 
   -- a record that was destroyed and kept its place is destroyed still
-  stays : (i : ℕ) → i < placesOf t → takes ev t i ≡ false → isDestroyed (recordIn t i .state) ≡ true → isDestroyed (recordIn u i .state) ≡ true
-  stays i low miss before = elim (ℕ-discrete (recordIn u i .state) (recordIn t i .state)) [
+  stays : (i : ℕ) → i < n → takes n ev t i ≡ false → isDestroyed (placeAt n t i .state) ≡ true → isDestroyed (placeAt n u i .state) ≡ true
+  stays i low miss before = elim (ℕ-discrete (placeAt n u i .state) (placeAt n t i .state)) [
     | yes same ↦ ap isDestroyed same ∙ before
     | no other ↦ listed-stays _ _ _ _ (tame .moves i low miss other .way) before
   ]
@@ -256,21 +256,21 @@ module _ (log : List Event) (t u : List ℕ) (ev : Event) (tame : Tame ev t u) (
       (λ e. let k = stood x _ z (destroyed-stood x z (eqb-true _ x e)) in omega arith)
       (d .known x z)
 
-  states-after : (x i : ℕ) → (x ≡ 0 → ⊥) → Stands x u i → wasDestroyed x (ev ∷ log) ≡ true → isDestroyed (recordIn u i .state) ≡ true
+  states-after : (x i : ℕ) → (x ≡ 0 → ⊥) → Stands n x u i → wasDestroyed x (ev ∷ log) ≡ true → isDestroyed (placeAt n u i .state) ≡ true
   unfolding wasDestroyed
-  states-after x i z s w = on-bool (takes ev t i) taken kept
+  states-after x i z s w = on-bool (takes n ev t i) taken kept
     where
-      taken : takes ev t i ≡ true → isDestroyed (recordIn u i .state) ≡ true
+      taken : takes n ev t i ≡ true → isDestroyed (placeAt n u i .state) ≡ true
       taken y = absurd (not-issued x z (issued-when x z w) (sym (tame .taken i (s .below) y .serial) ∙ s .serial))
 
-      kept : takes ev t i ≡ false → isDestroyed (recordIn u i .state) ≡ true
+      kept : takes n ev t i ≡ false → isDestroyed (placeAt n u i .state) ≡ true
       kept miss =
-          let before : Stands x t i = record { below = s .below; serial = sym (tame .kept i (s .below) miss) ∙ s .serial } in
+          let before : Stands n x t i = record { below = s .below; serial = sym (tame .kept i (s .below) miss) ∙ s .serial } in
           on-or (eqb (destroyedBy (ev .answer .operation) o) x) (wasDestroyed x log) w
           (λ e.
           let a = destroyed-stood x z (eqb-true _ x e) in
           let q : i ≡ whose x z (eqb-true _ x e) .place = sound-is _ t right .distinct i _ (s .below) (a .below) (λ k. z (sym (before .serial) ∙ k)) (before .serial ∙ sym (a .serial)) in
-          subst (λ (j : ℕ). isDestroyed (recordIn u j .state) ≡ true) (sym q) (destroyed-there x z (eqb-true _ x e)))
+          subst (λ (j : ℕ). isDestroyed (placeAt n u j .state) ≡ true) (sym q) (destroyed-there x z (eqb-true _ x e)))
           (λ k. stays i (s .below) miss (d .states x i z before k))
 
   silent-after : (x : ℕ) → (x ≡ 0 → ⊥) → handedDead x (ev ∷ log) ≡ 0
@@ -287,5 +287,5 @@ module _ (log : List Event) (t u : List ℕ) (ev : Event) (tame : Tame ev t u) (
           let s = about-stands x (h .carried) a in
           true≢false (sym (d .states x (a .place) z s (p .1)) ∙ tame .alive (a .place) (a .below) (a .named) (h .succeeded) asks)
 
-  pub step-dead : Dead (ev ∷ log) u
+  pub step-dead : Dead n (ev ∷ log) u
   step-dead = record { states = states-after; known = known-after; silent = silent-after }

@@ -16,7 +16,7 @@ use Rattle.octets.proofs.If.{on-bool, ifb-false}
 use Rattle.octets.proofs.Bools.{both, and-l}
 use Rattle.table.specs.declared.Record.{Record}
 use Rattle.search.specs.declared.Found.the-variants.{At}
-use Rattle.table.specs.Layout.{smallCount, materialSize}
+use Rattle.table.specs.Layout.{materialSize}
 use Rattle.table.specs.Records.{placeAt, serialAt, lastSerial, latestClock}
 use Rattle.table.proofs.Places.{serial-is}
 use Rattle.search.specs.Search.{find}
@@ -43,7 +43,7 @@ use Rattle.act.proofs.Went.{Kind, fails, creates, rekeys, grants, moves, shows,
 use Rattle.answer.proofs.Tests.{on-or}
 use Rattle.engine.proofs.Commands.{Commanded, commanded}
 use Rattle.engine.proofs.Steps.{step-held, step-latest}
-use Rattle.demands.specs.Box.{Call, recordIn, counted}
+use Rattle.demands.specs.Box.{Call, placesOf, counted}
 use Rattle.demands.specs.Log.{issuedBy, grantBy}
 use Rattle.demands.specs.Demand2.{Begins}
 use Rattle.demands.specs.Demand3.{Stands, takes, listed, Tame}
@@ -163,10 +163,10 @@ listed-past operation code from to h new =
 
 -- ---- one item
 
-module _ (strip : List ℕ) (k holder : ℕ) (t : List ℕ) (asked : Asked) (held : Held smallCount t) (fresh-bytes : Bytes (envAt smallCount strip k .fresh))
-    (long : materialSize ≤ length (envAt smallCount strip k .fresh)) where
+module _ {n : ℕ} (strip : List ℕ) (k holder : ℕ) (t : List ℕ) (asked : Asked) (held : Held n t) (fresh-bytes : Bytes (envAt n strip k .fresh))
+    (long : materialSize ≤ length (envAt n strip k .fresh)) where
   abbrev env : Env
-  env = envAt smallCount strip k
+  env = envAt n strip k
 
   abbrev did : Did
   did = step env holder t asked
@@ -177,21 +177,21 @@ module _ (strip : List ℕ) (k holder : ℕ) (t : List ℕ) (asked : Asked) (hel
   went : Kind env holder t c did
   went = step-kind env holder t asked
 
-  pub step-in-time : InTime (latestClock t) t → InTime (latestClock t) (did .table)
+  pub step-in-time : InTime n (latestClock t) t → InTime n (latestClock t) (did .table)
   step-in-time before i low = kind-open env holder t held fresh-bytes c did went (commanded (asked .operation) (asked .payload)) before i low
 
-  pub step-spends : InTime (latestClock t) t → (x : ℕ) → (grantBy x c (did .outcome) ≡ 0 → ⊥) → Spends (latestClock t) x t
+  pub step-spends : InTime n (latestClock t) t → (x : ℕ) → (grantBy x c (did .outcome) ≡ 0 → ⊥) → Spends n (latestClock t) x t
   step-spends before x h =
       let p = kind-paid env holder t held fresh-bytes c did went x h in
       record {
         place = p .place;
-        stands = record { below = p .below; serial = serial-is smallCount t (p .place) ∙ p .serial };
+        stands = record { below = p .below; serial = serial-is n t (p .place) ∙ p .serial };
         active = p .usable;
         in-time = before (p .place) (p .below) (p .usable);
       }
 
   -- what is issued is new
-  counts : Counts smallCount t holder c did
+  counts : Counts n t holder c did
   counts = kind-counts env holder t held fresh-bytes c did went (commanded (asked .operation) (asked .payload))
 
   issued-later : lastSerial t ≤ lastSerial (did .table)
@@ -200,21 +200,21 @@ module _ (strip : List ℕ) (k holder : ℕ) (t : List ℕ) (asked : Asked) (hel
   issued-new : (issuedBy c (did .outcome) ≡ 0 → ⊥) → issuedBy c (did .outcome) ≡ lastSerial t + 1
   issued-new h = ⊎-elim (λ q. absurd (h (q .0))) (λ q. q .0) (counts .counted .issued)
 
-  pub step-stopped : (x : ℕ) → Stopped x t → Stopped x (did .table)
-  step-stopped x before = record { issued = omega (arith, before .issued, issued-later); past = λ i s. on-bool (takes (eventOf holder asked did) t i) (taken i s) (kept i s) }
+  pub step-stopped : (x : ℕ) → Stopped n x t → Stopped n x (did .table)
+  step-stopped x before = record { issued = omega (arith, before .issued, issued-later); past = λ i s. on-bool (takes n (eventOf holder asked did) t i) (taken i s) (kept i s) }
     where
-      tame : Tame (eventOf holder asked did) t (did .table)
-      tame = step-tame strip k holder t asked held fresh-bytes long
+      tame : Tame n (eventOf holder asked did) t (did .table)
+      tame = step-tame n strip k holder t asked held fresh-bytes long
 
-      taken : (i : ℕ) → Stands x (did .table) i → takes (eventOf holder asked did) t i ≡ true → (recordIn (did .table) i .state ≡ preActive → ⊥) × (recordIn (did .table) i .state ≡ active → ⊥)
+      taken : (i : ℕ) → Stands n x (did .table) i → takes n (eventOf holder asked did) t i ≡ true → (placeAt n (did .table) i .state ≡ preActive → ⊥) × (placeAt n (did .table) i .state ≡ active → ⊥)
       taken i s y =
           let new : issuedBy c (did .outcome) ≡ 0 → ⊥ = eqb-false (issuedBy c (did .outcome)) 0 (not-true _ (and-l (not (eqb (issuedBy c (did .outcome)) 0)) _ y)) in
           absurd (omega (arith, before .issued, issued-new new, tame .taken i (s .below) y .serial, s .serial))
 
-      kept : (i : ℕ) → Stands x (did .table) i → takes (eventOf holder asked did) t i ≡ false → (recordIn (did .table) i .state ≡ preActive → ⊥) × (recordIn (did .table) i .state ≡ active → ⊥)
+      kept : (i : ℕ) → Stands n x (did .table) i → takes n (eventOf holder asked did) t i ≡ false → (placeAt n (did .table) i .state ≡ preActive → ⊥) × (placeAt n (did .table) i .state ≡ active → ⊥)
       kept i s miss =
           let was = before .past i (record { below = s .below; serial = sym (tame .kept i (s .below) miss) ∙ s .serial }) in
-          elim (ℕ-discrete (recordIn (did .table) i .state) (recordIn t i .state)) [
+          elim (ℕ-discrete (placeAt n (did .table) i .state) (placeAt n t i .state)) [
             | yes same ↦ (λ e. was .0 (sym same ∙ e), λ e. was .1 (sym same ∙ e))
             | no moved ↦ listed-past _ _ _ _ (tame .moves i (s .below) miss moved .way) (was .0)
           ]
@@ -240,15 +240,15 @@ module _ (clock : ℕ) (r : Record) where
   ]
 
 module _ (c : Call) (start : List ℕ) (b : Begins c start) where
-  pub begins-in-time : InTime (counted c) start
-  begins-in-time i low = subst (Open (counted c)) (sym (b .places i low)) (ripened-open (counted c) (recordIn (c .table) i))
+  pub begins-in-time : InTime (placesOf c) (counted c) start
+  begins-in-time i low = subst (Open (counted c)) (sym (b .places i low)) (ripened-open (counted c) (placeAt (placesOf c) (c .table) i))
 
-  pub begins-stopped : (x : ℕ) → Stopped x (c .table) → Stopped x start
+  pub begins-stopped : (x : ℕ) → Stopped (placesOf c) x (c .table) → Stopped (placesOf c) x start
   begins-stopped x before = record {
     issued = omega (arith, before .issued, b .issued);
     past = λ i s. subst (λ (r : Record). (r .state ≡ preActive → ⊥) × (r .state ≡ active → ⊥)) (sym (b .places i (s .below)))
-        (ripened-past (counted c) (recordIn (c .table) i) (before .past i (record { below = s .below; serial = sym (stays i s) ∙ s .serial })));
+        (ripened-past (counted c) (placeAt (placesOf c) (c .table) i) (before .past i (record { below = s .below; serial = sym (stays i s) ∙ s .serial })));
   }
     where
-      stays : (i : ℕ) → Stands x start i → serialAt start i ≡ serialAt (c .table) i
-      stays i s = serial-is smallCount start i ∙ ap (λ (r : Record). r .serial) (b .places i (s .below)) ∙ ripened-serial (counted c) (recordIn (c .table) i) ∙ sym (serial-is smallCount (c .table) i)
+      stays : (i : ℕ) → Stands (placesOf c) x start i → serialAt start i ≡ serialAt (c .table) i
+      stays i s = serial-is (placesOf c) start i ∙ ap (λ (r : Record). r .serial) (b .places i (s .below)) ∙ ripened-serial (counted c) (placeAt (placesOf c) (c .table) i) ∙ sym (serial-is (placesOf c) (c .table) i)

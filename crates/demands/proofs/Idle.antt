@@ -13,7 +13,7 @@ use Rattle.octets.specs.Octets.{Bytes}
 use Rattle.octets.proofs.If.{on-if}
 use Rattle.octets.proofs.Bools.{not-both}
 use Rattle.table.specs.declared.Record.{Record}
-use Rattle.table.specs.Layout.{smallCount, materialSize}
+use Rattle.table.specs.Layout.{materialSize}
 use Rattle.table.specs.Records.{placeAt, serialAt, lastSerial, latestClock}
 use Rattle.table.proofs.Places.{serial-is}
 use Rattle.search.proofs.Finds.{find-below}
@@ -67,18 +67,15 @@ ripe-idle clock r come = (not-active, come)
 -- ---- the table
 
 -- x was issued, and wherever it stands it is idle
-pub record IdleIn (clock x : ℕ) (t : List ℕ) : Type 0 where
+pub record IdleIn (n : ℕ) (clock x : ℕ) (t : List ℕ) : Type 0 where
   pub issued : x ≤ lastSerial t
-  pub idle : (i : ℕ) → i < smallCount → placeAt smallCount t i .serial ≡ x → Idle clock (placeAt smallCount t i)
+  pub idle : (i : ℕ) → i < n → placeAt n t i .serial ≡ x → Idle clock (placeAt n t i)
 
 -- ---- one item
 
-module _ (strip : List ℕ) (k holder : ℕ) (t : List ℕ) (asked : Asked) (held : Held smallCount t) (fresh-bytes : Bytes (envAt smallCount strip k .fresh)) (x : ℕ) (q : IdleIn (latestClock t) x t) where
+module _ {n : ℕ} (strip : List ℕ) (k holder : ℕ) (t : List ℕ) (asked : Asked) (held : Held n t) (fresh-bytes : Bytes (envAt n strip k .fresh)) (x : ℕ) (q : IdleIn n (latestClock t) x t) where
   abbrev env : Env
-  env = envAt smallCount strip k
-
-  abbrev n : ℕ
-  n = smallCount
+  env = envAt n strip k
 
   abbrev clock : ℕ
   clock = latestClock t
@@ -130,7 +127,7 @@ module _ (strip : List ℕ) (k holder : ℕ) (t : List ℕ) (asked : Asked) (hel
   abbrev c : Command
   c = command (asked .operation) (asked .payload)
 
-  step-idle : IdleIn clock x (did .table)
+  step-idle : IdleIn n clock x (did .table)
   step-idle =
       let m = commanded (asked .operation) (asked .payload) in
       let counts = kind-counts env holder t held fresh-bytes c did (step-kind env holder t asked) m in
@@ -148,32 +145,32 @@ module _ (strip : List ℕ) (k holder : ℕ) (t : List ℕ) (asked : Asked) (hel
 
 -- ---- a batch
 
-module _ (strip : List ℕ) (option : ℕ) (strip-bytes : Bytes strip) (x : ℕ) where
+module _ (n : ℕ) (strip : List ℕ) (option : ℕ) (strip-bytes : Bytes strip) (x : ℕ) where
   -- what a batch adds to the units of x
   abbrev Claim : ℕ → List Asked → List Event → Ran → Type 0
   Claim held items log ran = granted x (onto (paired held items (ran .answers)) log) ≡ granted x log
 
-  pub batch-nothing : (items : List Asked) (i holder held : ℕ) (t : List ℕ) (log : List Event) → materialSize * (i + length items) ≤ length strip → Held smallCount t → IdleIn (latestClock t) x t
-      → Claim held items log (batch smallCount strip option i holder t items)
+  pub batch-nothing : (items : List Asked) (i holder held : ℕ) (t : List ℕ) (log : List Event) → materialSize * (i + length items) ≤ length strip → Held n t → IdleIn n (latestClock t) x t
+      → Claim held items log (batch n strip option i holder t items)
   unfolding batch paired onto
   batch-nothing [] i holder held t log l h q = refl
   batch-nothing (asked ∷ later) i holder held t log l h q =
-      let env = envAt smallCount strip i in
-      let fresh = own-bytes smallCount strip option strip-bytes i (omega arith) in
-      let long = own-long smallCount strip option strip-bytes i (omega arith) in
+      let env = envAt n strip i in
+      let fresh = own-bytes n strip option strip-bytes i (omega arith) in
+      let long = own-long n strip option strip-bytes i (omega arith) in
       let same = step-latest env holder t h fresh long asked in
       turn (step env holder t asked) (step-nothing strip i holder t asked h fresh x q)
       (λ next log. batch-nothing later (i + 1) (step env holder t asked .holder) next (step env holder t asked .table) log (omega arith)
-      (step-held env holder t h fresh long asked) (subst (λ (clock : ℕ). IdleIn clock x (step env holder t asked .table)) (sym same) (step-idle strip i holder t asked h fresh x q)))
+      (step-held env holder t h fresh long asked) (subst (λ (clock : ℕ). IdleIn n clock x (step env holder t asked .table)) (sym same) (step-idle strip i holder t asked h fresh x q)))
     where
       more : (did : Did) → grantBy x (command (asked .operation) (asked .payload)) (did .outcome) ≡ 0
           → granted x (record { held = held; asked = asked; answer = answerTo asked did } ∷ log) ≡ granted x log
       more did z = omega (arith, granted-more x (record { held = held; asked = asked; answer = answerTo asked did }) log, z)
 
       turn : (did : Did) → grantBy x (command (asked .operation) (asked .payload)) (did .outcome) ≡ 0
-          → ((next : ℕ) (log : List Event) → Claim next later log (batch smallCount strip option (i + 1) (did .holder) (did .table) later))
+          → ((next : ℕ) (log : List Event) → Claim next later log (batch n strip option (i + 1) (did .holder) (did .table) later))
           → Claim held (asked ∷ later) log
-          (ifb (endsBatch option did) (lastly (answerTo asked did) (did .table)) (firstly (answerTo asked did) (batch smallCount strip option (i + 1) (did .holder) (did .table) later)))
+          (ifb (endsBatch option did) (lastly (answerTo asked did) (did .table)) (firstly (answerTo asked did) (batch n strip option (i + 1) (did .holder) (did .table) later)))
       turn did z rest =
           on-if (Claim held (asked ∷ later) log)
           (λ e. ap (λ (evs : List Event). granted x (onto evs (record { held = held; asked = asked; answer = answerTo asked did } ∷ log))) (paired-end _ later) ∙ more did z)
@@ -181,15 +178,15 @@ module _ (strip : List ℕ) (option : ℕ) (strip-bytes : Bytes strip) (x : ℕ)
 
 -- ---- what a call begins with
 
-module _ (t : List ℕ) (held : Held smallCount t) (clock : ℕ) (later : latestClock t ≤ clock) (fits : clock < 2 ^ 63) (x i : ℕ) (z : x ≡ 0 → ⊥) (low : i < smallCount) (serial : serialAt t i ≡ x)
-    (come : hasCome clock (placeAt smallCount t i .deactivation) ≡ true) where
-  pub began-idle : IdleIn clock x (began smallCount clock t)
+module _ {n : ℕ} (t : List ℕ) (held : Held n t) (clock : ℕ) (later : latestClock t ≤ clock) (fits : clock < 2 ^ 63) (x i : ℕ) (z : x ≡ 0 → ⊥) (low : i < n) (serial : serialAt t i ≡ x)
+    (come : hasCome clock (placeAt n t i .deactivation) ≡ true) where
+  pub began-idle : IdleIn n clock x (began n clock t)
   unfolding ripened inState
   began-idle = record {
-    issued = omega (arith, began-last smallCount t held clock later fits, facts smallCount t held .issued i low, serial);
+    issued = omega (arith, began-last n t held clock later fits, facts n t held .issued i low, serial);
     idle = λ j l e.
-        let place = began-places smallCount t held clock later fits j l in
-        let there : serialAt t j ≡ x = serial-is smallCount t j ∙ sym (ap (λ (r : Record). r .serial) place) ∙ e in
-        let same : i ≡ j = facts smallCount t held .distinct i j low l (λ k. z (sym serial ∙ k)) (serial ∙ sym there) in
-        subst (Idle clock) (sym place) (ripe-idle clock (placeAt smallCount t j) (subst (λ (k : ℕ). hasCome clock (placeAt smallCount t k .deactivation) ≡ true) same come));
+        let place = began-places n t held clock later fits j l in
+        let there : serialAt t j ≡ x = serial-is n t j ∙ sym (ap (λ (r : Record). r .serial) place) ∙ e in
+        let same : i ≡ j = facts n t held .distinct i j low l (λ k. z (sym serial ∙ k)) (serial ∙ sym there) in
+        subst (Idle clock) (sym place) (ripe-idle clock (placeAt n t j) (subst (λ (k : ℕ). hasCome clock (placeAt n t k .deactivation) ≡ true) same come));
   }

@@ -16,9 +16,8 @@ use Rattle.octets.proofs.Bools.{and-no, and-second, or-l, or-r}
 use Rattle.octets.specs.Maybe.{_>>=_, isSome}
 use Rattle.ttlv.specs.Items.{Items}
 use Rattle.ttlv.specs.Parse.{message}
-use Rattle.table.specs.Layout.{smallCount}
 use Rattle.values.specs.Values.{aboveZero}
-use Rattle.soundness.specs.Sound.{sound}
+use Rattle.place_counts.specs.Counts.{tableRight}
 use Rattle.changes.specs.Dates.{countedClock, began}
 use Rattle.frame.specs.Frame.{Frame, Framed, Request, refused, asked, frameIn, framing, versionOk, countOk, optionOf, optionOk}
 use Rattle.engine.specs.Batch.{Ran, running}
@@ -26,7 +25,7 @@ use Rattle.engine.specs.Effects.{Effect, roomLeast, stripSize, requestMost}
 use Rattle.engine.specs.Serving.{turnedAway, answered, earlyRefusal, carryOut, serving}
 use Rattle.engine.proofs.Early.{Passed, passed}
 use Rattle.engine.proofs.Serves.{refused-early, frame-decides}
-use Rattle.demands.specs.Box.{Call}
+use Rattle.demands.specs.Box.{Call, placesOf}
 use Rattle.demands.specs.Demand2.{frameOf, ofFrame, refusalConditions, lowest}
 
 -- the outcome that the definitions give to a call
@@ -117,7 +116,7 @@ unfolding serving earlyRefusal lowest refusalConditions
 served-number c =
     rung c 0 (ltb (length (c .output)) roomLeast) _
     (rung c 1 (not (eqb (length (c .strip)) stripSize)) _
-    (rung c 2 (not (sound smallCount (c .table))) _
+    (rung c 2 (not (tableRight (c .table))) _
     (rung c 3 (eqb (length (c .request)) 0 || ltb requestMost (length (c .request))) _
     (rung c 4 (not (isSome (message (c .request)))) _
     (none-early c)))))
@@ -138,7 +137,7 @@ requestOf frame = record { option = optionOf (frame .header .option); items = fr
 pub record Accepted (c : Call) : Type 0 where
   pub room : roomLeast ≤ length (c .output)
   pub strip : length (c .strip) ≡ stripSize
-  pub right : sound smallCount (c .table) ≡ true
+  pub right : tableRight (c .table) ≡ true
   pub items : Items
   pub frame : Frame
   pub reads : message (c .request) ≡ some items
@@ -153,11 +152,11 @@ counting c = countedClock (c .clock) (c .table)
 
 -- the table that the first item meets
 abbrev pub startOf : Call → List ℕ
-startOf c = began smallCount (counting c) (c .table)
+startOf c = began (placesOf c) (counting c) (c .table)
 
 -- what an accepted call runs
 abbrev pub ranBy : (c : Call) → Accepted c → Ran
-ranBy c a = running smallCount (c .strip) (startOf c) (requestOf (a .frame))
+ranBy c a = running (placesOf c) (c .strip) (startOf c) (requestOf (a .frame))
 
 -- a call is turned away with a number that is not 0, or it is accepted and answered
 pub data Told (c : Call) : Effect → Type 0 where
@@ -166,7 +165,7 @@ pub data Told (c : Call) : Effect → Type 0 where
 
 module _ (c : Call) where
   -- where the sizes and the table are right, the frame that the request was read as decides
-  by-frame : roomLeast ≤ length (c .output) → length (c .strip) ≡ stripSize → sound smallCount (c .table) ≡ true
+  by-frame : roomLeast ≤ length (c .output) → length (c .strip) ≡ stripSize → tableRight (c .table) ≡ true
       → (items : Items) → message (c .request) ≡ some items → (o : Option Frame) → frameIn items ≡ o
       → Told c (carryOut (c .clock) (c .table) (c .strip) (c .output) (framing o))
   unfolding framing carryOut

@@ -16,12 +16,12 @@ use Rattle.octets.proofs.Over.{length-over}
 use Rattle.ttlv.specs.Items.{encode}
 use Rattle.ttlv.specs.Parse.{message}
 use Rattle.ttlv.proofs.Message.{message-spells}
-use Rattle.table.specs.Layout.{smallCount}
-use Rattle.table.specs.Records.{latestClock}
+use Rattle.table.specs.Records.{placeAt, latestClock}
 use Rattle.values.specs.Values.{aboveZero}
 use Rattle.changes.specs.Dates.{ripened, countedClock}
 use Rattle.keeps.proofs.Keeps.{Held, facts}
 use Rattle.keeps.proofs.Dates.{keeps-began, began-last, began-latest, began-places}
+use Rattle.place_counts.proofs.Counts.{right-sound}
 use Rattle.octets.proofs.If.{on-if}
 use Rattle.octets.proofs.Bools.{and-l, and-r, and-i}
 use Rattle.frame.specs.Frame.{framing, framed, optionOf, batchMost}
@@ -36,7 +36,7 @@ use Rattle.engine.specs.Batch.{running}
 use Rattle.engine.specs.Effects.{Effect, roomLeast}
 use Rattle.engine.specs.Serving.{responseTo, answered}
 use Rattle.engine.proofs.Batches.{Leaves, batch-leaves}
-use Rattle.demands.specs.Box.{Call, Box, Lent, recordIn, counted}
+use Rattle.demands.specs.Box.{Call, Box, Lent, placesOf, counted}
 use Rattle.demands.specs.Demand1.{Demand1, Untouched, Within}
 use Rattle.demands.specs.Demand2.{Demand2, Answered, Begins, meant, refusalConditions, lowest}
 use Rattle.demands.proofs.Chains.{batch-chain}
@@ -52,8 +52,8 @@ counting-is c =
 
 module _ (c : Call) (lent : Lent c) (a : Accepted c) where
   -- the table that it meets
-  pub held-lent : Held smallCount (c .table)
-  held-lent = record { right = a .right; bytes = lent .table }
+  pub held-lent : Held (placesOf c) (c .table)
+  held-lent = record { right = right-sound (c .table) (a .right); bytes = lent .table }
 
   clock-least : 1 ≤ c .clock
   clock-least = leb-true 1 (c .clock) (and-l (leb 1 (c .clock)) (ltb (c .clock) (2 ^ 63)) (a .clock))
@@ -68,7 +68,7 @@ module _ (c : Call) (lent : Lent c) (a : Accepted c) where
 
   pub counting-fits : counting c < 2 ^ 63
   unfolding countedClock
-  counting-fits = on-if (λ (k : ℕ). k < 2 ^ 63) (λ e. facts smallCount (c .table) held-lent .latest) (λ e. clock-most)
+  counting-fits = on-if (λ (k : ℕ). k < 2 ^ 63) (λ e. facts (placesOf c) (c .table) held-lent .latest) (λ e. clock-most)
 
   counting-least : 1 ≤ counting c
   unfolding countedClock
@@ -79,16 +79,16 @@ module _ (c : Call) (lent : Lent c) (a : Accepted c) where
   counting-above = and-i (leb 1 (counting c)) (ltb (counting c) (2 ^ 63)) (le-leb 1 (counting c) counting-least) (lt-ltb (counting c) (2 ^ 63) counting-fits)
 
   -- the table that its first item meets
-  pub held-start : Held smallCount (startOf c)
-  held-start = keeps-began smallCount (c .table) held-lent (counting c) counting-later counting-fits
+  pub held-start : Held (placesOf c) (startOf c)
+  held-start = keeps-began (placesOf c) (c .table) held-lent (counting c) counting-later counting-fits
 
   pub start-begins : Begins c (startOf c)
   start-begins = record {
     right = held-start .right;
     bytes = held-start .bytes;
-    issued = began-last smallCount (c .table) held-lent (counting c) counting-later counting-fits;
-    latest = began-latest smallCount (c .table) held-lent (counting c) counting-later counting-fits ∙ counting-is c;
-    places = λ i low. began-places smallCount (c .table) held-lent (counting c) counting-later counting-fits i low ∙ ap (λ (k : ℕ). ripened k (recordIn (c .table) i)) (counting-is c);
+    issued = began-last (placesOf c) (c .table) held-lent (counting c) counting-later counting-fits;
+    latest = began-latest (placesOf c) (c .table) held-lent (counting c) counting-later counting-fits ∙ counting-is c;
+    places = λ i low. began-places (placesOf c) (c .table) held-lent (counting c) counting-later counting-fits i low ∙ ap (λ (k : ℕ). ripened k (placeAt (placesOf c) (c .table) i)) (counting-is c);
   }
 
   -- its items are bounded as the frame bounds them
@@ -108,10 +108,10 @@ module _ (c : Call) (lent : Lent c) (a : Accepted c) where
       (omega arith, omega arith)
 
   -- what the batch of an accepted call leaves
-  pub ran-leaves : Leaves smallCount (c .strip) (optionOf (a .frame .header .option)) (lent .strip) (startOf c) (a .frame .items) (ranBy c a)
+  pub ran-leaves : Leaves (placesOf c) (c .strip) (optionOf (a .frame .header .option)) (lent .strip) (startOf c) (a .frame .items) (ranBy c a)
   unfolding running
   ran-leaves =
-      batch-leaves smallCount (c .strip) (optionOf (a .frame .header .option)) (lent .strip) (a .frame .items) 0 0 (startOf c)
+      batch-leaves (placesOf c) (c .strip) (optionOf (a .frame .header .option)) (lent .strip) (a .frame .items) 0 0 (startOf c)
       held-start bounded (omega (arith, count-facts .1, a .strip))
 
   -- its response is one that there is

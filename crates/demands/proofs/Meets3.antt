@@ -16,8 +16,8 @@ told-refused c e (accepted a) h = absurd (h refl)
 
 module _ (B : Box) (is : (c : Call) (e : Effect) → Lent c → B c e → e ≡ served c) where
   pub meets-3 : Demand3 B
-  meets-3 = record {
-    goes = λ log t r c e same lent b. call-goes B is c e lent b log t same (run-books B is r) .goes;
+  meets-3 n ok = record {
+    goes = λ log t r c e same lent b. call-goes B is n c e lent b log t same (run-books B is n ok r) .goes;
     asked = λ log t r c e same lent b. call-asked B is c e lent b;
     refused = λ log t r c e same lent b h.
         subst (λ (x : Effect). (x .number ≡ 0 → ⊥) → x .table ≡ c .table) (sym (is c e lent b)) (told-refused c (served c) (told c)) h ∙ same;

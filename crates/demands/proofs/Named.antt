@@ -11,7 +11,7 @@ use Rattle.octets.specs.Octets.{Bytes}
 use Rattle.octets.proofs.Maybe.{some-is, on-bind, on-test}
 use Rattle.ttlv.specs.Items.{Items}
 use Rattle.table.specs.declared.Record.{Record}
-use Rattle.table.specs.Layout.{smallCount, materialSize}
+use Rattle.table.specs.Layout.{materialSize}
 use Rattle.table.specs.Records.{placeAt, serialAt, nameAt}
 use Rattle.table.proofs.Places.{name-is}
 use Rattle.table.proofs.Blank.{zero-place}
@@ -38,7 +38,7 @@ use Rattle.engine.specs.Effects.{Effect}
 use Rattle.engine.proofs.Steps.{step-held}
 use Rattle.engine.proofs.Commands.{Commanded, to-locate, commanded}
 use Rattle.engine.proofs.Batches.{own-bytes, own-long}
-use Rattle.demands.specs.Box.{Call, Box, Lent, recordIn}
+use Rattle.demands.specs.Box.{Call, Box, Lent, placesOf}
 use Rattle.demands.specs.Log.{Event}
 use Rattle.demands.specs.Demand1.{Demand1}
 use Rattle.demands.specs.Demand2.{Demand2, Answered, Link, Due, linkAt, Chain, none-left, stops, goes-on}
@@ -46,28 +46,28 @@ use Rattle.demands.specs.Demand3.{Run, carries}
 use Rattle.demands.specs.Hope.{Every, none, more}
 use Rattle.demands.specs.Names.{NamesApart, OnlyNamed, LocatedAs, Named, Naming}
 use Rattle.demands.proofs.Chains.{due-step}
-use Rattle.demands.proofs.Hoped.{start-point, strip-fits, number-is, run-reached}
+use Rattle.demands.proofs.Hoped.{start-point, strip-fits, number-is, run-reached, run-places}
 use Rattle.demands.proofs.Serve.{Serve, demand-1, demand-2}
 
 -- ---- a table
 
-module _ (t : List ℕ) (held : Held smallCount t) where
-  names-apart : NamesApart t
+module _ {n : ℕ} (t : List ℕ) (held : Held n t) where
+  names-apart : NamesApart n t
   names-apart i j h g there e =
-      facts smallCount t held .named i j h g (ap isNamed (name-is smallCount t i) ∙ there) (name-is smallCount t i ∙ e ∙ sym (name-is smallCount t j))
+      facts n t held .named i j h g (ap isNamed (name-is n t i) ∙ there) (name-is n t i ∙ e ∙ sym (name-is n t j))
 
   -- a record with a name stands
-  named-stands : (i : ℕ) → i < smallCount → isNamed (nameAt smallCount t i) ≡ true → serialAt t i ≡ 0 → ⊥
+  named-stands : (i : ℕ) → i < n → isNamed (nameAt n t i) ≡ true → serialAt t i ≡ 0 → ⊥
   named-stands i low there z =
-      let empty = facts smallCount t held .free i low z in
-      let bare : placeAt smallCount t i ≡ _ = zero-place smallCount t i (facts smallCount t held .size) low (empty .line) (empty .body) in
-      true≢false (sym there ∙ ap isNamed (name-is smallCount t i ∙ ap (λ (r : Record). r .name) bare))
+      let empty = facts n t held .free i low z in
+      let bare : placeAt n t i ≡ _ = zero-place n t i (facts n t held .size) low (empty .line) (empty .body) in
+      true≢false (sym there ∙ ap isNamed (name-is n t i ∙ ap (λ (r : Record). r .name) bare))
 
-  located : (name : Name) → isNamed name ≡ true → (f : Found) → findName smallCount t name ≡ f → LocatedAs name t (serialFound t f)
+  located : (name : Name) → isNamed name ≡ true → (f : Found) → findName n t name ≡ f → LocatedAs n name t (serialFound t f)
   unfolding serialFound
   located name is (At i) e =
-      let low = found-name-below smallCount t name i e in
-      let here = found-name smallCount t name i e in
+      let low = found-name-below n t name i e in
+      let here = found-name n t name i e in
       let there = ap isNamed here ∙ is in
       record {
         nothing = λ z. absurd (named-stands i low there z);
@@ -75,13 +75,13 @@ module _ (t : List ℕ) (held : Held smallCount t) where
           i,
           record { below = low; serial = refl },
           record {
-            here = sym (name-is smallCount t i) ∙ here;
-            only = λ j l q. sym (facts smallCount t held .named i j low l there (here ∙ sym q ∙ sym (name-is smallCount t j)));
+            here = sym (name-is n t i) ∙ here;
+            only = λ j l q. sym (facts n t held .named i j low l there (here ∙ sym q ∙ sym (name-is n t j)));
           },
         );
       }
   located name is Nothing e = record {
-    nothing = λ z j l q. none-named smallCount t name is e j l (name-is smallCount t j ∙ q);
+    nothing = λ z j l q. none-named n t name is e j l (name-is n t j ∙ q);
     there = λ z. absurd (z refl);
   }
 
@@ -123,33 +123,33 @@ asked-named operation t e = locate-named t (sym (of-locate operation t (locate-i
         by-locate : {name : Name} → Commanded operation (Locate name) → operation ≡ locate
         by-locate (to-locate o) = o
 
-module _ (strip : List ℕ) (k holder : ℕ) (t : List ℕ) (asked : Asked) (held : Held smallCount t) where
+module _ {n : ℕ} (strip : List ℕ) (k holder : ℕ) (t : List ℕ) (asked : Asked) (held : Held n t) where
   abbrev env : Env
-  env = envAt smallCount strip k
+  env = envAt n strip k
 
   -- an item that asks for a name answers what is found
-  step-locates : (name : Name) → command (asked .operation) (asked .payload) ≡ Locate name → LocatedAs name t (carries (step env holder t asked .outcome))
+  step-locates : (name : Name) → command (asked .operation) (asked .payload) ≡ Locate name → LocatedAs n name t (carries (step env holder t asked .outcome))
   unfolding step plan locatePlan carries
   step-locates name e =
       let did : carriedOut t (plan env holder t (command (asked .operation) (asked .payload))) ≡ locatePlan env holder t name .did = ap (λ (c : Command). carriedOut t (plan env holder t c)) e ∙ is-done t _ in
-      subst (λ (serial : ℕ). LocatedAs name t serial) (sym (ap (λ (d : Did). carries (d .outcome)) did))
-      (located t held name (asked-named (asked .operation) (asked .payload) e) (findName smallCount t name) refl)
+      subst (λ (serial : ℕ). LocatedAs n name t serial) (sym (ap (λ (d : Did). carries (d .outcome)) did))
+      (located t held name (asked-named (asked .operation) (asked .payload) e) (findName n t name) refl)
 
 -- ---- the items of a call
 
 module _ (c : Call) (strip-bytes : Bytes (c .strip)) (option : ℕ) where
   -- a link that is due is the one that is carried out
-  due-named : (i holder : ℕ) (t : List ℕ) (asked : Asked) → materialSize * i + materialSize ≤ length (c .strip) → Held smallCount t
-      → (did : Did) → Due (linkAt c i holder t asked did) → Named (linkAt c i holder t asked did) × Held smallCount (did .table)
+  due-named : (i holder : ℕ) (t : List ℕ) (asked : Asked) → materialSize * i + materialSize ≤ length (c .strip) → Held (placesOf c) t
+      → (did : Did) → Due (linkAt c i holder t asked did) → Named (placesOf c) (linkAt c i holder t asked did) × Held (placesOf c) (did .table)
   due-named i holder t asked fits held did d =
-      let own = envAt smallCount (c .strip) i in
-      let after : Held smallCount (step own holder t asked .table) =
-      step-held own holder t held (own-bytes smallCount (c .strip) option strip-bytes i fits) (own-long smallCount (c .strip) option strip-bytes i fits) asked in
-      subst (λ (q : Did). Named (linkAt c i holder t asked q) × Held smallCount (q .table)) (sym (due-step (linkAt c i holder t asked did) d))
+      let own = envAt (placesOf c) (c .strip) i in
+      let after : Held (placesOf c) (step own holder t asked .table) =
+      step-held own holder t held (own-bytes (placesOf c) (c .strip) option strip-bytes i fits) (own-long (placesOf c) (c .strip) option strip-bytes i fits) asked in
+      subst (λ (q : Did). Named (placesOf c) (linkAt c i holder t asked q) × Held (placesOf c) (q .table)) (sym (due-step (linkAt c i holder t asked did) d))
       (record { meets = names-apart t held; leaves = names-apart (step own holder t asked .table) after; locates = step-locates (c .strip) i holder t asked held }, after)
 
   chain-named : {i holder : ℕ} {t u : List ℕ} {items : List Asked} {links : List Link} → Chain c option i holder t items links u
-      → materialSize * (i + length items) ≤ length (c .strip) → Held smallCount t → Every Named links
+      → materialSize * (i + length items) ≤ length (c .strip) → Held (placesOf c) t → Every (Named (placesOf c)) links
   chain-named none-left fits held = none
   chain-named (stops {i} {holder} {t} asked did d g) fits held = more (due-named i holder t asked (omega arith) held did d .0) none
   chain-named (goes-on {i} {holder} {t} asked did d g rest) fits held =
@@ -160,11 +160,12 @@ module _ (c : Call) (strip-bytes : Bytes (c .strip)) (option : ℕ) where
 
 module _ (B : Box) (d1 : Demand1 B) (d2 : Demand2 B) where
   pub naming-follows : Naming B
-  naming-follows = record {
-    apart = λ {log} {t} run. names-apart t (run-reached B d1 d2 run .point .held);
-    between = λ run c e same lent b n g.
-        let a = number-is B d1 d2 c e lent b n in
-        chain-named c (lent .strip) (optionOf (g .frame .header .option)) (g .chain) (strip-fits c e lent a g) (start-point c e lent a g .held);
+  naming-follows n ok = record {
+    apart = λ {log} {t} run. names-apart t (run-reached B d1 d2 n ok run .point .held);
+    between = λ run c e same lent b z g.
+        let a = number-is B d1 d2 c e lent b z in
+        subst (λ (k : ℕ). Every (Named k) (g .links)) (run-places B d1 d2 n ok run c same)
+        (chain-named c (lent .strip) (optionOf (g .frame .header .option)) (g .chain) (strip-fits c e lent a g) (start-point c e lent a g .held));
   }
 
 -- the box that ships has it

@@ -10,7 +10,6 @@ use lib.Dec.{eqb}
 use borrow.Author.Tests.{eq-eqb}
 use Rattle.octets.proofs.Bools.{and-i, or-l, or-r}
 use Rattle.table.specs.declared.Record.{Record}
-use Rattle.table.specs.Layout.{smallCount}
 use Rattle.table.specs.Records.{placeAt, serialAt, lastSerial, latestClock}
 use Rattle.table.proofs.Places.{serial-is}
 use Rattle.search.specs.Search.{isDestroyed}
@@ -61,46 +60,46 @@ module _ (clock : ℕ) (r : Record) where
 
 -- ---- the table
 
-module _ (t : List ℕ) (held : Held smallCount t) (clock : ℕ) (later : latestClock t ≤ clock) (fits : clock < 2 ^ 63) where
+module _ {n : ℕ} (t : List ℕ) (held : Held n t) (clock : ℕ) (later : latestClock t ≤ clock) (fits : clock < 2 ^ 63) where
   abbrev start : List ℕ
-  start = began smallCount clock t
+  start = began n clock t
 
-  place : (i : ℕ) → i < smallCount → placeAt smallCount start i ≡ ripened clock (placeAt smallCount t i)
-  place = began-places smallCount t held clock later fits
+  place : (i : ℕ) → i < n → placeAt n start i ≡ ripened clock (placeAt n t i)
+  place = began-places n t held clock later fits
 
   -- identifiers stay in their places
-  serial-stays : (i : ℕ) → i < smallCount → serialAt start i ≡ serialAt t i
+  serial-stays : (i : ℕ) → i < n → serialAt start i ≡ serialAt t i
   unfolding ripened inState
-  serial-stays i low = serial-is smallCount start i ∙ ap (λ (r : Record). r .serial) (place i low) ∙ sym (serial-is smallCount t i)
+  serial-stays i low = serial-is n start i ∙ ap (λ (r : Record). r .serial) (place i low) ∙ sym (serial-is n t i)
 
-  pub due-only : DueOnly clock t start
+  pub due-only : DueOnly n clock t start
   unfolding ripened inState
   due-only = record {
-    latest = inr (began-latest smallCount t held clock later fits);
-    issued = began-last smallCount t held clock later fits;
-    moves = λ i low other. subst (λ (r : Record). (r .state ≡ placeAt smallCount t i .state → ⊥) → listedBy clock (placeAt smallCount t i) (r .state) ≡ true) (sym (place i low)) (ripe-moves i) other;
-    others = λ i low. subst (λ (r : Record). r ≡ inState (r .state) (placeAt smallCount t i .material) (placeAt smallCount t i)) (sym (place i low)) (ripe-others i);
+    latest = inr (began-latest n t held clock later fits);
+    issued = began-last n t held clock later fits;
+    moves = λ i low other. subst (λ (r : Record). (r .state ≡ placeAt n t i .state → ⊥) → listedBy clock (placeAt n t i) (r .state) ≡ true) (sym (place i low)) (ripe-moves i) other;
+    others = λ i low. subst (λ (r : Record). r ≡ inState (r .state) (placeAt n t i .material) (placeAt n t i)) (sym (place i low)) (ripe-others i);
   }
     where
-      ripe-moves : (i : ℕ) → (ripened clock (placeAt smallCount t i) .state ≡ placeAt smallCount t i .state → ⊥) → listedBy clock (placeAt smallCount t i) (ripened clock (placeAt smallCount t i) .state) ≡ true
-      ripe-moves i moved = ripe-listed clock (placeAt smallCount t i) moved
+      ripe-moves : (i : ℕ) → (ripened clock (placeAt n t i) .state ≡ placeAt n t i .state → ⊥) → listedBy clock (placeAt n t i) (ripened clock (placeAt n t i) .state) ≡ true
+      ripe-moves i moved = ripe-listed clock (placeAt n t i) moved
 
-      ripe-others : (i : ℕ) → ripened clock (placeAt smallCount t i) ≡ inState (ripened clock (placeAt smallCount t i) .state) (placeAt smallCount t i .material) (placeAt smallCount t i)
+      ripe-others : (i : ℕ) → ripened clock (placeAt n t i) ≡ inState (ripened clock (placeAt n t i) .state) (placeAt n t i .material) (placeAt n t i)
       ripe-others i = refl
 
   module _ (log : List Event) where
-    inv-began : Inv smallCount log t → Inv smallCount log start
+    inv-began : Inv n log t → Inv n log start
     unfolding ripened inState
     inv-began inv = record {
-      held = keeps-began smallCount t held clock later fits;
+      held = keeps-began n t held clock later fits;
       balanced = λ i low z. subst (Balanced log) (sym (place i low))
-          (ripe-balanced clock (placeAt smallCount t i) log (inv .balanced i low (λ k. z (ap (λ (r : Record). r .serial) (place i low) ∙ k))));
+          (ripe-balanced clock (placeAt n t i) log (inv .balanced i low (λ k. z (ap (λ (r : Record). r .serial) (place i low) ∙ k))));
       within = inv .within;
       once = inv .once;
-      later = λ x l. inv .later x (subst (λ (k : ℕ). k < x) (began-last smallCount t held clock later fits) l);
+      later = λ x l. inv .later x (subst (λ (k : ℕ). k < x) (began-last n t held clock later fits) l);
     }
 
-    dead-began : Dead log t → Dead log start
+    dead-began : Dead n log t → Dead n log start
     unfolding ripened inState
     dead-began d = record {
       states = λ x i z s w. subst (λ (r : Record). isDestroyed (r .state) ≡ true) (sym (place i (s .below)))
@@ -109,9 +108,9 @@ module _ (t : List ℕ) (held : Held smallCount t) (clock : ℕ) (later : latest
       silent = d .silent;
     }
       where
-        ripe-state : (i : ℕ) → isDestroyed (placeAt smallCount t i .state) ≡ true → isDestroyed (ripened clock (placeAt smallCount t i) .state) ≡ true
-        ripe-state i e = ripe-destroyed clock (placeAt smallCount t i) e
+        ripe-state : (i : ℕ) → isDestroyed (placeAt n t i .state) ≡ true → isDestroyed (ripened clock (placeAt n t i) .state) ≡ true
+        ripe-state i e = ripe-destroyed clock (placeAt n t i) e
 
     -- the books stay in order
-    pub books-began : Books log t → Books log start
+    pub books-began : Books n log t → Books n log start
     books-began b = record { inv = inv-began (b .inv); dead = dead-began (b .dead) }

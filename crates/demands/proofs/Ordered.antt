@@ -7,7 +7,7 @@ use mathlib.Core.List.{List}
 use lib.ListN.{length, replicate}
 use lib.Dec.{eqb}
 use borrow.Author.Tests.{eqb-true}
-use Rattle.table.specs.Layout.{smallCount, materialSize}
+use Rattle.table.specs.Layout.{materialSize}
 use Rattle.table.specs.Records.{placeAt, serialAt}
 use Rattle.search.specs.Search.{isDestroyed}
 use Rattle.table.proofs.Places.{serial-is, place-range}
@@ -21,37 +21,37 @@ use Rattle.demands.proofs.Logged.{Inv}
 use Rattle.demands.proofs.Dead.{Dead}
 
 -- a record that stands, as the invariant sees it
-standing : (x : ℕ) (t : List ℕ) (i : ℕ) → Stands x t i → placeAt smallCount t i .serial ≡ x
-standing x t i s = sym (serial-is smallCount t i) ∙ s .serial
+standing : {n : ℕ} (x : ℕ) (t : List ℕ) (i : ℕ) → Stands n x t i → placeAt n t i .serial ≡ x
+standing {n} x t i s = sym (serial-is n t i) ∙ s .serial
 
-balanced : (log : List Event) (t : List ℕ) → Inv smallCount log t → (x i : ℕ) → (x ≡ 0 → ⊥) → (s : Stands x t i)
-    → (granted x log + placeAt smallCount t i .count ≡ limit x log) × (placeAt smallCount t i .total ≡ limit x log) × (issued x log ≡ 1)
-balanced log t inv x i z s =
+balanced : {n : ℕ} (log : List Event) (t : List ℕ) → Inv n log t → (x i : ℕ) → (x ≡ 0 → ⊥) → (s : Stands n x t i)
+    → (granted x log + placeAt n t i .count ≡ limit x log) × (placeAt n t i .total ≡ limit x log) × (issued x log ≡ 1)
+balanced {n} log t inv x i z s =
     let e = standing x t i s in
     let b = inv .balanced i (s .below) (λ k. z (sym e ∙ k)) in (
-      subst (λ (y : ℕ). granted y log + placeAt smallCount t i .count ≡ limit y log) e (b .count),
-      subst (λ (y : ℕ). placeAt smallCount t i .total ≡ limit y log) e (b .total),
+      subst (λ (y : ℕ). granted y log + placeAt n t i .count ≡ limit y log) e (b .count),
+      subst (λ (y : ℕ). placeAt n t i .total ≡ limit y log) e (b .total),
       subst (λ (y : ℕ). issued y log ≡ 1) e (b .once),
     )
 
 -- the material of a destroyed record
-wiped-zero : (t : List ℕ) → Held smallCount t → (i : ℕ) → i < smallCount → isDestroyed (placeAt smallCount t i .state) ≡ true → placeAt smallCount t i .material ≡ replicate materialSize 0
-wiped-zero t held i low d = go (eqb (serialAt t i) 0) refl
+wiped-zero : {n : ℕ} (t : List ℕ) → Held n t → (i : ℕ) → i < n → isDestroyed (placeAt n t i .state) ≡ true → placeAt n t i .material ≡ replicate materialSize 0
+wiped-zero {n} t held i low d = go (eqb (serialAt t i) 0) refl
   where
-    long : length (placeAt smallCount t i .material) ≡ materialSize
-    long = place-range smallCount t i (facts smallCount t held .size) low (held .bytes) .long
+    long : length (placeAt n t i .material) ≡ materialSize
+    long = place-range n t i (facts n t held .size) low (held .bytes) .long
 
-    go : (b : Bool) → eqb (serialAt t i) 0 ≡ b → placeAt smallCount t i .material ≡ replicate materialSize 0
-    go true e = ap (λ r. r .material) (zero-place smallCount t i (facts smallCount t held .size) low (free .line) (free .body))
+    go : (b : Bool) → eqb (serialAt t i) 0 ≡ b → placeAt n t i .material ≡ replicate materialSize 0
+    go true e = ap (λ r. r .material) (zero-place n t i (facts n t held .size) low (free .line) (free .body))
       where
-        free : Empty smallCount t i
-        free = facts smallCount t held .free i low (eqb-true (serialAt t i) 0 e)
+        free : Empty n t i
+        free = facts n t held .free i low (eqb-true (serialAt t i) 0 e)
     go false e =
-        pass-zeros (placeAt smallCount t i .material) (facts smallCount t held .fit i low (λ z. true≢false (sym (ap (λ (k : ℕ). eqb k 0) z) ∙ e)) .wiped d)
+        pass-zeros (placeAt n t i .material) (facts n t held .fit i low (λ z. true≢false (sym (ap (λ (k : ℕ). eqb k 0) z) ∙ e)) .wiped d)
         ∙ ap (λ (k : ℕ). replicate k 0) long
 
 -- what the invariant says
-pub inv-order : (log : List Event) (t : List ℕ) → Inv smallCount log t → Dead log t → InOrder log t
+pub inv-order : {n : ℕ} (log : List Event) (t : List ℕ) → Inv n log t → Dead n log t → InOrder n log t
 inv-order log t inv d = record {
   balance = λ x i z s. balanced log t inv x i z s .0;
   total = λ x i z s. balanced log t inv x i z s .1;

@@ -10,7 +10,7 @@ use borrow.Author.Tests.{eq-eqb, ne-eqb}
 use Rattle.octets.specs.If.{ifb}
 use Rattle.octets.specs.Octets.{Bytes}
 use Rattle.octets.proofs.If.{ifb-true, ifb-false, on-if}
-use Rattle.table.specs.Layout.{smallCount, materialSize}
+use Rattle.table.specs.Layout.{materialSize}
 use Rattle.rules.specs.Numbers.{rekey, getUsageAllocation, activate, revoke, destroy}
 use Rattle.batch_item.specs.Item.{Asked}
 use Rattle.rules.specs.declared.Offset.{Offset}
@@ -67,42 +67,42 @@ paired-end held [] = refl
 paired-end held (asked ∷ items) = refl
 
 -- what holds of the log and the table between any two items: the counts, and the dead
-pub record Books (log : List Event) (t : List ℕ) : Type 0 where
-  pub inv : Inv smallCount log t
-  pub dead : Dead log t
+pub record Books (n : ℕ) (log : List Event) (t : List ℕ) : Type 0 where
+  pub inv : Inv n log t
+  pub dead : Dead n log t
 
 -- from a log and a table along events to a table: a path, and what holds behind it
-pub record Travelled (log : List Event) (t : List ℕ) (events : List Event) (v : List ℕ) : Type 0 where
-  pub path : Path log t events v
-  pub books : Books (onto events log) v
+pub record Travelled (n : ℕ) (log : List Event) (t : List ℕ) (events : List Event) (v : List ℕ) : Type 0 where
+  pub path : Path n log t events v
+  pub books : Books n (onto events log) v
 
 -- nothing happened
-pub stood : {log : List Event} {t : List ℕ} → Books log t → Travelled log t [] t
+pub stood : {n : ℕ} {log : List Event} {t : List ℕ} → Books n log t → Travelled n log t [] t
 unfolding onto
 stood b = record { path = arrived; books = b }
 
 -- one item in front of the others
-onward : {log events : List Event} {t v : List ℕ} (ev : Event) (u : List ℕ) → Tame ev t u → Books (ev ∷ log) u → Travelled (ev ∷ log) u events v → Travelled log t (ev ∷ events) v
+onward : {n : ℕ} {log events : List Event} {t v : List ℕ} (ev : Event) (u : List ℕ) → Tame n ev t u → Books n (ev ∷ log) u → Travelled n (ev ∷ log) u events v → Travelled n log t (ev ∷ events) v
 unfolding onto
-onward {log} ev u tame b rest = record { path = went ev u tame (inv-order (ev ∷ log) u (b .inv) (b .dead)) (rest .path); books = rest .books }
+onward {n} {log} ev u tame b rest = record { path = went ev u tame (inv-order (ev ∷ log) u (b .inv) (b .dead)) (rest .path); books = rest .books }
 
-module _ (strip : List ℕ) (option : ℕ) (strip-bytes : Bytes strip) where
+module _ (n : ℕ) (strip : List ℕ) (option : ℕ) (strip-bytes : Bytes strip) where
   -- one item keeps the invariant
-  step-inv : (i holder : ℕ) (t : List ℕ) (asked : Asked) (log : List Event) → materialSize * i + materialSize ≤ length strip → Inv smallCount log t
-      → Inv smallCount (eventOf holder asked (step (envAt smallCount strip i) holder t asked) ∷ log) (step (envAt smallCount strip i) holder t asked .table)
+  step-inv : (i holder : ℕ) (t : List ℕ) (asked : Asked) (log : List Event) → materialSize * i + materialSize ≤ length strip → Inv n log t
+      → Inv n (eventOf holder asked (step (envAt n strip i) holder t asked) ∷ log) (step (envAt n strip i) holder t asked .table)
   step-inv i holder t asked log l inv =
-      let env = envAt smallCount strip i in
-      let fresh = own-bytes smallCount strip option strip-bytes i l in
-      inv-event smallCount log t inv (eventOf holder asked (step env holder t asked)) (step env holder t asked) refl
+      let env = envAt n strip i in
+      let fresh = own-bytes n strip option strip-bytes i l in
+      inv-event n log t inv (eventOf holder asked (step env holder t asked)) (step env holder t asked) refl
       (kind-counts env holder t (inv .held) fresh _ _ (step-kind env holder t asked) (commanded (asked .operation) (asked .payload)))
-      (step-held env holder t (inv .held) fresh (own-long smallCount strip option strip-bytes i l) asked)
+      (step-held env holder t (inv .held) fresh (own-long n strip option strip-bytes i l) asked)
 
   -- and the dead stay so
-  step-books : (i holder : ℕ) (t : List ℕ) (asked : Asked) (log : List Event) → materialSize * i + materialSize ≤ length strip → Books log t
-      → Tame (eventOf holder asked (step (envAt smallCount strip i) holder t asked)) t (step (envAt smallCount strip i) holder t asked .table)
-      → Books (eventOf holder asked (step (envAt smallCount strip i) holder t asked) ∷ log) (step (envAt smallCount strip i) holder t asked .table)
+  step-books : (i holder : ℕ) (t : List ℕ) (asked : Asked) (log : List Event) → materialSize * i + materialSize ≤ length strip → Books n log t
+      → Tame n (eventOf holder asked (step (envAt n strip i) holder t asked)) t (step (envAt n strip i) holder t asked .table)
+      → Books n (eventOf holder asked (step (envAt n strip i) holder t asked) ∷ log) (step (envAt n strip i) holder t asked .table)
   step-books i holder t asked log l b tame =
-      let did = step (envAt smallCount strip i) holder t asked in
+      let did = step (envAt n strip i) holder t asked in
       let after = step-inv i holder t asked log l (b .inv) in
       record {
         inv = after;
@@ -111,35 +111,35 @@ module _ (strip : List ℕ) (option : ℕ) (strip-bytes : Bytes strip) where
 
   -- what is shown of a batch, with the log and the table before it
   abbrev Claim : List Event → List ℕ → ℕ → List Asked → Ran → Type 0
-  Claim log t holder items ran = Travelled log t (paired holder items (ran .answers)) (ran .table)
+  Claim log t holder items ran = Travelled n log t (paired holder items (ran .answers)) (ran .table)
 
   -- a batch goes along its events
-  pub batch-travels : (items : List Asked) (i holder : ℕ) (t : List ℕ) (log : List Event) → materialSize * (i + length items) ≤ length strip → Books log t
-      → Claim log t holder items (batch smallCount strip option i holder t items)
+  pub batch-travels : (items : List Asked) (i holder : ℕ) (t : List ℕ) (log : List Event) → materialSize * (i + length items) ≤ length strip → Books n log t
+      → Claim log t holder items (batch n strip option i holder t items)
   unfolding batch paired
   batch-travels [] i holder t log l b = stood b
   batch-travels (asked ∷ later) i holder t log l b =
-      turn (step (envAt smallCount strip i) holder t asked)
+      turn (step (envAt n strip i) holder t asked)
       tame
       after
-      (kind-holder (envAt smallCount strip i) holder t (answerTo asked (step (envAt smallCount strip i) holder t asked)) _ _ (step-kind (envAt smallCount strip i) holder t asked) (commanded (asked .operation) (asked .payload)))
-      (batch-travels later (i + 1) (step (envAt smallCount strip i) holder t asked .holder) (step (envAt smallCount strip i) holder t asked .table)
-      (eventOf holder asked (step (envAt smallCount strip i) holder t asked) ∷ log) (omega arith) after)
+      (kind-holder (envAt n strip i) holder t (answerTo asked (step (envAt n strip i) holder t asked)) _ _ (step-kind (envAt n strip i) holder t asked) (commanded (asked .operation) (asked .payload)))
+      (batch-travels later (i + 1) (step (envAt n strip i) holder t asked .holder) (step (envAt n strip i) holder t asked .table)
+      (eventOf holder asked (step (envAt n strip i) holder t asked) ∷ log) (omega arith) after)
     where
-      tame : Tame (eventOf holder asked (step (envAt smallCount strip i) holder t asked)) t (step (envAt smallCount strip i) holder t asked .table)
-      tame = step-tame strip i holder t asked (b .inv .held) (own-bytes smallCount strip option strip-bytes i (omega arith)) (own-long smallCount strip option strip-bytes i (omega arith))
+      tame : Tame n (eventOf holder asked (step (envAt n strip i) holder t asked)) t (step (envAt n strip i) holder t asked .table)
+      tame = step-tame n strip i holder t asked (b .inv .held) (own-bytes n strip option strip-bytes i (omega arith)) (own-long n strip option strip-bytes i (omega arith))
 
-      after : Books (eventOf holder asked (step (envAt smallCount strip i) holder t asked) ∷ log) (step (envAt smallCount strip i) holder t asked .table)
+      after : Books n (eventOf holder asked (step (envAt n strip i) holder t asked) ∷ log) (step (envAt n strip i) holder t asked .table)
       after = step-books i holder t asked log (omega arith) b tame
 
-      turn : (did : Did) → Tame (eventOf holder asked did) t (did .table) → Books (eventOf holder asked did ∷ log) (did .table) → heldAfter holder (answerTo asked did) (did .outcome) ≡ did .holder
-          → Claim (eventOf holder asked did ∷ log) (did .table) (did .holder) later (batch smallCount strip option (i + 1) (did .holder) (did .table) later)
+      turn : (did : Did) → Tame n (eventOf holder asked did) t (did .table) → Books n (eventOf holder asked did ∷ log) (did .table) → heldAfter holder (answerTo asked did) (did .outcome) ≡ did .holder
+          → Claim (eventOf holder asked did ∷ log) (did .table) (did .holder) later (batch n strip option (i + 1) (did .holder) (did .table) later)
           → Claim log t holder (asked ∷ later)
-          (ifb (endsBatch option did) (lastly (answerTo asked did) (did .table)) (firstly (answerTo asked did) (batch smallCount strip option (i + 1) (did .holder) (did .table) later)))
+          (ifb (endsBatch option did) (lastly (answerTo asked did) (did .table)) (firstly (answerTo asked did) (batch n strip option (i + 1) (did .holder) (did .table) later)))
       turn did tame a e rest =
           on-if (Claim log t holder (asked ∷ later))
           (λ _. onward (eventOf holder asked did) (did .table) tame a
-          (subst (λ (evs : List Event). Travelled (eventOf holder asked did ∷ log) (did .table) evs (did .table)) (sym (paired-end _ later)) (stood a)))
+          (subst (λ (evs : List Event). Travelled n (eventOf holder asked did ∷ log) (did .table) evs (did .table)) (sym (paired-end _ later)) (stood a)))
           (λ _. onward (eventOf holder asked did) (did .table) tame a
-          (subst (λ (k : ℕ). Travelled (eventOf holder asked did ∷ log) (did .table) (paired k later (batch smallCount strip option (i + 1) (did .holder) (did .table) later .answers))
-          (batch smallCount strip option (i + 1) (did .holder) (did .table) later .table)) (sym e) rest))
+          (subst (λ (k : ℕ). Travelled n (eventOf holder asked did ∷ log) (did .table) (paired k later (batch n strip option (i + 1) (did .holder) (did .table) later .answers))
+          (batch n strip option (i + 1) (did .holder) (did .table) later .table)) (sym e) rest))

@@ -4,19 +4,21 @@ use Prim.Native.Nat.{ℕ, suc, _+_, _*_, _≤_}
 use native.Mathlib.Omega.{arith}
 use mathlib.Core.Path.{_≡_, refl, sym, ap, subst, _∙_}
 use mathlib.Core.Option.{Option, none, some}
+use mathlib.Core.Bool.{true}
 use mathlib.Core.List.{List, []}
 use lib.ListN.{length, take}
-use lib.Dec.{lit<}
 use Rattle.octets.specs.If.{ifb}
 use Rattle.octets.specs.Maybe.{_>>=_, _>>_}
 use Rattle.octets.specs.Octets.{over}
 use Rattle.ttlv.specs.Items.{Items}
 use Rattle.ttlv.specs.Parse.{firstOf, more, walk, parse, isOne, message}
-use Rattle.table.specs.Layout.{smallCount, materialSize}
-use Rattle.table.specs.Records.{blank}
+use Rattle.table.specs.Layout.{sizeOf, placesOk, materialSize}
+use Rattle.table.specs.Records.{placesSaid, blank}
 use Rattle.table.proofs.Places.{serial-is}
 use Rattle.table.proofs.Blank.{serial-blank}
-use Rattle.keeps.proofs.Keeps.{held-blank}
+use Rattle.place_counts.specs.Counts.{tableRight}
+use Rattle.place_counts.proofs.Counts.{count-fits, right-of}
+use Rattle.keeps.proofs.Keeps.{facts, held-blank}
 use Rattle.batch_item.specs.Item.{Asked}
 use Rattle.frame.specs.Frame.{frameIn, optionOf}
 use Rattle.answer.specs.Respond.{Answer, Response}
@@ -25,7 +27,7 @@ use Rattle.answer.proofs.One.{response-back}
 use Rattle.engine.specs.Batch.{running}
 use Rattle.engine.specs.Effects.{Effect}
 use Rattle.engine.specs.Serving.{turnedAway, responseTo, answered}
-use Rattle.demands.specs.Box.{Call, Box, Lent}
+use Rattle.demands.specs.Box.{Call, Box, Lent, placesOf}
 use Rattle.demands.specs.Log.{Event, orNoItems, orNoAnswers, itemsAsked, answersGiven, paired, eventsOf, onto, logged, issued, granted, limit}
 use Rattle.demands.specs.Demand3.{Run, begins, calls, DueOnly, Opens, accepted as opens, refused, Goes}
 use Rattle.demands.proofs.Ladder.{served, Accepted, counting, startOf, ranBy, Told, away, accepted, told}
@@ -81,52 +83,53 @@ module _ (c : Call) (lent : Lent c) (a : Accepted c) where
   strip-fits = omega (arith, count-facts c lent a .1, a .strip)
 
   -- so the call goes along them, from the table in which what is due is done
-  accepted-travels : (log : List Event) → Books log (startOf c) → Travelled log (startOf c) (eventsOf c (answered (counting c) (c .output) (ranBy c a))) (ranBy c a .table)
+  accepted-travels : (log : List Event) → Books (placesOf c) log (startOf c) → Travelled (placesOf c) log (startOf c) (eventsOf c (answered (counting c) (c .output) (ranBy c a))) (ranBy c a .table)
   unfolding running
   accepted-travels log books =
-      subst (λ (events : List Event). Travelled log (startOf c) events (ranBy c a .table)) (sym events-accepted)
-      (batch-travels (c .strip) (optionOf (a .frame .header .option)) (lent .strip) (a .frame .items) 0 0 (startOf c) log strip-fits books)
+      subst (λ (events : List Event). Travelled (placesOf c) log (startOf c) events (ranBy c a .table)) (sym events-accepted)
+      (batch-travels (placesOf c) (c .strip) (optionOf (a .frame .header .option)) (lent .strip) (a .frame .items) 0 0 (startOf c) log strip-fits books)
 
 -- ---- the blank table
 
-pub blank-inv : Inv smallCount [] (blank smallCount)
+pub blank-inv : (n : ℕ) → placesOk n ≡ true → Inv n [] (blank n)
 unfolding granted limit issued
-blank-inv = record {
-  held = held-blank smallCount (lit< tt);
-  balanced = λ i l s. absurd (s (sym (serial-is smallCount (blank smallCount) i) ∙ serial-blank smallCount i l));
+blank-inv n ok = record {
+  held = held-blank n (count-fits n ok);
+  balanced = λ i l s. absurd (s (sym (serial-is n (blank n) i) ∙ serial-blank n i l));
   within = λ x z. omega arith;
   once = λ x z. omega arith;
   later = λ x l. (refl, refl);
 }
 
-pub blank-books : Books [] (blank smallCount)
-blank-books = record { inv = blank-inv; dead = none-dead (blank smallCount) }
+pub blank-books : (n : ℕ) → placesOk n ≡ true → Books n [] (blank n)
+blank-books n ok = record { inv = blank-inv n ok; dead = none-dead n (blank n) }
 
 -- ---- runs of a box whose outcome is that of the definitions
 
 -- a call that goes, and the books behind it
-pub record Went (log : List Event) (c : Call) (e : Effect) : Type 0 where
-  pub goes : Goes log c e
-  pub books : Books (onto (eventsOf c e) log) (e .table)
+pub record Went (n : ℕ) (log : List Event) (c : Call) (e : Effect) : Type 0 where
+  pub goes : Goes n log c e
+  pub books : Books n (onto (eventsOf c e) log) (e .table)
 
 -- it opens, and travels along its events
-goes-on : (c : Call) (e : Effect) (start : List ℕ) (log : List Event) → Opens c (e .number) start → Books log start → Travelled log start (eventsOf c e) (e .table) → Went log c e
+goes-on : {n : ℕ} (c : Call) (e : Effect) (start : List ℕ) (log : List Event) → Opens n c (e .number) start → Books n log start → Travelled n log start (eventsOf c e) (e .table) → Went n log c e
 goes-on c e start log begun books travelled = record {
   goes = record { start = start; opens = begun; order = inv-order log start (books .inv) (books .dead); path = travelled .path };
   books = travelled .books;
 }
 
-told-goes : (c : Call) (e : Effect) → Lent c → Told c e → (log : List Event) → Books log (c .table) → Went log c e
+-- a call on the places that its table says
+told-goes : (c : Call) (e : Effect) → Lent c → Told c e → (log : List Event) → Books (placesOf c) log (c .table) → Went (placesOf c) log c e
 unfolding answered
 told-goes c e lent (away k) log books =
     goes-on c e (c .table) log (refused (λ z. omega arith)) books
-    (subst (λ (events : List Event). Travelled log (c .table) events (c .table)) (sym (events-away c (suc k))) (stood books))
+    (subst (λ (events : List Event). Travelled (placesOf c) log (c .table) events (c .table)) (sym (events-away c (suc k))) (stood books))
 told-goes c e lent (accepted a) log books =
     let later = counting-later c lent a in
     let fits = counting-fits c lent a in
     let due = due-only (c .table) (held-lent c lent a) (counting c) later fits in
     let opened = books-began (c .table) (held-lent c lent a) (counting c) later fits log books in
-    goes-on c e (startOf c) log (opens (subst (λ (k : ℕ). DueOnly k (c .table) (startOf c)) (counting-is c) due)) opened (accepted-travels c lent a log opened)
+    goes-on c e (startOf c) log (opens (subst (λ (k : ℕ). DueOnly (placesOf c) k (c .table) (startOf c)) (counting-is c) due)) opened (accepted-travels c lent a log opened)
 
 told-asked : (c : Call) (e : Effect) → Lent c → Told c e → length (answersGiven e) ≤ length (itemsAsked c)
 told-asked c e lent (away k) = asked-away c (suc k)
@@ -137,12 +140,22 @@ module _ (B : Box) (is : (c : Call) (e : Effect) → Lent c → B c e → e ≡ 
   pub call-asked : (c : Call) (e : Effect) → Lent c → B c e → length (answersGiven e) ≤ length (itemsAsked c)
   call-asked c e lent b = subst (λ (x : Effect). length (answersGiven x) ≤ length (itemsAsked c)) (sym (is c e lent b)) (told-asked c (served c) lent (told c))
 
-  -- each call goes along its events
-  pub call-goes : (c : Call) (e : Effect) → Lent c → B c e → (log : List Event) (t : List ℕ) → c .table ≡ t → Books log t → Went log c e
-  call-goes c e lent b log t same books = subst (Went log c) (sym (is c e lent b)) (told-goes c (served c) lent (told c) log (subst (Books log) (sym same) books))
+  module _ (n : ℕ) where
+    -- each call goes along its events, on the places of the books, which are those that its table says
+    pub call-goes : (c : Call) (e : Effect) → Lent c → B c e → (log : List Event) (t : List ℕ) → c .table ≡ t → Books n log t → Went n log c e
+    call-goes c e lent b log t same books =
+        let met : Books n log (c .table) = subst (Books n log) (sym same) books in
+        let count : placesOf c ≡ n = facts n (c .table) (met .inv .held) .count in
+        subst (λ (k : ℕ). Went k log c e) count
+        (subst (Went (placesOf c) log c) (sym (is c e lent b)) (told-goes c (served c) lent (told c) log (subst (λ (k : ℕ). Books k log (c .table)) (sym count) met)))
 
-  -- the books are right at every point of a run
-  pub run-books : {log : List Event} {t : List ℕ} → Run B log t → Books log t
-  unfolding logged
-  run-books begins = blank-books
-  run-books (calls {log} {t} c e r same lent b) = call-goes c e lent b log t same (run-books r) .books
+    module _ (ok : placesOk n ≡ true) where
+      -- the books are right at every point of a run
+      pub run-books : {log : List Event} {t : List ℕ} → Run n B log t → Books n log t
+      unfolding logged
+      run-books begins = blank-books n ok
+      run-books (calls {log} {t} c e r same lent b) = call-goes c e lent b log t same (run-books r) .books
+
+      -- "a run never changes its count": the table says the count that it began with and has its size, and is never refused with 3
+      pub run-count : {log : List Event} {t : List ℕ} → Run n B log t → (placesSaid t ≡ n) × (length t ≡ sizeOf n) × (tableRight t ≡ true)
+      run-count {log} {t} r = let held = run-books r .inv .held in (facts n t held .count, facts n t held .size, right-of t n ok (held .right))

@@ -18,7 +18,7 @@ use Rattle.octets.proofs.Bools.{and-i, and-no, or-l, or-r}
 use Rattle.table.specs.declared.Record.{Record}
 use Rattle.search.specs.declared.Found.{Found}
 use Rattle.search.specs.declared.Found.the-variants.{At, Nothing}
-use Rattle.table.specs.Layout.{smallCount, materialSize}
+use Rattle.table.specs.Layout.{materialSize}
 use Rattle.table.specs.Records.{placeAt, serialAt, isFree, lastSerial, latestClock}
 use Rattle.search.specs.Search.{find, newPlace, isDestroyed}
 use Rattle.table.proofs.Places.{serial-is, state-is}
@@ -95,10 +95,10 @@ pub foundAt : ℕ → List ℕ → Found → Record
 foundAt n t (At i) = placeAt n t i
 foundAt n t Nothing = placeAt n t 0
 
-found-same : (t : List ℕ) (f : Found) → foundAt smallCount t f ≡ foundIn t f
+found-same : (n : ℕ) (t : List ℕ) (f : Found) → foundAt n t f ≡ foundIn n t f
 unfolding foundAt foundIn
-found-same t (At i) = refl
-found-same t Nothing = refl
+found-same n t (At i) = refl
+found-same n t Nothing = refl
 
 -- the state in which what the item issues begins
 abbrev bornAs : ℕ → ℕ → List ℕ → Command → ℕ
@@ -369,10 +369,10 @@ kind-understood env holder t c did (locates name) h = absurd (true≢false h)
 abbrev pub eventOf : ℕ → Asked → Did → Event
 eventOf holder asked did = record { held = holder; asked = asked; answer = answerTo asked did }
 
-module _ (strip : List ℕ) (k holder : ℕ) (t : List ℕ) (asked : Asked) where
+module _ (n : ℕ) (strip : List ℕ) (k holder : ℕ) (t : List ℕ) (asked : Asked) where
   -- what item k meets, and what it leaves
   abbrev own : Env
-  own = envAt smallCount strip k
+  own = envAt n strip k
 
   abbrev did : Did
   did = step own holder t asked
@@ -380,31 +380,31 @@ module _ (strip : List ℕ) (k holder : ℕ) (t : List ℕ) (asked : Asked) wher
   abbrev c : Command
   c = command (asked .operation) (asked .payload)
 
-  pub step-tame : Held smallCount t → Bytes (own .fresh) → materialSize ≤ length (own .fresh) → Tame (eventOf holder asked did) t (did .table)
+  pub step-tame : Held n t → Bytes (own .fresh) → materialSize ≤ length (own .fresh) → Tame n (eventOf holder asked did) t (did .table)
   step-tame held fresh-bytes long = record {
     operation = refl;
     id = refl;
     understood = kind-understood own holder t c did went;
     failed = kind-failed own holder t c did went;
     others = λ i low a b. at i low .others a b;
-    kept = λ i low b. serial-is smallCount (did .table) i ∙ at i low .kept b ∙ sym (serial-is smallCount t i);
+    kept = λ i low b. serial-is n (did .table) i ∙ at i low .kept b ∙ sym (serial-is n t i);
     moves = λ i low b d. (let w = at i low .moves b d in record { done = w .0; named = w .1; way = w .2 });
     obeys = λ i low a f m. at i low .obeys a f m;
-    taken = λ i low y. (let w = at i low .taken y in record { was = w .0; serial = serial-is smallCount (did .table) i ∙ w .1; state = w .2 ∙ ap (bornBy (latestClock t) c) (found-same t _) });
-    stands = λ h. (let w = kind-stands own holder t held fresh-bytes c did went (commanded (asked .operation) (asked .payload)) h in (w .0, record { below = w .1; serial = serial-is smallCount (did .table) (w .0) ∙ w .2 }));
+    taken = λ i low y. (let w = at i low .taken y in record { was = w .0; serial = serial-is n (did .table) i ∙ w .1; state = w .2 ∙ ap (bornBy (latestClock t) c) (found-same n t _) });
+    stands = λ h. (let w = kind-stands own holder t held fresh-bytes c did went (commanded (asked .operation) (asked .payload)) h in (w .0, record { below = w .1; serial = serial-is n (did .table) (w .0) ∙ w .2 }));
     about = λ f z a. (let w = kind-about own holder t c did went (commanded (asked .operation) (asked .payload)) f z a in record { place = w .0; below = w .1; named = w .2; serial = w .3 });
     located = λ a h. (let w = kind-located own holder t c did went a h in (w .0, record { below = w .1; serial = w .2 }));
     hands = kind-hands own holder t c did went;
     alive = λ i low a f k. kind-alive own holder t c did went i a f k;
     latest = step-latest own holder t held fresh-bytes long asked;
-    grants = λ x z away. ⊎-elim (λ none. none) (λ h. absurd (away (h .place) (record { below = h .below; serial = serial-is smallCount t (h .place) ∙ h .serial }))) (counts .counted .granted x);
+    grants = λ x z away. ⊎-elim (λ none. none) (λ h. absurd (away (h .place) (record { below = h .below; serial = serial-is n t (h .place) ∙ h .serial }))) (counts .counted .granted x);
   }
     where
       went : Kind own holder t c did
       went = step-kind own holder t asked
 
-      counts : Counts smallCount t holder c did
+      counts : Counts n t holder c did
       counts = kind-counts own holder t held fresh-bytes c did went (commanded (asked .operation) (asked .payload))
 
-      at : (i : ℕ) → i < smallCount → TameAt smallCount holder t (asked .operation) c did i
+      at : (i : ℕ) → i < n → TameAt n holder t (asked .operation) c did i
       at i low = kind-tame own holder t held fresh-bytes i low c did went (commanded (asked .operation) (asked .payload))

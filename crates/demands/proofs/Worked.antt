@@ -328,23 +328,23 @@ placeCases =
     same (ofPlaces (λ i. isAt i (At 1))) (0 ∷ 1 ∷ 0 ∷ [])
     ∷ same (ofPlaces (λ i. isAt i Nothing)) (0 ∷ 0 ∷ 0 ∷ [])
     -- the key that the placeholder names
-    ∷ same (ofPlaces (names activating (keyed 1))) (0 ∷ 1 ∷ 0 ∷ [])
+    ∷ same (ofPlaces (names smallCount activating (keyed 1))) (0 ∷ 1 ∷ 0 ∷ [])
     -- what issues an identifier takes the lowest free place, and a failed item none
-    ∷ same (ofPlaces (takes (rekeying (Done 8)) (keyed 1))) (1 ∷ 0 ∷ 0 ∷ [])
-    ∷ same (ofPlaces (takes (rekeying (Failed UsageLimitExceeded)) (keyed 1))) (0 ∷ 0 ∷ 0 ∷ [])
-    ∷ same (ofPlaces (takes activating (keyed 1))) (0 ∷ 0 ∷ 0 ∷ [])
+    ∷ same (ofPlaces (takes smallCount (rekeying (Done 8)) (keyed 1))) (1 ∷ 0 ∷ 0 ∷ [])
+    ∷ same (ofPlaces (takes smallCount (rekeying (Failed UsageLimitExceeded)) (keyed 1))) (0 ∷ 0 ∷ 0 ∷ [])
+    ∷ same (ofPlaces (takes smallCount activating (keyed 1))) (0 ∷ 0 ∷ 0 ∷ [])
     -- Activate moves 1 to 2 and not 2 to 1
-    ∷ same (ofPlaces (listedFor activating (keyed 1) (keyed 2))) (0 ∷ 1 ∷ 0 ∷ [])
-    ∷ same (ofPlaces (listedFor activating (keyed 2) (keyed 1))) (0 ∷ 0 ∷ 0 ∷ [])
-    ∷ same (bornState activating (keyed 2) ∷ []) (1 ∷ [])
+    ∷ same (ofPlaces (listedFor smallCount activating (keyed 1) (keyed 2))) (0 ∷ 1 ∷ 0 ∷ [])
+    ∷ same (ofPlaces (listedFor smallCount activating (keyed 2) (keyed 1))) (0 ∷ 0 ∷ 0 ∷ [])
+    ∷ same (bornState smallCount activating (keyed 2) ∷ []) (1 ∷ [])
     -- at clock 5 a replacement begins as its dates make it, copied or moved by an Offset, and everything else Pre-Active
     ∷ same (map (λ c. bornBy 5 c (datedKey 4 5 2)) commands) (1 ∷ 1 ∷ 1 ∷ 3 ∷ 1 ∷ 1 ∷ 1 ∷ 1 ∷ 1 ∷ 1 ∷ 1 ∷ [])
     ∷ same (map (λ (o : Offset). bornBy 5 (Rekey (Serial 7) o) (datedKey 4 6 2)) (NoOffset ∷ Seconds 0 ∷ Seconds 1 ∷ [])) (2 ∷ 2 ∷ 1 ∷ [])
     ∷ same (map (λ (o : Offset). bornBy 5 (Rekey (Serial 7) o) (datedKey 4 4 3)) (NoOffset ∷ Seconds 0 ∷ Seconds 1 ∷ [])) (3 ∷ 3 ∷ 1 ∷ [])
     -- a free place may be taken, and one in state 5 or 6
-    ∷ same (ofPlaces (mayTake (keyed 4))) (1 ∷ 0 ∷ 1 ∷ [])
-    ∷ same (ofPlaces (mayTake (keyed 5))) (1 ∷ 1 ∷ 1 ∷ [])
-    ∷ same (ofPlaces (mayTake (keyed 6))) (1 ∷ 1 ∷ 1 ∷ [])
+    ∷ same (ofPlaces (mayTake smallCount (keyed 4))) (1 ∷ 0 ∷ 1 ∷ [])
+    ∷ same (ofPlaces (mayTake smallCount (keyed 5))) (1 ∷ 1 ∷ 1 ∷ [])
+    ∷ same (ofPlaces (mayTake smallCount (keyed 6))) (1 ∷ 1 ∷ 1 ∷ [])
     ∷ []
 
 -- ---- refusals, and the items of a call

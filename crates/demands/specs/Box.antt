@@ -3,9 +3,7 @@
 use Prim.Native.Nat.{ℕ, _<_, _^_, max}
 use mathlib.Core.List.{List}
 use Rattle.octets.specs.Octets.{Bytes}
-use Rattle.table.specs.declared.Record.{Record}
-use Rattle.table.specs.Layout.{smallCount}
-use Rattle.table.specs.Records.{placeAt, latestClock}
+use Rattle.table.specs.Records.{placesSaid, latestClock}
 use Rattle.engine.specs.Effects.{Effect}
 
 -- what is lent to a call; the clock comes as its 64 bits
@@ -28,13 +26,9 @@ pub record Lent (c : Call) : Type 0 where
   pub output : Bytes (c .output)
   pub clock : c .clock < 2 ^ 64
 
--- the number of places of a table
-abbrev pub placesOf : List ℕ → ℕ
-placesOf t = smallCount
-
--- the record at place i of a table
-abbrev pub recordIn : List ℕ → ℕ → Record
-recordIn t i = placeAt (placesOf t) t i
+-- 02, L7, "The lead's place count": the number of places of the table that is lent to a call
+abbrev pub placesOf : Call → ℕ
+placesOf c = placesSaid (c .table)
 
 -- 02, L3, "A clock earlier than the latest seen counts as the latest": the clock that counts for a call
 abbrev pub counted : Call → ℕ

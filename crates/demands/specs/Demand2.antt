@@ -12,8 +12,9 @@ use Rattle.octets.specs.Octets.{Bytes}
 use Rattle.octets.specs.Maybe.{_>>=_, isSome}
 use Rattle.ttlv.specs.Items.{Items, encode}
 use Rattle.ttlv.specs.Parse.{message}
-use Rattle.table.specs.Records.{lastSerial, latestClock}
+use Rattle.table.specs.Records.{placeAt, lastSerial, latestClock}
 use Rattle.soundness.specs.Sound.{sound}
+use Rattle.place_counts.specs.Counts.{tableRight}
 use Rattle.rules.specs.declared.Reason.{Reason}
 use Rattle.rules.specs.Tests.{due}
 use Rattle.changes.specs.Dates.{ripened}
@@ -27,7 +28,7 @@ use Rattle.act.specs.Act.{plan}
 use Rattle.answer.specs.Respond.{Answer, Response, respond}
 use Rattle.answer.specs.Read.{answersIn, allowed}
 use Rattle.engine.specs.Effects.{Effect}
-use Rattle.demands.specs.Box.{Call, Box, Lent, placesOf, recordIn, counted}
+use Rattle.demands.specs.Box.{Call, Box, Lent, placesOf, counted}
 
 -- ---- (a) the refusals
 
@@ -45,7 +46,7 @@ unfoldable pub refusalConditions : Call → List Bool
 refusalConditions c =
     ltb (length (c .output)) 6360
     ∷ not (eqb (length (c .strip)) 512)
-    ∷ not (sound (placesOf (c .table)) (c .table))
+    ∷ not (tableRight (c .table))
     ∷ (eqb (length (c .request)) 0 || ltb 4096 (length (c .request)))
     ∷ not (isSome (message (c .request)))
     ∷ not (isSome (frameOf c))
@@ -63,13 +64,13 @@ lowest k (b ∷ bs) = ifb b k (lowest (suc k) bs)
 -- ---- what a request begins with
 
 -- the table that the first item meets, place by place: every record as it was but for the state that its dates make of it by the clock that counts,
--- which is the lead's latest now. It is a sound table of bytes, so that no byte of it is left open
+-- which is the lead's latest now. It is a sound table of bytes, of as many places, so that no byte of it is left open
 pub record Begins (c : Call) (start : List ℕ) : Type 0 where
-  pub right : sound (placesOf start) start ≡ true
+  pub right : sound (placesOf c) start ≡ true
   pub bytes : Bytes start
   pub issued : lastSerial start ≡ lastSerial (c .table)
   pub latest : latestClock start ≡ counted c
-  pub places : (i : ℕ) → i < placesOf start → recordIn start i ≡ ripened (counted c) (recordIn (c .table) i)
+  pub places : (i : ℕ) → i < placesOf c → placeAt (placesOf c) start i ≡ ripened (counted c) (placeAt (placesOf c) (c .table) i)
 
 -- ---- (c) to (f) the items, one after the other
 
@@ -101,7 +102,7 @@ goesOn option outcome = not (isFailed outcome) || eqb option continue
 
 -- what item i of a call meets, with a placeholder and a table
 abbrev pub linkAt : Call → ℕ → ℕ → List ℕ → Asked → Did → Link
-linkAt c i holder t asked did = record { env = envAt (placesOf t) (c .strip) i; holder = holder; table = t; asked = asked; did = did }
+linkAt c i holder t asked did = record { env = envAt (placesOf c) (c .strip) i; holder = holder; table = t; asked = asked; did = did }
 
 -- (c), (f): the links of a batch under an option, from item i on, with a placeholder and a table: one link for each answered item and none more.
 -- The first item is answered; each later one if the option is Continue or the one before it succeeded

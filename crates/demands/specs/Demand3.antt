@@ -8,9 +8,9 @@ use mathlib.Core.Bool.{Bool, true, false, not, _&&_, _||_}
 use mathlib.Core.List.{List, [], _∷_}
 use lib.ListN.{length, replicate}
 use lib.Dec.{eqb}
-use Rattle.table.specs.Layout.{smallCount, materialSize}
+use Rattle.table.specs.Layout.{placesOk, materialSize}
 use Rattle.table.specs.declared.Record.{Record}
-use Rattle.table.specs.Records.{serialAt, isFree, lastSerial, latestClock, blank}
+use Rattle.table.specs.Records.{placeAt, serialAt, isFree, lastSerial, latestClock, blank}
 use Rattle.search.specs.declared.Found.{Found}
 use Rattle.search.specs.declared.Found.the-variants.{At, Nothing}
 use Rattle.search.specs.Search.{find, newPlace, isDestroyed}
@@ -27,22 +27,10 @@ use Rattle.plans.specs.declared.Outcome.the-variants.{Failed, Created, Done, Sh
 use Rattle.act.specs.Act.{sought}
 use Rattle.plans.specs.Plans.{isFailed}
 use Rattle.engine.specs.Effects.{Effect}
-use Rattle.demands.specs.Box.{Call, Box, Lent, placesOf, recordIn, counted}
+use Rattle.demands.specs.Box.{Call, Box, Lent, counted}
 use Rattle.demands.specs.Log.{Event, commandOf, itemsAsked, answersGiven, eventsOf, logged, issuedBy, issued, grantBy, granted, limit, handedBy, wasDestroyed, handedDead}
 
--- ---- runs
-
--- calls from a blank table on, each with the table that the one before it left; the log is made of their bytes
-pub data Run (B : Box) : List Event → List ℕ → Type 0 where
-  begins : Run B [] (blank smallCount)
-  calls : {log : List Event} {t : List ℕ} (c : Call) (e : Effect) → Run B log t → c .table ≡ t → Lent c → B c e → Run B (logged c e log) (e .table)
-
--- the record with serial x stands at place i
-pub record Stands (x : ℕ) (t : List ℕ) (i : ℕ) : Type 0 where
-  pub below : i < placesOf t
-  pub serial : serialAt t i ≡ x
-
--- ---- what one item names, takes and moves
+-- ---- what one item names and moves
 
 -- the serial that a command names, by its identifier or by the placeholder; 0 where it names none
 unfoldable pub namedBy : ℕ → Command → ℕ
@@ -137,18 +125,6 @@ carries (Showed shown) = shown .serial
 carries (Got key) = key .serial
 carries (Located serial) = serial
 
--- the record at place i is the one that the item names
-abbrev pub names : Event → List ℕ → ℕ → Bool
-names ev t i = isAt i (find (placesOf t) t (namedBy (ev .held) (commandOf ev)))
-
--- the item takes place i: it issued an identifier, and that is where 01 puts a new object
-abbrev pub takes : Event → List ℕ → ℕ → Bool
-takes ev t i = not (eqb (issuedBy (commandOf ev) (ev .answer .outcome)) 0) && isAt i (newPlace (placesOf t) t)
-
--- a place that a new object may take: "the lowest free place, or if none is free the lowest place in state 5 or 6"
-abbrev pub mayTake : List ℕ → ℕ → Bool
-mayTake t i = isFree t i || isDestroyed (recordIn t i .state)
-
 -- the state in which an object begins: "Starts Pre-Active"; for Re-key, by 02, L4, "State follows from the dates as L3 applies them to a Pre-Active key", with the dates that it gives the replacement of a record
 unfoldable pub bornBy : ℕ → Command → Record → ℕ
 bornBy clock Unsupported r = preActive
@@ -163,15 +139,6 @@ bornBy clock (GetAttributes target) r = preActive
 bornBy clock (Get target) r = preActive
 bornBy clock (Locate name) r = preActive
 
--- the record that a search found; where it found none, that of place 0 stands in
-unfoldable pub foundIn : List ℕ → Found → Record
-foundIn t (At i) = recordIn t i
-foundIn t Nothing = recordIn t 0
-
--- the state in which an object begins that the item issued
-abbrev pub bornState : Event → List ℕ → ℕ
-bornState ev t = bornBy (latestClock t) (commandOf ev) (foundIn t (find (placesOf t) t (namedBy (ev .held) (commandOf ev))))
-
 -- 01's list of transitions: Activate 1 to 2; Revoke with codes 2 and 3: 1, 2, 3 to 4 and 5 to 6, with the others 2 to 3; Destroy 1 and 3 to 5, 4 to 6
 unfoldable pub listed : ℕ → ℕ → ℕ → ℕ → Bool
 listed operation code from to =
@@ -180,66 +147,6 @@ listed operation code from to =
     || (eqb operation revoke && not (isCompromise code) && (eqb from 2 && eqb to 3))
     || (eqb operation destroy && ((eqb from 1 && eqb to 5) || (eqb from 3 && eqb to 5) || (eqb from 4 && eqb to 6)))
 
--- the state at place i goes from t to u by a transition that is listed for the item
-abbrev pub listedFor : Event → List ℕ → List ℕ → ℕ → Bool
-listedFor ev t u i = listed (ev .asked .operation) (codeOf (commandOf ev)) (recordIn t i .state) (recordIn u i .state)
-
--- ---- what one item may do, from the table t that it meets to the table u that it leaves
-
--- a state that changed, changed by a success that names the record, by a listed transition
-pub record Moved (ev : Event) (t u : List ℕ) (i : ℕ) : Type 0 where
-  pub done : isFailed (ev .answer .outcome) ≡ false
-  pub named : names ev t i ≡ true
-  pub way : listedFor ev t u i ≡ true
-
--- a place that was taken was free or destroyed, and holds the object that was issued, in the state in which it begins
-pub record Taken (ev : Event) (t u : List ℕ) (i : ℕ) : Type 0 where
-  pub was : mayTake t i ≡ true
-  pub serial : serialAt u i ≡ issuedBy (commandOf ev) (ev .answer .outcome)
-  pub state : recordIn u i .state ≡ bornState ev t
-
--- a success is about the record that the item names, and carries its identifier
-pub record About (ev : Event) (t : List ℕ) : Type 0 where
-  pub place : ℕ
-  pub below : place < placesOf t
-  pub named : names ev t place ≡ true
-  pub serial : carries (ev .answer .outcome) ≡ serialAt t place
-
-pub record Tame (ev : Event) (t u : List ℕ) : Type 0 where
-  -- the answer is the item's own, so that units and identifiers are counted as they were asked for: "Operation as given, the ID if given"
-  pub operation : ev .answer .operation ≡ ev .asked .operation
-  pub id : ev .answer .id ≡ ev .asked .id
-  -- what was not understood is not answered with success, so that no units and no identifiers go past the log
-  pub understood : isUnderstood (commandOf ev) ≡ false → isFailed (ev .answer .outcome) ≡ true
-  -- "A failed item changes nothing in the table"
-  pub failed : isFailed (ev .answer .outcome) ≡ true → u ≡ t
-  -- "Records neither addressed, newly linked nor taken over stay": what an item newly links is the record that it names
-  pub others : (i : ℕ) → i < placesOf t → names ev t i ≡ false → takes ev t i ≡ false → recordIn u i ≡ recordIn t i
-  -- a record leaves its place only when a newer object takes it
-  pub kept : (i : ℕ) → i < placesOf t → takes ev t i ≡ false → serialAt u i ≡ serialAt t i
-  -- "no state changes but by the listed transitions"
-  pub moves : (i : ℕ) → i < placesOf t → takes ev t i ≡ false → (recordIn u i .state ≡ recordIn t i .state → ⊥) → Moved ev t u i
-  -- and what is answered as activated, revoked or destroyed is so: "stay dead" begins with being dead
-  pub obeys : (i : ℕ) → i < placesOf t → names ev t i ≡ true → isFailed (ev .answer .outcome) ≡ false → movesState (commandOf ev) ≡ true → listedFor ev t u i ≡ true
-  -- a place that is taken was there to be taken, and holds what was issued
-  pub taken : (i : ℕ) → i < placesOf t → takes ev t i ≡ true → Taken ev t u i
-  -- an identifier that is issued has its record
-  pub stands : (issuedBy (commandOf ev) (ev .answer .outcome) ≡ 0 → ⊥) → (i : ℕ) × Stands (issuedBy (commandOf ev) (ev .answer .outcome)) u i
-  -- a success that issues nothing and asks for no name "answers the identifier" of the record that it names
-  pub about : isFailed (ev .answer .outcome) ≡ false → issuedBy (commandOf ev) (ev .answer .outcome) ≡ 0 → asksName (commandOf ev) ≡ false → About ev t
-  -- one that asks for a name answers that of a record that stands, or none
-  pub located : asksName (commandOf ev) ≡ true → (carries (ev .answer .outcome) ≡ 0 → ⊥) → (i : ℕ) × Stands (carries (ev .answer .outcome)) t i
-  -- only Get hands out a key
-  pub hands : (handedBy (ev .answer .outcome) ≡ 0 → ⊥) → asksKey (commandOf ev) ≡ true
-  -- "once an identifier is in a destroyed state, no later Get for it succeeds": what is handed out is not destroyed
-  pub alive : (i : ℕ) → i < placesOf t → names ev t i ≡ true → isFailed (ev .answer .outcome) ≡ false → asksKey (commandOf ev) ≡ true → isDestroyed (recordIn t i .state) ≡ false
-  -- no item moves the clock
-  pub latest : latestClock u ≡ latestClock t
-  -- "Once a newer object has taken the place, that identifier is granted nothing more": what does not stand is granted nothing
-  pub grants : (x : ℕ) → (x ≡ 0 → ⊥) → ((i : ℕ) → Stands x t i → ⊥) → grantBy x (commandOf ev) (ev .answer .outcome) ≡ 0
-
--- ---- before the first item, from the table t that an accepted call meets to the table u that its first item meets
-
 -- 02, L3, "Demands 2 and 3 now count due changes among the listed ones": Pre-Active to Active, Active to Deactivated, and the one and then the other, each by a date that is set and at or before the clock
 unfoldable pub listedBy : ℕ → Record → ℕ → Bool
 listedBy clock r to =
@@ -247,62 +154,164 @@ listedBy clock r to =
     || (eqb (r .state) 2 && hasCome clock (r .deactivation) && eqb to 3)
     || (eqb (r .state) 1 && hasCome clock (r .activation) && hasCome clock (r .deactivation) && eqb to 3)
 
--- what an accepted call may do before its first item. That it does so is demand 2's
-pub record DueOnly (clock : ℕ) (t u : List ℕ) : Type 0 where
-  -- the latest clock stays, or is the clock that counts, which is no earlier
-  pub latest : (latestClock u ≡ latestClock t) ⊎ (latestClock u ≡ clock)
-  -- no identifier is issued
-  pub issued : lastSerial u ≡ lastSerial t
-  -- "no state changes but by the listed transitions"
-  pub moves : (i : ℕ) → i < placesOf t → (recordIn u i .state ≡ recordIn t i .state → ⊥) → listedBy clock (recordIn t i) (recordIn u i .state) ≡ true
-  -- and nothing of a record alters but its state: one that is not due is the same record
-  pub others : (i : ℕ) → i < placesOf t → recordIn u i ≡ inState (recordIn u i .state) (recordIn t i .material) (recordIn t i)
+-- ---- 02, L7: all that follows is of runs on a table of n places, shown "once over the count"
 
--- ---- what holds between any two items; identifiers are given as their serials, which are not 0
+module _ (n : ℕ) where
+  -- ---- runs
 
-pub record InOrder (log : List Event) (t : List ℕ) : Type 0 where
-  -- "the units granted in its successful answers plus the count in its record equal the total it began with, as long as its record stands"
-  pub balance : (x i : ℕ) → (x ≡ 0 → ⊥) → Stands x t i → granted x log + recordIn t i .count ≡ limit x log
-  -- its stored total is that total
-  pub total : (x i : ℕ) → (x ≡ 0 → ⊥) → Stands x t i → recordIn t i .total ≡ limit x log
-  -- standing or not, no more than the total is granted
-  pub within : (x : ℕ) → (x ≡ 0 → ⊥) → granted x log ≤ limit x log
-  -- "No identifier is issued twice"
-  pub once : (x : ℕ) → (x ≡ 0 → ⊥) → issued x log ≤ 1
-  -- what stands was issued
-  pub known : (x i : ℕ) → (x ≡ 0 → ⊥) → Stands x t i → issued x log ≡ 1
-  -- "a record in a destroyed state holds no key byte"
-  pub wiped : (i : ℕ) → i < placesOf t → isDestroyed (recordIn t i .state) ≡ true → recordIn t i .material ≡ replicate materialSize 0
-  -- the log says which are destroyed, as long as the record stands
-  pub destroyed : (x i : ℕ) → (x ≡ 0 → ⊥) → Stands x t i → wasDestroyed x log ≡ true → isDestroyed (recordIn t i .state) ≡ true
-  -- "once an identifier is in a destroyed state, no later Get for it succeeds", whether or not its record still stands
-  pub dead : (x : ℕ) → (x ≡ 0 → ⊥) → handedDead x log ≡ 0
-  -- the table stays sound, so that no call of a run is refused with 3
-  pub stays-sound : sound (placesOf t) t ≡ true
+  -- calls from a blank table on, each with the table that the one before it left; the log is made of their bytes
+  pub data Run (B : Box) : List Event → List ℕ → Type 0 where
+    begins : Run B [] (blank n)
+    calls : {log : List Event} {t : List ℕ} (c : Call) (e : Effect) → Run B log t → c .table ≡ t → Lent c → B c e → Run B (logged c e log) (e .table)
 
--- ---- the whole
+  -- the record with serial x stands at place i
+  pub record Stands (x : ℕ) (t : List ℕ) (i : ℕ) : Type 0 where
+    pub below : i < n
+    pub serial : serialAt t i ≡ x
 
--- the tables between the items of a call, from a log and a table along the events of the call to the table that it leaves; without events the table stays
-pub data Path : List Event → List ℕ → List Event → List ℕ → Type 0 where
-  arrived : {log : List Event} {t : List ℕ} → Path log t [] t
-  went : {log events : List Event} {t v : List ℕ} (ev : Event) (u : List ℕ) → Tame ev t u → InOrder (ev ∷ log) u → Path (ev ∷ log) u events v → Path log t (ev ∷ events) v
+  -- ---- what one item names and takes
 
--- how a call opens, by its number: an accepted one may do what is due by the clock that counts, and a refused one does nothing
-pub data Opens (c : Call) : ℕ → List ℕ → Type 0 where
-  accepted : {start : List ℕ} → DueOnly (counted c) (c .table) start → Opens c 0 start
-  refused : {number : ℕ} → (number ≡ 0 → ⊥) → Opens c number (c .table)
+  -- the record at place i is the one that the item names
+  abbrev pub names : Event → List ℕ → ℕ → Bool
+  names ev t i = isAt i (find n t (namedBy (ev .held) (commandOf ev)))
 
--- a call: it opens, the books are in order then, and it goes a path along what was asked and answered, read from its bytes
-pub record Goes (log : List Event) (c : Call) (e : Effect) : Type 0 where
-  pub start : List ℕ
-  pub opens : Opens c (e .number) start
-  pub order : InOrder log start
-  pub path : Path log start (eventsOf c e) (e .table)
+  -- the item takes place i: it issued an identifier, and that is where 01 puts a new object
+  abbrev pub takes : Event → List ℕ → ℕ → Bool
+  takes ev t i = not (eqb (issuedBy (commandOf ev) (ev .answer .outcome)) 0) && isAt i (newPlace n t)
 
-pub record Demand3 (B : Box) : Type 0 where
-  -- "any run of requests"
-  pub goes : (log : List Event) (t : List ℕ) → Run B log t → (c : Call) (e : Effect) → c .table ≡ t → Lent c → B c e → Goes log c e
-  -- every answer has its item
-  pub asked : (log : List Event) (t : List ℕ) → Run B log t → (c : Call) (e : Effect) → c .table ≡ t → Lent c → B c e → length (answersGiven e) ≤ length (itemsAsked c)
-  -- "accepted or refused": a call that is refused, whatever bytes it leaves, leaves the table
-  pub refused : (log : List Event) (t : List ℕ) → Run B log t → (c : Call) (e : Effect) → c .table ≡ t → Lent c → B c e → (e .number ≡ 0 → ⊥) → e .table ≡ t
+  -- a place that a new object may take: "the lowest free place, or if none is free the lowest place in state 5 or 6"
+  abbrev pub mayTake : List ℕ → ℕ → Bool
+  mayTake t i = isFree t i || isDestroyed (placeAt n t i .state)
+
+  -- the record that a search found; where it found none, that of place 0 stands in
+  unfoldable pub foundIn : List ℕ → Found → Record
+  foundIn t (At i) = placeAt n t i
+  foundIn t Nothing = placeAt n t 0
+
+  -- the state in which an object begins that the item issued
+  abbrev pub bornState : Event → List ℕ → ℕ
+  bornState ev t = bornBy (latestClock t) (commandOf ev) (foundIn t (find n t (namedBy (ev .held) (commandOf ev))))
+
+  -- the state at place i goes from t to u by a transition that is listed for the item
+  abbrev pub listedFor : Event → List ℕ → List ℕ → ℕ → Bool
+  listedFor ev t u i = listed (ev .asked .operation) (codeOf (commandOf ev)) (placeAt n t i .state) (placeAt n u i .state)
+
+  -- ---- what one item may do, from the table t that it meets to the table u that it leaves
+
+  -- a state that changed, changed by a success that names the record, by a listed transition
+  pub record Moved (ev : Event) (t u : List ℕ) (i : ℕ) : Type 0 where
+    pub done : isFailed (ev .answer .outcome) ≡ false
+    pub named : names ev t i ≡ true
+    pub way : listedFor ev t u i ≡ true
+
+  -- a place that was taken was free or destroyed, and holds the object that was issued, in the state in which it begins
+  pub record Taken (ev : Event) (t u : List ℕ) (i : ℕ) : Type 0 where
+    pub was : mayTake t i ≡ true
+    pub serial : serialAt u i ≡ issuedBy (commandOf ev) (ev .answer .outcome)
+    pub state : placeAt n u i .state ≡ bornState ev t
+
+  -- a success is about the record that the item names, and carries its identifier
+  pub record About (ev : Event) (t : List ℕ) : Type 0 where
+    pub place : ℕ
+    pub below : place < n
+    pub named : names ev t place ≡ true
+    pub serial : carries (ev .answer .outcome) ≡ serialAt t place
+
+  pub record Tame (ev : Event) (t u : List ℕ) : Type 0 where
+    -- the answer is the item's own, so that units and identifiers are counted as they were asked for: "Operation as given, the ID if given"
+    pub operation : ev .answer .operation ≡ ev .asked .operation
+    pub id : ev .answer .id ≡ ev .asked .id
+    -- what was not understood is not answered with success, so that no units and no identifiers go past the log
+    pub understood : isUnderstood (commandOf ev) ≡ false → isFailed (ev .answer .outcome) ≡ true
+    -- "A failed item changes nothing in the table"
+    pub failed : isFailed (ev .answer .outcome) ≡ true → u ≡ t
+    -- "Records neither addressed, newly linked nor taken over stay": what an item newly links is the record that it names
+    pub others : (i : ℕ) → i < n → names ev t i ≡ false → takes ev t i ≡ false → placeAt n u i ≡ placeAt n t i
+    -- a record leaves its place only when a newer object takes it
+    pub kept : (i : ℕ) → i < n → takes ev t i ≡ false → serialAt u i ≡ serialAt t i
+    -- "no state changes but by the listed transitions"
+    pub moves : (i : ℕ) → i < n → takes ev t i ≡ false → (placeAt n u i .state ≡ placeAt n t i .state → ⊥) → Moved ev t u i
+    -- and what is answered as activated, revoked or destroyed is so: "stay dead" begins with being dead
+    pub obeys : (i : ℕ) → i < n → names ev t i ≡ true → isFailed (ev .answer .outcome) ≡ false → movesState (commandOf ev) ≡ true → listedFor ev t u i ≡ true
+    -- a place that is taken was there to be taken, and holds what was issued
+    pub taken : (i : ℕ) → i < n → takes ev t i ≡ true → Taken ev t u i
+    -- an identifier that is issued has its record
+    pub stands : (issuedBy (commandOf ev) (ev .answer .outcome) ≡ 0 → ⊥) → (i : ℕ) × Stands (issuedBy (commandOf ev) (ev .answer .outcome)) u i
+    -- a success that issues nothing and asks for no name "answers the identifier" of the record that it names
+    pub about : isFailed (ev .answer .outcome) ≡ false → issuedBy (commandOf ev) (ev .answer .outcome) ≡ 0 → asksName (commandOf ev) ≡ false → About ev t
+    -- one that asks for a name answers that of a record that stands, or none
+    pub located : asksName (commandOf ev) ≡ true → (carries (ev .answer .outcome) ≡ 0 → ⊥) → (i : ℕ) × Stands (carries (ev .answer .outcome)) t i
+    -- only Get hands out a key
+    pub hands : (handedBy (ev .answer .outcome) ≡ 0 → ⊥) → asksKey (commandOf ev) ≡ true
+    -- "once an identifier is in a destroyed state, no later Get for it succeeds": what is handed out is not destroyed
+    pub alive : (i : ℕ) → i < n → names ev t i ≡ true → isFailed (ev .answer .outcome) ≡ false → asksKey (commandOf ev) ≡ true → isDestroyed (placeAt n t i .state) ≡ false
+    -- no item moves the clock
+    pub latest : latestClock u ≡ latestClock t
+    -- "Once a newer object has taken the place, that identifier is granted nothing more": what does not stand is granted nothing
+    pub grants : (x : ℕ) → (x ≡ 0 → ⊥) → ((i : ℕ) → Stands x t i → ⊥) → grantBy x (commandOf ev) (ev .answer .outcome) ≡ 0
+
+  -- ---- before the first item, from the table t that an accepted call meets to the table u that its first item meets
+
+  -- what an accepted call may do before its first item. That it does so is demand 2's
+  pub record DueOnly (clock : ℕ) (t u : List ℕ) : Type 0 where
+    -- the latest clock stays, or is the clock that counts, which is no earlier
+    pub latest : (latestClock u ≡ latestClock t) ⊎ (latestClock u ≡ clock)
+    -- no identifier is issued
+    pub issued : lastSerial u ≡ lastSerial t
+    -- "no state changes but by the listed transitions"
+    pub moves : (i : ℕ) → i < n → (placeAt n u i .state ≡ placeAt n t i .state → ⊥) → listedBy clock (placeAt n t i) (placeAt n u i .state) ≡ true
+    -- and nothing of a record alters but its state: one that is not due is the same record
+    pub others : (i : ℕ) → i < n → placeAt n u i ≡ inState (placeAt n u i .state) (placeAt n t i .material) (placeAt n t i)
+
+  -- ---- what holds between any two items; identifiers are given as their serials, which are not 0
+
+  pub record InOrder (log : List Event) (t : List ℕ) : Type 0 where
+    -- "the units granted in its successful answers plus the count in its record equal the total it began with, as long as its record stands"
+    pub balance : (x i : ℕ) → (x ≡ 0 → ⊥) → Stands x t i → granted x log + placeAt n t i .count ≡ limit x log
+    -- its stored total is that total
+    pub total : (x i : ℕ) → (x ≡ 0 → ⊥) → Stands x t i → placeAt n t i .total ≡ limit x log
+    -- standing or not, no more than the total is granted
+    pub within : (x : ℕ) → (x ≡ 0 → ⊥) → granted x log ≤ limit x log
+    -- "No identifier is issued twice"
+    pub once : (x : ℕ) → (x ≡ 0 → ⊥) → issued x log ≤ 1
+    -- what stands was issued
+    pub known : (x i : ℕ) → (x ≡ 0 → ⊥) → Stands x t i → issued x log ≡ 1
+    -- "a record in a destroyed state holds no key byte"
+    pub wiped : (i : ℕ) → i < n → isDestroyed (placeAt n t i .state) ≡ true → placeAt n t i .material ≡ replicate materialSize 0
+    -- the log says which are destroyed, as long as the record stands
+    pub destroyed : (x i : ℕ) → (x ≡ 0 → ⊥) → Stands x t i → wasDestroyed x log ≡ true → isDestroyed (placeAt n t i .state) ≡ true
+    -- "once an identifier is in a destroyed state, no later Get for it succeeds", whether or not its record still stands
+    pub dead : (x : ℕ) → (x ≡ 0 → ⊥) → handedDead x log ≡ 0
+    -- the table stays a sound one of n places, so that no call of a run is refused with 3 and its count never changes
+    pub stays-sound : sound n t ≡ true
+
+  -- ---- the whole
+
+  -- the tables between the items of a call, from a log and a table along the events of the call to the table that it leaves; without events the table stays
+  pub data Path : List Event → List ℕ → List Event → List ℕ → Type 0 where
+    arrived : {log : List Event} {t : List ℕ} → Path log t [] t
+    went : {log events : List Event} {t v : List ℕ} (ev : Event) (u : List ℕ) → Tame ev t u → InOrder (ev ∷ log) u → Path (ev ∷ log) u events v → Path log t (ev ∷ events) v
+
+  -- how a call opens, by its number: an accepted one may do what is due by the clock that counts, and a refused one does nothing
+  pub data Opens (c : Call) : ℕ → List ℕ → Type 0 where
+    accepted : {start : List ℕ} → DueOnly (counted c) (c .table) start → Opens c 0 start
+    refused : {number : ℕ} → (number ≡ 0 → ⊥) → Opens c number (c .table)
+
+  -- a call: it opens, the books are in order then, and it goes a path along what was asked and answered, read from its bytes
+  pub record Goes (log : List Event) (c : Call) (e : Effect) : Type 0 where
+    pub start : List ℕ
+    pub opens : Opens c (e .number) start
+    pub order : InOrder log start
+    pub path : Path log start (eventsOf c e) (e .table)
+
+  pub record Demand3Of (B : Box) : Type 0 where
+    -- "any run of requests"
+    pub goes : (log : List Event) (t : List ℕ) → Run B log t → (c : Call) (e : Effect) → c .table ≡ t → Lent c → B c e → Goes log c e
+    -- every answer has its item
+    pub asked : (log : List Event) (t : List ℕ) → Run B log t → (c : Call) (e : Effect) → c .table ≡ t → Lent c → B c e → length (answersGiven e) ≤ length (itemsAsked c)
+    -- "accepted or refused": a call that is refused, whatever bytes it leaves, leaves the table
+    pub refused : (log : List Event) (t : List ℕ) → Run B log t → (c : Call) (e : Effect) → c .table ≡ t → Lent c → B c e → (e .number ≡ 0 → ⊥) → e .table ≡ t
+
+-- "then used for both"
+abbrev pub Demand3 : Box → Type 0
+Demand3 B = (n : ℕ) → placesOk n ≡ true → Demand3Of n B

@@ -7,90 +7,98 @@ use mathlib.Core.Bool.{true}
 use mathlib.Core.List.{List, [], _∷_}
 use lib.Dec.{eqb}
 use Rattle.octets.specs.If.{ifb}
-use Rattle.table.specs.Records.{lastSerial, latestClock}
+use Rattle.table.specs.Layout.{placesOk}
+use Rattle.table.specs.Records.{placeAt, lastSerial, latestClock}
 use Rattle.rules.specs.Numbers.{preActive, active, deactivated}
 use Rattle.date_rules.specs.Dates.{hasCome}
 use Rattle.payload.specs.Payload.{command}
 use Rattle.engine.specs.Effects.{Effect}
-use Rattle.demands.specs.Box.{Call, Box, Lent, placesOf, recordIn, counted}
+use Rattle.demands.specs.Box.{Call, Box, Lent, counted}
 use Rattle.demands.specs.Log.{Event, grantBy, granted, logged}
 use Rattle.demands.specs.Demand2.{Link, Answered}
 use Rattle.demands.specs.Demand3.{Run, begins, calls, Stands}
-
--- ---- (a) the clocks of a run
-
--- the clocks that the accepted calls of a run gave
-unfoldable pub heard : {B : Box} {log : List Event} {t : List ℕ} → Run B log t → List ℕ
-heard begins = []
-heard (calls c e run same lent b) = let before = heard run in ifb (eqb (e .number) 0) (c .clock ∷ before) before
 
 -- the largest of some clocks; 0 where there is none
 unfoldable pub largest : List ℕ → ℕ
 largest [] = 0
 largest (clock ∷ clocks) = max clock (largest clocks)
 
--- ---- (b) in time
-
--- the key at place i has no deactivation date, or one that lies after the clock
-abbrev pub InTimeAt : ℕ → List ℕ → ℕ → Type 0
-InTimeAt clock t i = (recordIn t i .deactivation ≡ 0) ⊎ (clock < recordIn t i .deactivation)
-
--- and so has every Active key
-abbrev pub InTime : ℕ → List ℕ → Type 0
-InTime clock t = (i : ℕ) → i < placesOf t → recordIn t i .state ≡ active → InTimeAt clock t i
-
--- a key that is granted units: it stands, is Active, and is in time
-pub record Spends (clock x : ℕ) (t : List ℕ) : Type 0 where
-  pub place : ℕ
-  pub stands : Stands x t place
-  pub active : recordIn t place .state ≡ active
-  pub in-time : InTimeAt clock t place
-
--- ---- (c) stopped
-
--- x was issued, and where it stands it is neither Pre-Active nor Active
-pub record Stopped (x : ℕ) (t : List ℕ) : Type 0 where
-  pub issued : x ≤ lastSerial t
-  pub past : (i : ℕ) → Stands x t i → (recordIn t i .state ≡ preActive → ⊥) × (recordIn t i .state ≡ active → ⊥)
-
--- ---- an item of an accepted call
-
-pub record Firm (clock : ℕ) (l : Link) : Type 0 where
-  -- Active keys are in time where it begins and where it ends
-  pub meets : InTime clock (l .table)
-  pub leaves : InTime clock (l .did .table)
-  -- so no units are granted for a key past its date
-  pub spends : (x : ℕ) → (grantBy x (command (l .asked .operation) (l .asked .payload)) (l .did .outcome) ≡ 0 → ⊥) → Spends clock x (l .table)
-  -- and what is stopped stays so
-  pub stopped : (x : ℕ) → (x ≡ 0 → ⊥) → Stopped x (l .table) → Stopped x (l .did .table)
-
 -- each of some items
 pub data Every (P : Link → Type 0) : List Link → Type 0 where
   none : Every P []
   more : {l : Link} {links : List Link} → P l → Every P links → Every P (l ∷ links)
 
--- ---- the whole
+-- ---- runs on a table of n places
 
--- a later point of the same run
-pub data Later (B : Box) (log : List Event) (t : List ℕ) : List Event → List ℕ → Type 0 where
-  here : Later B log t log t
-  further : {log′ : List Event} {t′ : List ℕ} (c : Call) (e : Effect) → Later B log t log′ t′ → c .table ≡ t′ → Lent c → B c e → Later B log t (logged c e log′) (e .table)
+module _ (n : ℕ) where
+  -- ---- (a) the clocks of a run
 
-pub record Hope (B : Box) : Type 0 where
-  -- (a) the stored latest clock is the largest clock of the accepted calls, and never falls
-  pub largest-clock : {log : List Event} {t : List ℕ} (run : Run B log t) → latestClock t ≡ largest (heard run)
-  pub never-falls : {log log′ : List Event} {t t′ : List ℕ} → Run B log t → Later B log t log′ t′ → latestClock t ≤ latestClock t′
-  -- (b) at every point of a run Active keys are in time by the latest clock
-  pub in-time : {log : List Event} {t : List ℕ} → Run B log t → InTime (latestClock t) t
-  -- (b) no units are granted for a key past its date, whatever clocks later calls give: a call in which its deactivation date has come, by the clock that counts, adds nothing to them
-  pub spends-nothing : {log : List Event} {t : List ℕ} → Run B log t → (c : Call) (e : Effect) → c .table ≡ t → Lent c → B c e
-      → (x i : ℕ) → (x ≡ 0 → ⊥) → Stands x t i → hasCome (counted c) (recordIn t i .deactivation) ≡ true → granted x (logged c e log) ≡ granted x log
-  -- (b), (c) and so they are between the items of an accepted call, by the clock that counts, whatever clock it gives
-  pub firm : {log : List Event} {t : List ℕ} → Run B log t → (c : Call) (e : Effect) → c .table ≡ t → Lent c → B c e → e .number ≡ 0 → (g : Answered c e)
-      → Every (Firm (counted c)) (g .links)
-  -- what is due before the first item does not bring back what is stopped
-  pub stopped-begins : {log : List Event} {t : List ℕ} → Run B log t → (c : Call) (e : Effect) → c .table ≡ t → Lent c → B c e → e .number ≡ 0 → (g : Answered c e)
-      → (x : ℕ) → (x ≡ 0 → ⊥) → Stopped x t → Stopped x (g .start)
-  -- (c) a key that was Deactivated is never Pre-Active or Active again under its identifier
-  pub never-again : {log log′ : List Event} {t t′ : List ℕ} → Run B log t → (x i : ℕ) → (x ≡ 0 → ⊥) → Stands x t i → recordIn t i .state ≡ deactivated
-      → Later B log t log′ t′ → (j : ℕ) → Stands x t′ j → (recordIn t′ j .state ≡ preActive → ⊥) × (recordIn t′ j .state ≡ active → ⊥)
+  -- the clocks that the accepted calls of a run gave
+  unfoldable pub heard : {B : Box} {log : List Event} {t : List ℕ} → Run n B log t → List ℕ
+  heard begins = []
+  heard (calls c e run same lent b) = let before = heard run in ifb (eqb (e .number) 0) (c .clock ∷ before) before
+
+  -- ---- (b) in time
+
+  -- the key at place i has no deactivation date, or one that lies after the clock
+  abbrev pub InTimeAt : ℕ → List ℕ → ℕ → Type 0
+  InTimeAt clock t i = (placeAt n t i .deactivation ≡ 0) ⊎ (clock < placeAt n t i .deactivation)
+
+  -- and so has every Active key
+  abbrev pub InTime : ℕ → List ℕ → Type 0
+  InTime clock t = (i : ℕ) → i < n → placeAt n t i .state ≡ active → InTimeAt clock t i
+
+  -- a key that is granted units: it stands, is Active, and is in time
+  pub record Spends (clock x : ℕ) (t : List ℕ) : Type 0 where
+    pub place : ℕ
+    pub stands : Stands n x t place
+    pub active : placeAt n t place .state ≡ active
+    pub in-time : InTimeAt clock t place
+
+  -- ---- (c) stopped
+
+  -- x was issued, and where it stands it is neither Pre-Active nor Active
+  pub record Stopped (x : ℕ) (t : List ℕ) : Type 0 where
+    pub issued : x ≤ lastSerial t
+    pub past : (i : ℕ) → Stands n x t i → (placeAt n t i .state ≡ preActive → ⊥) × (placeAt n t i .state ≡ active → ⊥)
+
+  -- ---- an item of an accepted call
+
+  pub record Firm (clock : ℕ) (l : Link) : Type 0 where
+    -- Active keys are in time where it begins and where it ends
+    pub meets : InTime clock (l .table)
+    pub leaves : InTime clock (l .did .table)
+    -- so no units are granted for a key past its date
+    pub spends : (x : ℕ) → (grantBy x (command (l .asked .operation) (l .asked .payload)) (l .did .outcome) ≡ 0 → ⊥) → Spends clock x (l .table)
+    -- and what is stopped stays so
+    pub stopped : (x : ℕ) → (x ≡ 0 → ⊥) → Stopped x (l .table) → Stopped x (l .did .table)
+
+  -- ---- the whole
+
+  -- a later point of the same run
+  pub data Later (B : Box) (log : List Event) (t : List ℕ) : List Event → List ℕ → Type 0 where
+    here : Later B log t log t
+    further : {log′ : List Event} {t′ : List ℕ} (c : Call) (e : Effect) → Later B log t log′ t′ → c .table ≡ t′ → Lent c → B c e → Later B log t (logged c e log′) (e .table)
+
+  pub record HopeOf (B : Box) : Type 0 where
+    -- (a) the stored latest clock is the largest clock of the accepted calls, and never falls
+    pub largest-clock : {log : List Event} {t : List ℕ} (run : Run n B log t) → latestClock t ≡ largest (heard run)
+    pub never-falls : {log log′ : List Event} {t t′ : List ℕ} → Run n B log t → Later B log t log′ t′ → latestClock t ≤ latestClock t′
+    -- (b) at every point of a run Active keys are in time by the latest clock
+    pub in-time : {log : List Event} {t : List ℕ} → Run n B log t → InTime (latestClock t) t
+    -- (b) no units are granted for a key past its date, whatever clocks later calls give: a call in which its deactivation date has come, by the clock that counts, adds nothing to them
+    pub spends-nothing : {log : List Event} {t : List ℕ} → Run n B log t → (c : Call) (e : Effect) → c .table ≡ t → Lent c → B c e
+        → (x i : ℕ) → (x ≡ 0 → ⊥) → Stands n x t i → hasCome (counted c) (placeAt n t i .deactivation) ≡ true → granted x (logged c e log) ≡ granted x log
+    -- (b), (c) and so they are between the items of an accepted call, by the clock that counts, whatever clock it gives
+    pub firm : {log : List Event} {t : List ℕ} → Run n B log t → (c : Call) (e : Effect) → c .table ≡ t → Lent c → B c e → e .number ≡ 0 → (g : Answered c e)
+        → Every (Firm (counted c)) (g .links)
+    -- what is due before the first item does not bring back what is stopped
+    pub stopped-begins : {log : List Event} {t : List ℕ} → Run n B log t → (c : Call) (e : Effect) → c .table ≡ t → Lent c → B c e → e .number ≡ 0 → (g : Answered c e)
+        → (x : ℕ) → (x ≡ 0 → ⊥) → Stopped x t → Stopped x (g .start)
+    -- (c) a key that was Deactivated is never Pre-Active or Active again under its identifier
+    pub never-again : {log log′ : List Event} {t t′ : List ℕ} → Run n B log t → (x i : ℕ) → (x ≡ 0 → ⊥) → Stands n x t i → placeAt n t i .state ≡ deactivated
+        → Later B log t log′ t′ → (j : ℕ) → Stands n x t′ j → (placeAt n t′ j .state ≡ preActive → ⊥) × (placeAt n t′ j .state ≡ active → ⊥)
+
+-- of either count
+abbrev pub Hope : Box → Type 0
+Hope B = (n : ℕ) → placesOk n ≡ true → HopeOf n B

@@ -6,39 +6,48 @@ use mathlib.Core.Bool.{true}
 use mathlib.Core.List.{List}
 use Rattle.names.specs.declared.Name.{Name}
 use Rattle.names.specs.Names.{isNamed}
+use Rattle.table.specs.Layout.{placesOk}
+use Rattle.table.specs.Records.{placeAt}
 use Rattle.payload.specs.declared.Command.the-variants.{Locate}
 use Rattle.payload.specs.Payload.{command}
 use Rattle.engine.specs.Effects.{Effect}
-use Rattle.demands.specs.Box.{Call, Box, Lent, placesOf, recordIn}
+use Rattle.demands.specs.Box.{Call, Box, Lent}
 use Rattle.demands.specs.Log.{Event}
 use Rattle.demands.specs.Demand2.{Link, Answered}
 use Rattle.demands.specs.Demand3.{Run, Stands, carries}
 use Rattle.demands.specs.Hope.{Every}
 
--- no two records have the same name
-abbrev pub NamesApart : List ℕ → Type 0
-NamesApart t = (i j : ℕ) → i < placesOf t → j < placesOf t → isNamed (recordIn t i .name) ≡ true → recordIn t i .name ≡ recordIn t j .name → i ≡ j
+-- ---- runs on a table of n places
 
--- the record at place i has the name, and no other has it
-pub record OnlyNamed (name : Name) (t : List ℕ) (i : ℕ) : Type 0 where
-  pub here : recordIn t i .name ≡ name
-  pub only : (j : ℕ) → j < placesOf t → recordIn t j .name ≡ name → j ≡ i
+module _ (n : ℕ) where
+  -- no two records have the same name
+  abbrev pub NamesApart : List ℕ → Type 0
+  NamesApart t = (i j : ℕ) → i < n → j < n → isNamed (placeAt n t i .name) ≡ true → placeAt n t i .name ≡ placeAt n t j .name → i ≡ j
 
--- what Locate answers, as the serial that its answer carries
-pub record LocatedAs (name : Name) (t : List ℕ) (serial : ℕ) : Type 0 where
-  -- none, and no record has the name
-  pub nothing : serial ≡ 0 → (j : ℕ) → j < placesOf t → recordIn t j .name ≡ name → ⊥
-  -- or that of the one record that has it
-  pub there : (serial ≡ 0 → ⊥) → (i : ℕ) × Stands serial t i × OnlyNamed name t i
+  -- the record at place i has the name, and no other has it
+  pub record OnlyNamed (name : Name) (t : List ℕ) (i : ℕ) : Type 0 where
+    pub here : placeAt n t i .name ≡ name
+    pub only : (j : ℕ) → j < n → placeAt n t j .name ≡ name → j ≡ i
 
--- an item of an accepted call
-pub record Named (l : Link) : Type 0 where
-  pub meets : NamesApart (l .table)
-  pub leaves : NamesApart (l .did .table)
-  pub locates : (name : Name) → command (l .asked .operation) (l .asked .payload) ≡ Locate name → LocatedAs name (l .table) (carries (l .did .outcome))
+  -- what Locate answers, as the serial that its answer carries
+  pub record LocatedAs (name : Name) (t : List ℕ) (serial : ℕ) : Type 0 where
+    -- none, and no record has the name
+    pub nothing : serial ≡ 0 → (j : ℕ) → j < n → placeAt n t j .name ≡ name → ⊥
+    -- or that of the one record that has it
+    pub there : (serial ≡ 0 → ⊥) → (i : ℕ) × Stands n serial t i × OnlyNamed name t i
 
-pub record Naming (B : Box) : Type 0 where
-  -- at every point of a run
-  pub apart : {log : List Event} {t : List ℕ} → Run B log t → NamesApart t
-  -- and between the items of an accepted call
-  pub between : {log : List Event} {t : List ℕ} → Run B log t → (c : Call) (e : Effect) → c .table ≡ t → Lent c → B c e → e .number ≡ 0 → (g : Answered c e) → Every Named (g .links)
+  -- an item of an accepted call
+  pub record Named (l : Link) : Type 0 where
+    pub meets : NamesApart (l .table)
+    pub leaves : NamesApart (l .did .table)
+    pub locates : (name : Name) → command (l .asked .operation) (l .asked .payload) ≡ Locate name → LocatedAs name (l .table) (carries (l .did .outcome))
+
+  pub record NamingOf (B : Box) : Type 0 where
+    -- at every point of a run
+    pub apart : {log : List Event} {t : List ℕ} → Run n B log t → NamesApart t
+    -- and between the items of an accepted call
+    pub between : {log : List Event} {t : List ℕ} → Run n B log t → (c : Call) (e : Effect) → c .table ≡ t → Lent c → B c e → e .number ≡ 0 → (g : Answered c e) → Every Named (g .links)
+
+-- of either count
+abbrev pub Naming : Box → Type 0
+Naming B = (n : ℕ) → placesOk n ≡ true → NamingOf n B

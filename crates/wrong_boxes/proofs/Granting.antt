@@ -54,7 +54,7 @@ pub invents-count : Demand3 InventsCount → ⊥
 unfolding invented sumsOf sums
 invents-count d =
     let r = calls grantCall invented begins refl lent-grant (accepted-is grantCall invented grant-accepted) in
-    let b = in-order InventsCount d r .balance 1 0 (λ z. omega arith) (record { below = lit< tt; serial = ap (λ (s : Sums). s .serial) two-hundred }) in
+    let b = in-order InventsCount smallCount refl (d smallCount refl) r .balance 1 0 (λ z. omega arith) (record { below = lit< tt; serial = ap (λ (s : Sums). s .serial) two-hundred }) in
     let z : _≡_ {A = ℕ} 200 100 = sym (ap (λ (s : Sums). s .spent) two-hundred) ∙ b ∙ ap (λ (s : Sums). s .begun) two-hundred in
     omega arith
 
@@ -76,13 +76,13 @@ issue-grants x (Get target) o h = refl
 issue-grants x (Locate name) o h = refl
 
 -- whoever stood at a place that is taken is gone
-module _ (log : List Event) (t u : List ℕ) (ev : Event) (tame : Tame ev t u) (before : InOrder log t) (after : InOrder (ev ∷ log) u)
-    (x i : ℕ) (z : x ≡ 0 → ⊥) (s : Stands x t i) (taken : takes ev t i ≡ true) where
+module _ {n : ℕ} (log : List Event) (t u : List ℕ) (ev : Event) (tame : Tame n ev t u) (before : InOrder n log t) (after : InOrder n (ev ∷ log) u)
+    (x i : ℕ) (z : x ≡ 0 → ⊥) (s : Stands n x t i) (taken : takes n ev t i ≡ true) where
   abbrev new : ℕ
   new = issuedBy (commandOf ev) (ev .answer .outcome)
 
   issues : new ≡ 0 → ⊥
-  issues e = true≢false (sym (and-l (not (eqb new 0)) (isAt i (newPlace smallCount t)) taken) ∙ ap not (eq-eqb new 0 e))
+  issues e = true≢false (sym (and-l (not (eqb new 0)) (isAt i (newPlace n t)) taken) ∙ ap not (eq-eqb new 0 e))
 
   once : issued x log ≡ 1
   once = before .known x i z s
@@ -91,22 +91,22 @@ module _ (log : List Event) (t u : List ℕ) (ev : Event) (tame : Tame ev t u) (
   not-anew e = omega (arith, issued-now x ev log e, after .once x z, once)
 
   -- the place that is taken is the only one that had its serial
-  elsewhere : (j : ℕ) → Stands x u j → (b : Bool) → takes ev t j ≡ b → ⊥
+  elsewhere : (j : ℕ) → Stands n x u j → (b : Bool) → takes n ev t j ≡ b → ⊥
   elsewhere j r true e = not-anew (sym (tame .taken j (r .below) e .serial) ∙ r .serial)
   elsewhere j r false e =
       let same : serialAt t j ≡ x = sym (tame .kept j (r .below) e) ∙ r .serial in
-      let q : j ≡ i = sound-is smallCount t (before .stays-sound) .distinct j i (r .below) (s .below) (λ k. z (sym same ∙ k)) (same ∙ sym (s .serial)) in
-      true≢false (sym taken ∙ ap (takes ev t) (sym q) ∙ e)
+      let q : j ≡ i = sound-is n t (before .stays-sound) .distinct j i (r .below) (s .below) (λ k. z (sym same ∙ k)) (same ∙ sym (s .serial)) in
+      true≢false (sym taken ∙ ap (takes n ev t) (sym q) ∙ e)
 
-  taken-gone : Gone x (granted x log) (ev ∷ log) u
+  taken-gone : Gone n x (granted x log) (ev ∷ log) u
   taken-gone = record {
     once = omega (arith, issued-before x ev log not-anew, once);
-    away = λ j r. elsewhere j r (takes ev t j) refl;
+    away = λ j r. elsewhere j r (takes n ev t j) refl;
     same = omega (arith, granted-more x ev log, issue-grants x (commandOf ev) (ev .answer .outcome) issues);
   }
 
 -- so it has the same units behind the whole call
-path-taken : (log events : List Event) (t v : List ℕ) (ev : Event) (x i : ℕ) → InOrder log t → Path log t (ev ∷ events) v → (x ≡ 0 → ⊥) → Stands x t i → takes ev t i ≡ true
+path-taken : {n : ℕ} (log events : List Event) (t v : List ℕ) (ev : Event) (x i : ℕ) → InOrder n log t → Path n log t (ev ∷ events) v → (x ≡ 0 → ⊥) → Stands n x t i → takes n ev t i ≡ true
     → granted x (onto (ev ∷ events) log) ≡ granted x log
 unfolding onto
 path-taken log events t v ev x i before (went _ u tame after rest) z s taken = path-gone x (granted x log) z rest (taken-gone log t u ev tame before after x i z s taken) .same
@@ -116,16 +116,16 @@ pub grants-taken : (B : Box) → GrantsTaken B → Demand3 B → ⊥
 unfolding logged
 grants-taken B g d = g .more (ap (λ (events : List Event). granted (g .x) (onto events (g .log))) (g .events-are) ∙ ap (granted (g .x)) (onto-append (g .before) (g .taker ∷ g .later) (g .log)) ∙ same-units)
   where
-    going : Goes (g .log) (g .c) (g .e)
-    going = d .goes (g .log) (g .t) (g .run) (g .c) (g .e) (g .same) (g .lent) (g .left)
+    going : Goes (g .places) (g .log) (g .c) (g .e)
+    going = d (g .places) (g .some-count) .goes (g .log) (g .t) (g .run) (g .c) (g .e) (g .same) (g .lent) (g .left)
 
-    path : Path (g .log) (going .start) (g .before ++ (g .taker ∷ g .later)) (g .e .table)
-    path = subst (λ (events : List Event). Path (g .log) (going .start) events (g .e .table)) (g .events-are) (going .path)
+    path : Path (g .places) (g .log) (going .start) (g .before ++ (g .taker ∷ g .later)) (g .e .table)
+    path = subst (λ (events : List Event). Path (g .places) (g .log) (going .start) events (g .e .table)) (g .events-are) (going .path)
 
-    between : Between (g .log) (going .start) (g .before) (g .taker ∷ g .later) (g .e .table)
+    between : Between (g .places) (g .log) (going .start) (g .before) (g .taker ∷ g .later) (g .e .table)
     between = path-between (g .before) (g .taker ∷ g .later) path
 
-    from : TakesFrom (g .x) (g .taker) (between .table)
+    from : TakesFrom (g .places) (g .x) (g .taker) (between .table)
     from = g .taken (going .start) (between .table) (going .opens) (between .there)
 
     same-units : granted (g .x) (onto (g .taker ∷ g .later) (onto (g .before) (g .log))) ≡ granted (g .x) (onto (g .before) (g .log))

@@ -7,6 +7,7 @@ use mathlib.Core.List.{List, []}
 use lib.Dec.{lit<}
 use Rattle.hex.specs.Texts.{hex}
 use Rattle.engine.specs.Effects.{Effect}
+use Rattle.table.specs.Layout.{smallCount}
 use Rattle.demands.specs.Box.{Call, Lent}
 use Rattle.demands.specs.Demand2.{frameOf, ofFrame, refusalConditions, lowest}
 use Rattle.demands.specs.Log.{itemsAsked, heldAfter, paired, orNoItems, orNoAnswers, eventsOf, onto, logged, handedBy, destroyedBy, wasDestroyed, handedDead}
@@ -44,5 +45,5 @@ pub hands-dead : Demand3 HandsDead → ⊥
 unfolding handed
 hands-dead d =
     let r = calls deadCall handed begins refl lent-dead (accepted-is deadCall handed dead-accepted) in
-    let z : _≡_ {A = ℕ} 1 0 = sym handed-once ∙ in-order HandsDead d r .dead 1 (λ e. omega arith) in
+    let z : _≡_ {A = ℕ} 1 0 = sym handed-once ∙ in-order HandsDead smallCount refl (d smallCount refl) r .dead 1 (λ e. omega arith) in
     omega arith

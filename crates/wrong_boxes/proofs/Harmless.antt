@@ -23,7 +23,7 @@ use Rattle.batch_item.proofs.Bounds.{AllBounded}
 use Rattle.answer.specs.Respond.{Answer, respond}
 use Rattle.answer.specs.Read.{outcomeOk, answerOk, allowed}
 use Rattle.answer.proofs.Front.{response-size}
-use Rattle.table.specs.Layout.{smallCount}
+use Rattle.table.specs.Layout.{placesOk}
 use Rattle.table.specs.Records.{blank}
 use Rattle.values.specs.Values.{aboveZero}
 use Rattle.changes.specs.Records.{inState}
@@ -31,7 +31,7 @@ use Rattle.changes.specs.Dates.{began}
 use Rattle.engine.specs.Batch.{Ran, running}
 use Rattle.engine.specs.Effects.{Effect}
 use Rattle.engine.specs.Serving.{turnedAway}
-use Rattle.demands.specs.Box.{Call, Box, Lent, counted}
+use Rattle.demands.specs.Box.{Call, Box, Lent, placesOf, counted}
 use Rattle.demands.specs.Demand1.{Demand1, Untouched, Within, refusals}
 use Rattle.demands.specs.Demand2.{frameOf, refusalConditions, lowest}
 use Rattle.demands.specs.Log.{Event, itemsAsked, answersGiven, eventsOf, onto, logged}
@@ -52,31 +52,33 @@ module _ (B : Box) (still : (c : Call) (e : Effect) → B c e → (k : ℕ) × (
   same-table : (c : Call) (e : Effect) → B c e → e .table ≡ c .table
   same-table c e b = ap (λ (x : Effect). x .table) (still c e b .1)
 
-  -- so nothing ever happens
-  still-run : {log : List Event} {t : List ℕ} → Run B log t → (log ≡ []) × (t ≡ blank smallCount)
-  unfolding logged onto
-  still-run begins = (refl, refl)
-  still-run (calls {log} c e r same lent b) =
-      let before = still-run r in
-      (ap (λ (events : List Event). onto events log) (no-events c e b) ∙ before .0, same-table c e b ∙ same ∙ before .1)
+  module _ (n : ℕ) (ok : placesOk n ≡ true) where
+    -- so nothing ever happens
+    still-run : {log : List Event} {t : List ℕ} → Run n B log t → (log ≡ []) × (t ≡ blank n)
+    unfolding logged onto
+    still-run begins = (refl, refl)
+    still-run (calls {log} c e r same lent b) =
+        let before = still-run r in
+        (ap (λ (events : List Event). onto events log) (no-events c e b) ∙ before .0, same-table c e b ∙ same ∙ before .1)
 
-  still-order : {log : List Event} {t : List ℕ} → Run B log t → InOrder log t
-  still-order {log} {t} r =
-      let p = still-run r in
-      subst (λ (l : List Event). InOrder l t) (sym (p .0)) (subst (InOrder []) (sym (p .1)) (inv-order [] (blank smallCount) (blank-books .inv) (blank-books .dead)))
+    still-order : {log : List Event} {t : List ℕ} → Run n B log t → InOrder n log t
+    still-order {log} {t} r =
+        let p = still-run r in
+        let books = blank-books n ok in
+        subst (λ (l : List Event). InOrder n l t) (sym (p .0)) (subst (InOrder n []) (sym (p .1)) (inv-order [] (blank n) (books .inv) (books .dead)))
 
-  still-opens : (c : Call) (number : ℕ) → Opens c number (c .table)
-  unfolding inState
-  still-opens c zero = accepted (record { latest = inl refl; issued = refl; moves = λ i low h. absurd (h refl); others = λ i low. refl })
-  still-opens c (suc k) = refused (λ z. (let q : suc k ≡ 0 = z in omega arith))
+    still-opens : (c : Call) (number : ℕ) → Opens n c number (c .table)
+    unfolding inState
+    still-opens c zero = accepted (record { latest = inl refl; issued = refl; moves = λ i low h. absurd (h refl); others = λ i low. refl })
+    still-opens c (suc k) = refused (λ z. (let q : suc k ≡ 0 = z in omega arith))
 
   still-meets-3 : Demand3 B
-  still-meets-3 = record {
+  still-meets-3 n ok = record {
     goes = λ log t r c e same lent b. record {
       start = c .table;
-      opens = still-opens c (e .number);
-      order = subst (InOrder log) (sym same) (still-order r);
-      path = subst (λ (u : List ℕ). Path log (c .table) (eventsOf c e) u) (sym (same-table c e b)) (subst (λ (events : List Event). Path log (c .table) events (c .table)) (sym (no-events c e b)) arrived);
+      opens = still-opens n ok c (e .number);
+      order = subst (InOrder n log) (sym same) (still-order n ok r);
+      path = subst (λ (u : List ℕ). Path n log (c .table) (eventsOf c e) u) (sym (same-table c e b)) (subst (λ (events : List Event). Path n log (c .table) events (c .table)) (sym (no-events c e b)) arrived);
     };
     asked = λ log t r c e same lent b.
         let p = still c e b in
@@ -238,7 +240,7 @@ ran-rightly : (c : Call) (a : Accepted c) → ranRightly c ≡ ranBy c a
 unfolding ranUnder
 ran-rightly c a =
     ap (ranUnder (λ option. option) c) (frame-is c a)
-    ∙ ap (λ (k : ℕ). running smallCount (c .strip) (began smallCount k (c .table)) (requestOf (a .frame))) (sym (counting-is c))
+    ∙ ap (λ (k : ℕ). running (placesOf c) (c .strip) (began (placesOf c) k (c .table)) (requestOf (a .frame))) (sym (counting-is c))
 
 ran-fine : (c : Call) → Lent c → (a : Accepted c) → Fine (ranBy c a .answers)
 ran-fine c lent a = record {

@@ -17,9 +17,10 @@ use Rattle.octets.proofs.Bools.{and-no}
 use Rattle.ttlv.specs.Items.{nil}
 use Rattle.ttlv.specs.Parse.{message}
 use Rattle.table.specs.Layout.{smallCount}
-use Rattle.table.specs.Records.{blank}
+use Rattle.table.specs.Records.{placesSaid, blank}
 use Rattle.soundness.specs.Sound.{sound}
-use Rattle.soundness.proofs.Blank.{blank-sound}
+use Rattle.place_counts.proofs.Counts.{right-of, blank-right}
+use Rattle.keeps.proofs.Keeps.{facts}
 use Rattle.rules.specs.declared.Reason.the-variants.{ServerLimitExceeded, NonUniqueName}
 use Rattle.rules.specs.Tests.{due}
 use Rattle.changes.specs.Changes.{isFull, nextSerial}
@@ -107,7 +108,7 @@ grant-command = refl
 
 pub accepted-on : (request t : List ℕ) → sound smallCount t ≡ true → lowest 1 (refusalConditions (calling request 1)) ≡ 0 → lowest 1 (refusalConditions (callingOn t request 1)) ≡ 0
 unfolding refusalConditions frameOf
-accepted-on request t right e = rw (right ∙ sym (blank-sound smallCount (lit< tt))) e
+accepted-on request t right e = rw (right-of t smallCount refl right ∙ sym (blank-right smallCount refl)) e
 
 create-accepted : lowest 1 (refusalConditions (calling createRequest 1)) ≡ 0
 unfolding opened createItem createRequest frameOf ofFrame refusalConditions lowest
@@ -177,13 +178,19 @@ createCall t = callingOn t createRequest 1
 pub counted-one : (k : ℕ) (t request : List ℕ) → Filled k t → counted (callingOn t request 1) ≡ 1
 counted-one k t request f = max-eq-left (f .latest)
 
+-- and its places are those of a small table
+pub ran-small : (k : ℕ) (t request : List ℕ) → Filled k t → (option : ℕ) (items : List Asked)
+    → batch (placesSaid t) (countedFrom 0 512) option 0 0 (began (placesSaid t) (counted (callingOn t request 1)) t) items ≡ batch smallCount (countedFrom 0 512) option 0 0 (begunAt t) items
+ran-small k t request f option items =
+    ap₂ (λ (n clock : ℕ). batch n (countedFrom 0 512) option 0 0 (began n clock t) items) (facts smallCount t (f .held) .count) (counted-one k t request f)
+
 create-ran : (k : ℕ) (t : List ℕ) → Filled k t → isFull smallCount (begunAt t) ≡ false
     → ranUnder (λ option. option) (createCall t) (frameOf (createCall t)) ≡ lastly (answerTo createAsked (created 0 (begunAt t))) (grown 0 (begunAt t))
 unfolding frameOf ranUnder running
 create-ran k t f room =
     let option = optionOf (frameFrom createRequest .header .option) in
     ap (ranUnder (λ option. option) (createCall t)) create-read
-    ∙ ap (λ (clock : ℕ). batch smallCount (countedFrom 0 512) option 0 0 (began smallCount clock t) (createAsked ∷ [])) (counted-one k t createRequest f)
+    ∙ ran-small k t createRequest f option (createAsked ∷ [])
     ∙ batch-last option 0 0 (begunAt t) createAsked (created 0 (begunAt t)) (create-step 0 0 (begunAt t) room)
 
 -- what the box leaves of it
@@ -199,7 +206,7 @@ create-left k t f room =
 pub record Reached (k : ℕ) : Type 0 where
   pub log : List Event
   pub table : List ℕ
-  pub run : Run Regrants log table
+  pub run : Run smallCount Regrants log table
   pub filled : Filled k table
 
 pub reached : (k : ℕ) → k ≤ smallCount → Reached k

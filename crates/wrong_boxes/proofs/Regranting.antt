@@ -58,7 +58,7 @@ use Rattle.cases.proofs.Cases.{opened}
 use Rattle.wrong_boxes.proofs.Calling.{callingOn, lent-on, accepted-is}
 use Rattle.wrong_boxes.proofs.Granting.{grants-taken}
 use Rattle.wrong_boxes.proofs.Filling.{wanted, own, grown, has-room, grown-born, firstKey, Filled, begunAt, filled-begun, takes-first}
-use Rattle.wrong_boxes.proofs.Reaching.{createItem, createRequest, takeRequest, frameOr, frameFrom, itemAt, createAsked, destroyAsked, grantAsked, take-read, create-command, destroy-command, grant-command, counted-one, accepted-on, take-accepted, take-bytes, batch-last, batch-on, decided, planned, created, create-step, reached}
+use Rattle.wrong_boxes.proofs.Reaching.{createItem, createRequest, takeRequest, frameOr, frameFrom, itemAt, createAsked, destroyAsked, grantAsked, take-read, create-command, destroy-command, grant-command, counted-one, ran-small, accepted-on, take-accepted, take-bytes, batch-last, batch-on, decided, planned, created, create-step, reached}
 
 -- ---- the last call, on a full table
 
@@ -224,7 +224,7 @@ dies state h = go (eqb state 5) h
     go false e = e
 
 -- a path of one item is its tame step
-one-step : {log : List Event} {t u : List ℕ} {ev : Event} → Path log t (ev ∷ []) u → Tame ev t u
+one-step : {log : List Event} {t u : List ℕ} {ev : Event} → Path smallCount log t (ev ∷ []) u → Tame smallCount ev t u
 one-step (went ev u tame after arrived) = tame
 
 -- the table u that the first item meets, and the one that the batch leaves
@@ -258,7 +258,7 @@ module _ (u : List ℕ) (f : Filled 64 u) (now : latestClock u ≡ 1) where
 
 -- ---- the call
 
-module _ (log : List Event) (t : List ℕ) (run : Run Regrants log t) (f : Filled 64 t) where
+module _ (log : List Event) (t : List ℕ) (run : Run smallCount Regrants log t) (f : Filled 64 t) where
   abbrev takeCall : Call
   takeCall = callingOn t takeRequest 1
 
@@ -280,7 +280,7 @@ module _ (log : List Event) (t : List ℕ) (run : Run Regrants log t) (f : Fille
   ran =
       let option = optionOf (frameFrom takeRequest .header .option) in
       ap (ranUnder (λ option. option) takeCall) take-read
-      ∙ ap (λ (clock : ℕ). batch smallCount (countedFrom 0 512) option 0 0 (began smallCount clock t) (destroyAsked ∷ createAsked ∷ grantAsked ∷ [])) (counted-one 64 t takeRequest f)
+      ∙ ran-small 64 t takeRequest f option (destroyAsked ∷ createAsked ∷ grantAsked ∷ [])
       ∙ take-ran opening full now-one option
 
   take-left : Regrants takeCall takeLeft
@@ -300,7 +300,7 @@ module _ (log : List Event) (t : List ℕ) (run : Run Regrants log t) (f : Fille
   take-events = ap (λ (clock : ℕ). eventsOf takeCall (stamping clock takeCall takenAnswers (left opening full now-one))) (counted-one 64 t takeRequest f) ∙ events-one
 
   -- however the call may open, the first key waits in its place
-  module _ (start : List ℕ) (due : DueOnly (counted takeCall) t start) where
+  module _ (start : List ℕ) (due : DueOnly smallCount (counted takeCall) t start) where
     start-serials : (i : ℕ) → i < smallCount → serialAt start i ≡ i + 1
     start-serials i l = due-serial t start due i l ∙ f .serials i l
 
@@ -318,8 +318,8 @@ module _ (log : List Event) (t : List ℕ) (run : Run Regrants log t) (f : Fille
         ]
 
     -- and wherever the Destroy may have led, the Create takes its place
-    module _ (u : List ℕ) (tame : Tame destroyEvent start u) where
-      untaken : (i : ℕ) → takes destroyEvent start i ≡ false
+    module _ (u : List ℕ) (tame : Tame smallCount destroyEvent start u) where
+      untaken : (i : ℕ) → takes smallCount destroyEvent start i ≡ false
       unfolding issuedBy
       untaken i = and-no _ _ (ap (λ (c : Command). not (eqb (issuedBy c (Done 1)) 0)) destroy-command)
 
@@ -329,7 +329,7 @@ module _ (log : List Event) (t : List ℕ) (run : Run Regrants log t) (f : Fille
       start-found : find smallCount start 1 ≡ At 0
       start-found = find-is smallCount start 1 0 (λ z. omega arith) (lit< tt) (start-serials 0 (lit< tt)) (λ j h. absurd (omega arith))
 
-      first-named : names destroyEvent start 0 ≡ true
+      first-named : names smallCount destroyEvent start 0 ≡ true
       unfolding namedBy sought isAt
       first-named = ap (λ (c : Command). isAt 0 (find smallCount start (namedBy 0 c))) destroy-command ∙ ap (isAt 0) start-found
 
@@ -341,7 +341,7 @@ module _ (log : List Event) (t : List ℕ) (run : Run Regrants log t) (f : Fille
           let from = ap (λ (state : ℕ). listed destroy 0 state (placeAt smallCount u 0 .state)) start-state in
           or-l _ _ (ap (λ (s : ℕ). eqb s 5) (state-is smallCount u 0) ∙ dies (placeAt smallCount u 0 .state) (sym from ∙ sym same ∙ way))
 
-      takes-from : TakesFrom 1 createEvent u
+      takes-from : TakesFrom smallCount 1 createEvent u
       unfolding issuedBy isAt
       takes-from = record {
         place = 0;
@@ -361,6 +361,8 @@ module _ (log : List Event) (t : List ℕ) (run : Run Regrants log t) (f : Fille
   grants-first : GrantsTaken Regrants
   unfolding onto
   grants-first = record {
+    places = smallCount;
+    some-count = refl;
     log = log;
     t = t;
     run = run;

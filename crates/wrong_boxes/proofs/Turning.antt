@@ -16,7 +16,7 @@ use Rattle.octets.specs.Octets.{all}
 use Rattle.octets.proofs.Bools.{and-no}
 use Rattle.table.specs.declared.Record.{Record}
 use Rattle.table.specs.Layout.{smallCount}
-use Rattle.table.specs.Records.{stateAt, latestClock, withClock, blank}
+use Rattle.table.specs.Records.{placeAt, stateAt, latestClock, withClock, blank}
 use Rattle.ttlv.specs.Items.{nil}
 use Rattle.ttlv.specs.Parse.{message}
 use Rattle.rules.specs.Numbers.{getAttributes}
@@ -24,7 +24,7 @@ use Rattle.plans.specs.declared.Outcome.the-variants.{Done}
 use Rattle.answer.specs.Respond.{Response}
 use Rattle.answer.specs.Read.{answersIn}
 use Rattle.engine.specs.Effects.{Effect}
-use Rattle.demands.specs.Box.{Call, Box, Lent, recordIn, counted}
+use Rattle.demands.specs.Box.{Call, Box, Lent, counted}
 use Rattle.demands.specs.Demand2.{Demand2, Answered, frameOf, ofFrame, refusalConditions, lowest}
 use Rattle.demands.specs.Log.{Event, commandOf, heldAfter, paired, orNoItems, orNoAnswers, eventsOf, logged, issuedBy}
 use Rattle.demands.specs.Demand3.{Run, begins, calls, codeOf, takes, listed, listedBy, Tame, DueOnly, Path, arrived, went, Goes, Demand3}
@@ -89,7 +89,7 @@ isAlone (ev ∷ []) = true
 isAlone (ev ∷ next ∷ events) = false
 
 -- goes one tame step
-alone-tame : {log events : List Event} {t v : List ℕ} (ev : Event) → Path log t events v → isAlone events ≡ true → Tame (headOr ev events) t v
+alone-tame : {log events : List Event} {t v : List ℕ} (ev : Event) → Path smallCount log t events v → isAlone events ≡ true → Tame smallCount (headOr ev events) t v
 unfolding headOr isAlone
 alone-tame ev arrived e = absurd (false≢true e)
 alone-tame ev (went first u tame after arrived) e = tame
@@ -143,8 +143,8 @@ module _ (made : Call → List ℕ → List ℕ) where
         counts = counted third;
         latest-before = latestClock (third .table);
         latest-after = latestClock (left .table);
-        state-before = recordIn (third .table) 0 .state;
-        state-after = recordIn (left .table) 0 .state;
+        state-before = placeAt smallCount (third .table) 0 .state;
+        state-after = placeAt smallCount (left .table) 0 .state;
       }
 
 -- the key was stopped, by clock 9, and then a Get Attributes came with clock 5
@@ -195,7 +195,7 @@ module _ (made : Call → List ℕ → List ℕ) (d : Demand3 (Leaves made)) {la
   abbrev left : Effect
   left = leftOf made third
 
-  going : Goes (logged (secondCall made) (leftOf made (secondCall made)) (logged (firstCall made) (leftOf made (firstCall made)) [])) third left
+  going : Goes smallCount (logged (secondCall made) (leftOf made (secondCall made)) (logged (firstCall made) (leftOf made (firstCall made)) [])) third left
   unfolding seen firstCall secondCall thirdCall
   going =
       let first = firstCall made in
@@ -204,19 +204,19 @@ module _ (made : Call → List ℕ → List ℕ) (d : Demand3 (Leaves made)) {la
       let lent-second = lent-on (second .table) showRequest 9 (bytes-test (second .table) (ap (λ (s : Seen). s .bytes-second) is)) show-bytes (lit< tt) in
       let lent-third = lent-on (third .table) showRequest 5 (bytes-test (third .table) (ap (λ (s : Seen). s .bytes-third) is)) show-bytes (lit< tt) in
       let q = calls second (leftOf made second) r refl lent-second (accepted-is second (leftOf made second) (ap (λ (s : Seen). s .taken-second) is)) in
-      d .goes _ _ q third left refl lent-third (accepted-is third left (ap (λ (s : Seen). s .taken-third) is))
+      d smallCount refl .goes _ _ q third left refl lent-third (accepted-is third left (ap (λ (s : Seen). s .taken-third) is))
 
   abbrev start : List ℕ
   start = going .start
 
-  due : DueOnly (counted third) (third .table) start
+  due : DueOnly smallCount (counted third) (third .table) start
   unfolding seen
   due = opens-due (going .opens) (ap (λ (s : Seen). s .number) is)
 
   abbrev event : Event
   event = headOr noEvent (eventsOf third left)
 
-  step : Tame event start (left .table)
+  step : Tame smallCount event start (left .table)
   unfolding seen
   step = alone-tame noEvent (going .path) (ap (λ (s : Seen). s .alone) is)
 
@@ -228,26 +228,26 @@ module _ (made : Call → List ℕ → List ℕ) (d : Demand3 (Leaves made)) {la
       ∙ step .latest
       ∙ ⊎-elim (λ e. e ∙ ap (λ (s : Seen). s .latest-before) is) (λ e. e ∙ ap (λ (s : Seen). s .counts) is) (due .latest)
 
-  start-stopped : recordIn start 0 .state ≡ 3
+  start-stopped : placeAt smallCount start 0 .state ≡ 3
   unfolding seen
   start-stopped =
-      let before : recordIn (third .table) 0 .state ≡ 3 = ap (λ (s : Seen). s .state-before) is in
-      elim (ℕ-discrete (recordIn start 0 .state) (recordIn (third .table) 0 .state)) [
+      let before : placeAt smallCount (third .table) 0 .state ≡ 3 = ap (λ (s : Seen). s .state-before) is in
+      elim (ℕ-discrete (placeAt smallCount start 0 .state) (placeAt smallCount (third .table) 0 .state)) [
         | yes e ↦ e ∙ before
-        | no e ↦ absurd (true≢false (sym (due .moves 0 (lit< tt) e) ∙ stopped-stays (counted third) (recordIn (third .table) 0) _ before))
+        | no e ↦ absurd (true≢false (sym (due .moves 0 (lit< tt) e) ∙ stopped-stays (counted third) (placeAt smallCount (third .table) 0) _ before))
       ]
 
   -- and the key is Deactivated still
   state-is : state ≡ 3
   unfolding seen
   state-is =
-      let after : recordIn (left .table) 0 .state ≡ state = ap (λ (s : Seen). s .state-after) is in
-      let untaken : takes event start 0 ≡ false = and-no _ _ (ap (λ (s : Seen). not (eqb (s .issued) 0)) is) in
-      elim (ℕ-discrete (recordIn (left .table) 0 .state) (recordIn start 0 .state)) [
+      let after : placeAt smallCount (left .table) 0 .state ≡ state = ap (λ (s : Seen). s .state-after) is in
+      let untaken : takes smallCount event start 0 ≡ false = and-no _ _ (ap (λ (s : Seen). not (eqb (s .issued) 0)) is) in
+      elim (ℕ-discrete (placeAt smallCount (left .table) 0 .state) (placeAt smallCount start 0 .state)) [
         | yes e ↦ sym after ∙ e ∙ start-stopped
         | no e ↦ absurd (true≢false (sym (step .moves 0 (lit< tt) untaken e .way)
-            ∙ ap (λ (s : Seen). listed (s .operation) (codeOf (commandOf event)) (recordIn start 0 .state) (recordIn (left .table) 0 .state)) is
-            ∙ show-moves (codeOf (commandOf event)) (recordIn start 0 .state) (recordIn (left .table) 0 .state)))
+            ∙ ap (λ (s : Seen). listed (s .operation) (codeOf (commandOf event)) (placeAt smallCount start 0 .state) (placeAt smallCount (left .table) 0 .state)) is
+            ∙ show-moves (codeOf (commandOf event)) (placeAt smallCount start 0 .state) (placeAt smallCount (left .table) 0 .state)))
       ]
 
 -- ---- the boxes
@@ -260,7 +260,7 @@ pub stores-given : Demand3 StoresGiven → ⊥
 stores-given d = let z : _≡_ {A = ℕ} 5 9 = latest-is (λ c due. withClock due (c .clock)) d stores-seen in omega arith
 
 abbrev reviving : Call → List ℕ → List ℕ
-reviving c due = ifb (eqb (stateAt due 0) 3 && ltb (c .clock) (recordIn due 0 .deactivation)) (woken due) due
+reviving c due = ifb (eqb (stateAt due 0) 3 && ltb (c .clock) (placeAt smallCount due 0 .deactivation)) (woken due) due
 
 revives-seen : seen reviving ≡ seenLeft 9 2
 unfolding dated-opened isByte seen firstCall secondCall thirdCall noEvent headOr isAlone withTable woken frameOf ofFrame refusalConditions lowest eventsOf paired heldAfter orNoItems orNoAnswers issuedBy

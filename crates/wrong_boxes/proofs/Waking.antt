@@ -10,7 +10,7 @@ use Rattle.octets.specs.If.{ifb}
 use Rattle.octets.proofs.Bools.{and-no}
 use Rattle.search.specs.declared.Found.the-variants.{At}
 use Rattle.table.specs.Layout.{smallCount}
-use Rattle.table.specs.Records.{serialAt, stateAt, blank}
+use Rattle.table.specs.Records.{placeAt, serialAt, stateAt, blank}
 use Rattle.search.specs.Search.{find}
 use Rattle.search.proofs.Finds.{find-is}
 use Rattle.soundness.specs.Checked.{isAt}
@@ -19,7 +19,7 @@ use Rattle.ttlv.specs.Items.{nil}
 use Rattle.plans.specs.declared.Outcome.the-variants.{Done}
 use Rattle.plans.specs.Plans.{isFailed}
 use Rattle.engine.specs.Effects.{Effect}
-use Rattle.demands.specs.Box.{Call, Lent, recordIn}
+use Rattle.demands.specs.Box.{Call, Lent}
 use Rattle.demands.specs.Demand2.{frameOf, ofFrame, refusalConditions, lowest}
 use Rattle.demands.specs.Log.{Event, commandOf, heldAfter, paired, orNoItems, orNoAnswers, eventsOf, logged, issuedBy}
 use Rattle.demands.specs.Demand3.{begins, calls, namedBy, movesState, codeOf, takes, listed, Tame, Path, arrived, went, Demand3}
@@ -38,9 +38,9 @@ lastOr ev (next ∷ events) = lastOr next events
 -- the last item went a tame step to the table that is left
 record Last (ev : Event) (v : List ℕ) : Type 0 where
   pub met : List ℕ
-  pub tame : Tame ev met v
+  pub tame : Tame smallCount ev met v
 
-path-last : {log events : List Event} {t v : List ℕ} (ev : Event) → Path log t events v → Last ev t → Last (lastOr ev events) v
+path-last : {log events : List Event} {t v : List ℕ} (ev : Event) → Path smallCount log t events v → Last ev t → Last (lastOr ev events) v
 unfolding lastOr
 path-last ev arrived l = l
 path-last ev (went {t = t} next u tame after rest) l = path-last next rest (record { met = t; tame = tame })
@@ -49,7 +49,7 @@ isEmpty : List Event → Bool
 isEmpty [] = true
 isEmpty (ev ∷ events) = false
 
-path-end : {log events : List Event} {t v : List ℕ} (ev : Event) → Path log t events v → isEmpty events ≡ false → Last (lastOr ev events) v
+path-end : {log events : List Event} {t v : List ℕ} (ev : Event) → Path smallCount log t events v → isEmpty events ≡ false → Last (lastOr ev events) v
 unfolding lastOr isEmpty
 path-end ev arrived e = absurd (true≢false e)
 path-end ev (went {t = t} next u tame after rest) e = path-last next rest (record { met = t; tame = tame })
@@ -78,7 +78,7 @@ seenOf ev none v = record {
   failed = isFailed (ev .answer .outcome);
   moves = movesState (commandOf ev);
   serial = serialAt v 0;
-  state = recordIn v 0 .state;
+  state = placeAt smallCount v 0 .state;
 }
 
 noEvent : Event
@@ -99,12 +99,12 @@ wakingBy operation code = record { none = false; operation = operation; code = c
 module _ (operation code : ℕ) (never : (from : ℕ) → listed operation code from 2 ≡ false) where
   last-waking : (ev : Event) (none : Bool) (v : List ℕ) → Last ev v → seenOf ev none v ≡ wakingBy operation code → ⊥
   unfolding seenOf isAt
-  last-waking ev none v l e = false≢true (sym (never (recordIn u 0 .state)) ∙ way)
+  last-waking ev none v l e = false≢true (sym (never (placeAt smallCount u 0 .state)) ∙ way)
     where
       u : List ℕ
       u = l .met
 
-      untaken : takes ev u 0 ≡ false
+      untaken : takes smallCount ev u 0 ≡ false
       untaken = and-no _ _ (ap (λ (x : Seen). not (eqb (x .issued) 0)) e)
 
       serial : serialAt u 0 ≡ 1
@@ -113,12 +113,12 @@ module _ (operation code : ℕ) (never : (from : ℕ) → listed operation code 
       found : find smallCount u (namedBy (ev .held) (commandOf ev)) ≡ At 0
       found = ap (λ (x : Seen). find smallCount u (x .named)) e ∙ find-is smallCount u 1 0 (λ z. omega arith) (lit< tt) serial (λ j h. absurd (omega arith))
 
-      way : listed operation code (recordIn u 0 .state) 2 ≡ true
+      way : listed operation code (placeAt smallCount u 0 .state) 2 ≡ true
       way =
-          sym (ap (λ (x : Seen). listed (x .operation) (x .code) (recordIn u 0 .state) (x .state)) e)
+          sym (ap (λ (x : Seen). listed (x .operation) (x .code) (placeAt smallCount u 0 .state) (x .state)) e)
           ∙ l .tame .obeys 0 (lit< tt) (ap (isAt 0) found) (ap (λ (x : Seen). x .failed) e) (ap (λ (x : Seen). x .moves) e)
 
-  no-waking : {log events : List Event} {t v : List ℕ} → Path log t events v → seen events v ≡ wakingBy operation code → ⊥
+  no-waking : {log events : List Event} {t v : List ℕ} → Path smallCount log t events v → seen events v ≡ wakingBy operation code → ⊥
   unfolding seen seenOf
   no-waking {events = events} {v = v} p e = last-waking (lastOr noEvent events) (isEmpty events) v (path-end noEvent p (ap (λ (x : Seen). x .none) e)) e
 
@@ -150,7 +150,7 @@ alive-seen = refl
 
 pub leaves-alive : Demand3 LeavesAlive → ⊥
 unfolding alive seenOn
-leaves-alive d = no-waking destroy 0 destroy-not (d .goes [] (blank smallCount) begins life alive refl (lent-life 1 (lit< tt)) (accepted-is life alive (life-accepted 1 refl)) .path) alive-seen
+leaves-alive d = no-waking destroy 0 destroy-not (d smallCount refl .goes [] (blank smallCount) begins life alive refl (lent-life 1 (lit< tt)) (accepted-is life alive (life-accepted 1 refl)) .path) alive-seen
 
 -- ---- the next call wakes it
 
@@ -192,4 +192,4 @@ pub wakes : Demand3 Wakes → ⊥
 unfolding first-left next next-left withTable seenOn
 wakes d =
     let r = calls life first-left begins refl (lent-life 1 (lit< tt)) (accepted-is life first-left (life-accepted 1 refl)) in
-    no-waking revoke 2 revoke-not (d .goes (logged life first-left []) (first-left .table) r next next-left refl lent-next (accepted-is next next-left next-accepted) .path) next-seen
+    no-waking revoke 2 revoke-not (d smallCount refl .goes (logged life first-left []) (first-left .table) r next next-left refl lent-next (accepted-is next next-left next-accepted) .path) next-seen

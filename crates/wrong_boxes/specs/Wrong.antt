@@ -11,7 +11,8 @@ use lib.Dec.{leb, ltb, eqb}
 use Rattle.octets.specs.If.{ifb}
 use Rattle.octets.specs.Octets.{over}
 use Rattle.table.specs.declared.Record.{Record}
-use Rattle.table.specs.Records.{stateAt, lastSerial, withPlace, withClock}
+use Rattle.table.specs.Layout.{smallCount, placesOk}
+use Rattle.table.specs.Records.{placeAt, stateAt, lastSerial, withPlace, withClock}
 use Rattle.search.specs.Search.{isNothing, find}
 use Rattle.rules.specs.declared.Reason.the-variants.{InvalidField, ObjectDestroyed}
 use Rattle.rules.specs.Numbers.{active, deactivated, destroyed, getUsageAllocation, reasonNumber}
@@ -32,7 +33,7 @@ use Rattle.answer.specs.Respond.{Answer, respond}
 use Rattle.engine.specs.Effects.{Effect}
 use Rattle.engine.specs.Batch.{Ran, running}
 use Rattle.engine.specs.Serving.{turnedAway, serving}
-use Rattle.demands.specs.Box.{Call, Box, Lent, placesOf, recordIn, counted}
+use Rattle.demands.specs.Box.{Call, Box, Lent, placesOf, counted}
 use Rattle.demands.specs.Demand2.{frameOf, refusalConditions, lowest}
 use Rattle.demands.specs.Log.{Event, itemsAsked, eventsOf, onto, logged, granted}
 use Rattle.demands.specs.Demand3.{Run, Stands, namedBy, takes, Path, Opens}
@@ -62,12 +63,12 @@ responding c answers t = stamping (counted c) c answers t
 
 -- the table that the first item should meet
 abbrev pub begunBy : Call → List ℕ
-begunBy c = began (placesOf (c .table)) (counted c) (c .table)
+begunBy c = began (placesOf c) (counted c) (c .table)
 
 -- the batch of a call, run under an option
 unfoldable pub ranUnder : (ℕ → ℕ) → Call → Option Frame → Ran
 ranUnder option c none = record { answers = []; table = begunBy c }
-ranUnder option c (some f) = running (placesOf (c .table)) (c .strip) (begunBy c) (record { option = option (optionOf (f .header .option)); items = f .items })
+ranUnder option c (some f) = running (placesOf c) (c .strip) (begunBy c) (record { option = option (optionOf (f .header .option)); items = f .items })
 
 -- an outcome with another table
 unfoldable pub withTable : (List ℕ → List ℕ) → Effect → Effect
@@ -122,7 +123,7 @@ withMaterialOf other r = inState (r .state) (other .material) r
 
 -- a box that leaves the key at place 0 with the material of the key at place 1
 abbrev pub SharesMaterial : Box
-SharesMaterial = Leaves (λ c due. withPlace (placesOf due) due 0 (withMaterialOf (recordIn due 1) (recordIn due 0)))
+SharesMaterial = Leaves (λ c due. withPlace smallCount due 0 (withMaterialOf (placeAt smallCount due 1) (placeAt smallCount due 0)))
 
 -- "A clock earlier than the latest seen counts as the latest .. in the Time Stamp": it does all as it should, and stamps the clock that it was given
 abbrev pub StampsGiven : Box
@@ -132,23 +133,25 @@ StampsGiven c e = e ≡ orRefused c (stamping (c .clock) c (ranUnder (λ option.
 
 -- "an invented usage count": it answers as it should, and fills the count of place 0 up again
 unfoldable pub refilled : List ℕ → List ℕ
-refilled t = withPlace (placesOf t) t 0 (withCount (recordIn t 0 .total) (recordIn t 0))
+refilled t = withPlace smallCount t 0 (withCount (placeAt smallCount t 0 .total) (placeAt smallCount t 0))
 
 abbrev pub InventsCount : Box
 InventsCount = Leaves (λ c due. refilled due)
 
--- an item takes the place where x stands, in the table u that it meets
-pub record TakesFrom (x : ℕ) (taker : Event) (u : List ℕ) : Type 0 where
+-- an item takes the place where x stands, in the table u of n places that it meets
+pub record TakesFrom (n x : ℕ) (taker : Event) (u : List ℕ) : Type 0 where
   pub place : ℕ
-  pub stood : Stands x u place
-  pub taken : takes taker u place ≡ true
+  pub stood : Stands n x u place
+  pub taken : takes n taker u place ≡ true
 
--- a box that grants units in the batch in which the place was taken: in a call of a run, some item takes the place where x stands, wherever the items before it
+-- a box that grants units in the batch in which the place was taken: in a call of a run on a table of either count, some item takes the place where x stands, wherever the items before it
 -- may have led, and behind the call x has other units than it had then
 pub record GrantsTaken (B : Box) : Type 0 where
+  pub places : ℕ
+  pub some-count : placesOk places ≡ true
   pub log : List Event
   pub t : List ℕ
-  pub run : Run B log t
+  pub run : Run places B log t
   pub c : Call
   pub e : Effect
   pub same : c .table ≡ t
@@ -160,14 +163,14 @@ pub record GrantsTaken (B : Box) : Type 0 where
   pub events-are : eventsOf c e ≡ before ++ (taker ∷ later)
   pub x : ℕ
   pub known : x ≡ 0 → ⊥
-  pub taken : (start u : List ℕ) → Opens c (e .number) start → Path log start before u → TakesFrom x taker u
+  pub taken : (start u : List ℕ) → Opens places c (e .number) start → Path places log start before u → TakesFrom places x taker u
   pub more : granted x (logged c e log) ≡ granted x (onto before log) → ⊥
 
 -- whether an item asks units for an identifier that was issued and does not stand in the table t
 unfoldable pub asksForGone : List ℕ → Asked → Bool
 asksForGone t asked =
     let x = namedBy 0 (command (asked .operation) (asked .payload)) in
-    eqb (asked .operation) getUsageAllocation && not (eqb x 0) && leb x (lastSerial t) && isNothing (find (placesOf t) t x)
+    eqb (asked .operation) getUsageAllocation && not (eqb x 0) && leb x (lastSerial t) && isNothing (find smallCount t x)
 
 -- the answers, but that such an item is answered with the identifier that it names
 unfoldable pub regranted : List ℕ → List Asked → List Answer → List Answer
@@ -225,7 +228,7 @@ HandsDead c e = e ≡ orRefused c (responding c (handingOut (itemsAsked c) (ranU
 
 -- the key at place 0 made Active
 unfoldable pub woken : List ℕ → List ℕ
-woken t = withPlace (placesOf t) t 0 (inState active (recordIn t 0 .material) (recordIn t 0))
+woken t = withPlace smallCount t 0 (inState active (placeAt smallCount t 0 .material) (placeAt smallCount t 0))
 
 -- "wakes a destroyed key": where place 0 was in state 5 before the call, it is Active after it
 abbrev pub Wakes : Box
@@ -241,4 +244,4 @@ StoresGiven = Leaves (λ c due. withClock due (c .clock))
 
 -- and so it does: where the key at place 0 is Deactivated, and its deactivation date lies after the clock that was given, it is Active again
 abbrev pub Revives : Box
-Revives = Leaves (λ c due. ifb (eqb (stateAt due 0) deactivated && ltb (c .clock) (recordIn due 0 .deactivation)) (woken due) due)
+Revives = Leaves (λ c due. ifb (eqb (stateAt due 0) deactivated && ltb (c .clock) (placeAt smallCount due 0 .deactivation)) (woken due) due)
