@@ -2,7 +2,7 @@
 //! x86-64 a C program over it is linked with the archive and run. Needs the C compiler that cargo links with; C++ is
 //! tried where there is a compiler for it.
 
-use junctionmoth::{Refusal, REQUEST, ROOM, STRIP, TABLE};
+use junctionmoth::{table_size, Refusal, LARGE_COUNT, LARGE_SIZE, REQUEST, ROOM, SMALL_COUNT, SMALL_SIZE, STRIP};
 use std::path::{Path, PathBuf};
 use std::process::{Command, Output};
 
@@ -58,8 +58,10 @@ fn name(refusal: Refusal) -> &'static str {
 #[test]
 fn its_numbers_are_those_of_this_package() {
     let mut numbers = vec![
-        ("JUNCTIONMOTH_PLACES", 64),
-        ("JUNCTIONMOTH_TABLE_SIZE", TABLE),
+        ("JUNCTIONMOTH_SMALL_COUNT", SMALL_COUNT),
+        ("JUNCTIONMOTH_LARGE_COUNT", LARGE_COUNT),
+        ("JUNCTIONMOTH_SMALL_SIZE", SMALL_SIZE),
+        ("JUNCTIONMOTH_LARGE_SIZE", LARGE_SIZE),
         ("JUNCTIONMOTH_ROOM_LEAST", ROOM),
         ("JUNCTIONMOTH_STRIP_SIZE", STRIP),
         ("JUNCTIONMOTH_REQUEST_MOST", REQUEST),
@@ -67,6 +69,11 @@ fn its_numbers_are_those_of_this_package() {
     ];
     numbers.extend(Refusal::ALL.map(|refusal| (name(refusal), refusal.number() as usize)));
     let checks = numbers.iter().map(|(name, number)| format!("extern char is_{name}[{name} == {number} ? 1 : -1];\n"));
+    let sizes = [SMALL_COUNT, LARGE_COUNT, 1].map(|count| (count, table_size(count)));
+    let sizes = sizes.map(|(count, size)| {
+        format!("extern char size_{count}[JUNCTIONMOTH_TABLE_SIZE({count}) == {size} ? 1 : -1];\n")
+    });
+    let checks = checks.chain(sizes);
     let source = Path::new(env!("CARGO_TARGET_TMPDIR")).join("numbers.c");
     std::fs::write(&source, format!("#include \"junctionmoth.h\"\n{}", checks.collect::<String>())).expect("writable");
     let output = compiler("cc").args(["-std=c99", "-fsyntax-only"]).arg(&source).output();
