@@ -35,6 +35,9 @@ const REASONS: [(&str, u32, &[Option<Reason>]); 9] = [
     ("Destroy", DESTROY, &[None, Some(WrongKeyLifecycleState), Some(ObjectDestroyed)]),
 ];
 
+/// Where a new record can stand, by the number of places, on both sides of the border: these must occur.
+const BORDERS: [(usize, usize); 2] = [(63, 64), (64, 256)];
+
 /// The links that a Re-key can make between a place up to 63 and one above: these must occur.
 const LINKS: [(bool, bool); 4] = [(false, false), (false, true), (true, false), (true, true)];
 
@@ -45,6 +48,8 @@ pub struct Above {
     changes: BTreeMap<(u8, u8), u64>,
     due: BTreeMap<(u8, u8), u64>,
     links: BTreeMap<(bool, bool), u64>,
+    new: BTreeMap<(usize, usize), u64>,
+    taken_over: Option<u64>,
 }
 
 /// The records at places above 63.
@@ -94,15 +99,18 @@ impl Above {
         }
     }
 
-    /// Counts what the one item of a request did: changes of state, and links between places of a large table.
+    /// Counts what the one item of a request did: changes of state, the place of a new record, and the link to the one that
+    /// it replaces.
     pub fn count_single(&mut self, before: &Table, after: &Table) {
         count_changes(&mut self.changes, before, after);
-        if behind(before).is_empty() {
-            return;
+        let Some(new) = after.places.iter().position(|record| record.serial > before.last) else { return };
+        *self.new.entry((new, after.places.len())).or_default() += 1;
+        if is_above(new) && !before.places[new].is_free() {
+            *self.taken_over.get_or_insert_default() += 1;
         }
-        let place_of = |serial: u32| after.places.iter().position(|record| record.serial == serial);
-        let new = after.places.iter().position(|record| record.serial > before.last && record.replaced != 0);
-        if let Some((new, old)) = new.and_then(|new| Some((new, place_of(after.places[new].replaced)?))) {
+        let replaced = after.places[new].replaced;
+        let old = before.places.iter().position(|record| record.serial == replaced && !record.is_free());
+        if let (Some(old), false) = (old, behind(before).is_empty()) {
             *self.links.entry((is_above(old), is_above(new))).or_default() += 1;
         }
     }
@@ -130,6 +138,10 @@ impl Above {
             let what = format!("state {} to {} by date above place 63", change.0, change.1);
             lines.push((what, self.due.get(change).copied()));
         }
+        for border in BORDERS {
+            lines.push((format!("new record in place {} of {}", border.0, border.1), self.new.get(&border).copied()));
+        }
+        lines.push(("new record in a destroyed place above 63".to_string(), self.taken_over));
         for link in LINKS {
             let [old, new] = [link.0, link.1].map(|above| if above { "above place 63" } else { "up to place 63" });
             lines.push((format!("Re-key of a key {old}, the new one {new}"), self.links.get(&link).copied()));

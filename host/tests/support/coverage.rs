@@ -42,18 +42,15 @@ const CHANGES: [(u8, u8); 9] = [(1, 2), (1, 4), (1, 5), (2, 3), (2, 4), (3, 4), 
 const DUE: [(u8, u8); 3] = [(1, 2), (2, 3), (1, 3)];
 
 /// Things that must occur beside those lists, and beside those about names.
-const EVENTS: [&str; 66] = [
+const EVENTS: [&str; 63] = [
     "answered with fewer items than asked",
     "batch of 16 answered whole",
     "response of 6,360 bytes",
     "request of 4,096 bytes answered",
     "new record in a free place",
     "new record in a destroyed place",
-    "new record in place 63 of 64",
-    "new record in place 64 of 256",
     "new record in place 255 of 256",
     "new record in a free place above 63",
-    "new record in a destroyed place above 63",
     "no place left of 64: Server Limit Exceeded",
     "no place left of 256: Server Limit Exceeded",
     "state changed by date above place 63",
@@ -352,7 +349,10 @@ impl Coverage {
                 self.count_change(old, new, after.latest);
                 continue;
             }
-            self.count_new_place(before.places.len(), place, old.is_free());
+            self.note_if("new record in a free place", old.is_free());
+            self.note_if("new record in a destroyed place", !old.is_free());
+            self.note_if("new record in a free place above 63", old.is_free() && place >= SMALL_COUNT);
+            self.note_if("new record in place 255 of 256", place == 255);
             match before.find(new.replaced) {
                 None => self.count_new_dates(new, after.latest),
                 Some(replaced) => {
@@ -370,18 +370,6 @@ impl Coverage {
         let count = before.places.len();
         self.note_if("no place left of 64: Server Limit Exceeded", limited && left && count == SMALL_COUNT);
         self.note_if("no place left of 256: Server Limit Exceeded", limited && left && count == LARGE_COUNT);
-    }
-
-    /// Counts the place of a new record, of so many places: it was free, or that of a destroyed record.
-    fn count_new_place(&mut self, count: usize, place: usize, free: bool) {
-        let above = place >= SMALL_COUNT;
-        self.note_if("new record in a free place", free);
-        self.note_if("new record in a destroyed place", !free);
-        self.note_if("new record in place 63 of 64", (place, count) == (63, 64));
-        self.note_if("new record in place 64 of 256", (place, count) == (64, 256));
-        self.note_if("new record in place 255 of 256", (place, count) == (255, 256));
-        self.note_if("new record in a free place above 63", above && free);
-        self.note_if("new record in a destroyed place above 63", above && !free);
     }
 
     /// Counts a replacement: its dates are copied or moved, and its state is what they make of a Pre-Active key.
