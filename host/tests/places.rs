@@ -8,7 +8,7 @@ use junctionmoth::message::*;
 use junctionmoth::model::operations::identifier;
 use junctionmoth::model::soundness;
 use junctionmoth::model::table::{Name, Record, Table};
-use junctionmoth::{blank_table, Refusal, LARGE_COUNT, LARGE_SIZE, SMALL_COUNT, SMALL_SIZE};
+use junctionmoth::{blank_table, ordinary, Refusal, LARGE_COUNT, LARGE_SIZE, SMALL_COUNT, SMALL_SIZE};
 use support::coverage::results;
 use support::{engines, Case, Effect};
 
@@ -22,9 +22,11 @@ fn call(request: &[u8], table: &[u8]) -> Effect {
     Case::new(request.to_vec(), table.to_vec()).run_all(&engines(), "places")
 }
 
-/// What a table is refused with, if it is.
+/// What a table is refused with, if it is; the ordinary check by itself says the same.
 fn refusal(table: &[u8]) -> Option<Refusal> {
-    call(&create_request(), table).served.err()
+    let refusal = call(&create_request(), table).served.err();
+    assert_eq!(ordinary::sound(table), refusal.is_none());
+    refusal
 }
 
 /// Operation and reason of each answer.
@@ -191,8 +193,11 @@ fn changes_are_made_at_every_place_where_they_are_due() {
     }
 }
 
-/// In what ways a record alone is not sound, among records that are: by which rule.
-fn faults() -> Vec<(&'static str, fn(&mut Record))> {
+/// A rule, and a way to break it at a record.
+type Fault = (&'static str, fn(&mut Record));
+
+/// In what ways a record alone is not sound, among records that are.
+fn faults() -> Vec<Fault> {
     vec![
         ("free line", |record| *record = Record { replacement: 1, ..Record::default() }),
         ("free body", |record| *record = Record { activation: 1, ..Record::default() }),

@@ -36,8 +36,9 @@ struct Course {
 }
 
 const METHOD: &str = "\
-Before each call the table is restored by copying its 8,208 bytes (32,784 if it is large) from a kept one; the time of that
-copy, measured in rounds of its own, is taken off. Tables have 64 places where nothing else is said. The output is not restored: no engine reads it, and a call writes its response whole.
+Before each call the table is restored by copying its 8,208 bytes, or 32,784 of a large one, from a kept one; the time of
+that copy, measured in rounds of its own, is taken off. The output is not restored: no engine reads it, and a call writes
+its response whole. A table has 64 places where it is not called large.
 ";
 
 const SOUNDNESS: &str = "\
@@ -261,7 +262,7 @@ fn named(count: usize) -> Vec<u8> {
 fn large(course: &Course) {
     println!("\n{LARGE}");
     let mut tables = tables(LARGE_COUNT).to_vec();
-    tables.push(("full, with names,", named(LARGE_COUNT)));
+    tables.push(("full named", named(LARGE_COUNT)));
     for (fill, table) in tables {
         let keys = Table::decode(&table).last.max(16);
         let last = |index: u32| target(Some(&identifier(keys - index)));
@@ -281,7 +282,7 @@ fn soundness(course: &Course) {
     println!("\n{SOUNDNESS}");
     for (count, size) in [(SMALL_COUNT, ""), (LARGE_COUNT, "large ")] {
         let mut tables = tables(count).to_vec();
-        tables.extend([("full, unordered", unordered(count)), ("full, with names,", named(count))]);
+        tables.extend([("full unordered", unordered(count)), ("full named", named(count))]);
         for (fill, table) in tables {
             let name = format!("refusal 4, {fill} {size}table");
             let alone = fastest((0..ROUNDS).map(|_| checking(&table)).collect());

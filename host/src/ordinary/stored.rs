@@ -342,6 +342,7 @@ fn parts<const N: usize>(table: &[u8]) -> Option<Parts<'_, N>> {
     }
 }
 
+#[inline(always)]
 fn sound_place(line: &[u8; LINE], body: &[u8; BODY], last: u32, latest: u64) -> bool {
     let line_bytes = line;
     let line = Line::read(line);

@@ -14,7 +14,7 @@ use junctionmoth::model::soundness;
 use junctionmoth::model::table::{Record, Table};
 use junctionmoth::model::tags::*;
 use junctionmoth::model::ttlv::{self, Item, Value};
-use junctionmoth::{Refusal, LARGE_COUNT, SMALL_COUNT};
+use junctionmoth::{ordinary, Refusal, LARGE_COUNT, SMALL_COUNT};
 use std::collections::BTreeMap;
 
 /// The reasons that can be given to each operation: these must occur, and no others.
@@ -152,7 +152,7 @@ impl Coverage {
     /// Counts a table that was refused: it breaks a rule, and here one alone is counted.
     fn count_unsound(&mut self, table: &[u8]) {
         let broken = soundness::broken(table);
-        assert!(!broken.is_empty(), "a sound table was refused");
+        assert!(!broken.is_empty() && !ordinary::sound(table), "a sound table was refused");
         if let [rule] = broken[..] {
             *self.rules.entry(rule).or_default() += 1;
             self.above.count_rule(table, rule);
@@ -162,6 +162,7 @@ impl Coverage {
     fn count_answer(&mut self, case: &Case, effect: &Effect, length: usize) {
         self.answered += 1;
         assert!(soundness::broken(&effect.table).is_empty(), "an answered call left an unsound table");
+        assert!([&case.table, &effect.table].into_iter().all(|table| ordinary::sound(table)), "the check by itself");
         let response = &effect.out[..length];
         let results = results(response);
         for &(operation, reason) in &results {
