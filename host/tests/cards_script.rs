@@ -44,7 +44,7 @@ fn usual(count: usize) -> Setting {
 
 impl Bench {
     fn new(engine: Engine) -> Bench {
-        let (table, out) = (vec![0; LARGE_SIZE], vec![0xFF; ROOM_MOST]);
+        let (table, out) = (Vec::new(), vec![0xFF; ROOM_MOST]);
         let mut bench = Bench { engine, table, out, setting: usual(SMALL_COUNT), coverage: Coverage::default() };
         bench.blank(SMALL_COUNT);
         bench
@@ -62,7 +62,7 @@ impl Bench {
     fn carry_out(&mut self, line: &str) -> Option<String> {
         let (verb, rest) = line.split_once(' ').unwrap_or((line, ""));
         match verb {
-            "blank" if line == "blank" => self.blank(SMALL_COUNT),
+            "blank" if rest.is_empty() => self.blank(SMALL_COUNT),
             "blank" => self.blank(number(rest).filter(|count| [SMALL_COUNT, LARGE_COUNT].contains(count))?),
             "put" => self.put(rest)?,
             "clock" => self.setting.clock = clock(rest)?,
@@ -77,10 +77,10 @@ impl Bench {
         Some(String::new())
     }
 
-    /// A blank table of so many places, at the front of the bytes that there are; what is behind it stays.
+    /// A blank table of so many places, at the front of the bytes that there are, and zeros behind it.
     fn blank(&mut self, count: usize) {
-        let blank = blank_table(count);
-        self.table[..blank.len()].copy_from_slice(&blank);
+        self.table = blank_table(count);
+        self.table.resize(LARGE_SIZE, 0);
         self.out.fill(0xFF);
         self.setting = usual(count);
     }

@@ -213,6 +213,6 @@ fn lines_that_are_none_of_a_script_are_printed() {
         let script = format!("request {line}\n");
         assert_eq!(run("cards", line, script.as_bytes()).printed, format!("bad line: {script}"));
     }
-    assert_eq!(run("cards", "too long", &vec![b'\n'; 524_288]).printed, "script too long\n");
+    assert_eq!(run("cards", "too long", &vec![b'\n'; 1_048_576]).printed, "script too long\n");
     assert_eq!(run("cards_ttlv", "too long", &vec![b'\n'; 65_536]).printed, "script too long\n");
 }
