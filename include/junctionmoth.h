@@ -9,11 +9,17 @@
 #include <stddef.h>
 #include <stdint.h>
 
-/* The number of places of a table: keys that it holds at one time. */
-#define JUNCTIONMOTH_PLACES 64
+/* The place counts that a table may have: how many keys it holds at one time. The four bytes from
+ * byte 4 of a table on say its count, the highest first. */
+#define JUNCTIONMOTH_SMALL_COUNT 64
+#define JUNCTIONMOTH_LARGE_COUNT 256
 
-/* Bytes of the stored table. */
-#define JUNCTIONMOTH_TABLE_SIZE 8208
+/* Bytes of a table with so many places: the size follows from the count. */
+#define JUNCTIONMOTH_TABLE_SIZE(count) (16 + 128 * (count))
+
+/* Bytes of a small table and of a large one. */
+#define JUNCTIONMOTH_SMALL_SIZE 8208
+#define JUNCTIONMOTH_LARGE_SIZE 32784
 
 /* Bytes of output room that no response exceeds; a call with less is refused. */
 #define JUNCTIONMOTH_ROOM_LEAST 6360
@@ -29,7 +35,7 @@ enum junctionmoth_refusal {
     JUNCTIONMOTH_ANSWERED = 0,
     JUNCTIONMOTH_REFUSED_ROOM = 1,      /* room below JUNCTIONMOTH_ROOM_LEAST */
     JUNCTIONMOTH_REFUSED_STRIP = 2,     /* strip not of JUNCTIONMOTH_STRIP_SIZE bytes */
-    JUNCTIONMOTH_REFUSED_TABLE = 3,     /* table not of JUNCTIONMOTH_TABLE_SIZE bytes, or unsound */
+    JUNCTIONMOTH_REFUSED_TABLE = 3,     /* place count or size not one of those, or unsound */
     JUNCTIONMOTH_REFUSED_SIZE = 4,      /* request empty or above JUNCTIONMOTH_REQUEST_MOST bytes */
     JUNCTIONMOTH_REFUSED_MALFORMED = 5, /* TTLV malformed */
     JUNCTIONMOTH_REFUSED_FRAME = 6,     /* message frame wrong */
@@ -50,15 +56,19 @@ enum junctionmoth_refusal {
 extern "C" {
 #endif
 
-/* Makes a blank table: all zero but the place count, so no clock has been seen. A host does this once,
- * when a box is set up. */
-static inline void junctionmoth_blank(uint8_t table[JUNCTIONMOTH_TABLE_SIZE])
+/* Makes a blank table of JUNCTIONMOTH_SMALL_COUNT or JUNCTIONMOTH_LARGE_COUNT places in as many bytes
+ * as JUNCTIONMOTH_TABLE_SIZE(count) says: all zero but the place count, so no clock has been seen. A
+ * host does this once, when a box is set up. A table of any other count is refused. */
+static inline void junctionmoth_blank(uint8_t *table, uint32_t count)
 {
+    const size_t size = JUNCTIONMOTH_TABLE_SIZE((size_t)count);
     size_t i;
-    for (i = 0; i < JUNCTIONMOTH_TABLE_SIZE; i++) {
+    for (i = 0; i < size; i++) {
         table[i] = 0;
     }
-    table[7] = JUNCTIONMOTH_PLACES;
+    for (i = 0; i < 4; i++) {
+        table[4 + i] = (uint8_t)(count >> (24 - 8 * i) & 0xFF);
+    }
 }
 
 /* Serves one request.
@@ -66,10 +76,14 @@ static inline void junctionmoth_blank(uint8_t table[JUNCTIONMOTH_TABLE_SIZE])
  * request, request_len
  *     Any bytes, which are only read. A request has 1 to JUNCTIONMOTH_REQUEST_MOST.
  * table, table_len
- *     The stored table, JUNCTIONMOTH_TABLE_SIZE bytes. The host keeps it: whoever loses it loses the
- *     keys, and whoever brings an old one back brings back what was destroyed or granted since.
- *     Nobody else may write to it. Tables of 4,624 bytes, without dates and names, and of 5,648 bytes,
- *     without names, are refused; the program widen turns them into one of today's size.
+ *     The stored table. Its place count is JUNCTIONMOTH_SMALL_COUNT or JUNCTIONMOTH_LARGE_COUNT, and
+ *     its size follows from that: JUNCTIONMOTH_SMALL_SIZE or JUNCTIONMOTH_LARGE_SIZE bytes. The count
+ *     is what junctionmoth_blank wrote: no call changes it, so a table keeps its size. Every call
+ *     looks at the whole table, and takes the longer the more keys stand in it.
+ *     The host keeps the table: whoever loses it loses the keys, and whoever brings an old one back
+ *     brings back what was destroyed or granted since. Nobody else may write to it.
+ *     Tables of 4,624 bytes, without dates and names, and of 5,648 bytes, without names, are refused;
+ *     the program widen turns them into a small table of today.
  *     A key can have a name of 1 to 32 bytes of UTF-8 text, given once, by Create; Re-key moves it to
  *     the new key. No two keys of a table have the same one, and that of a destroyed key stays taken
  *     until its place goes to another key. Names are compared byte for byte: a host that wants one

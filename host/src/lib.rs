@@ -17,10 +17,22 @@ pub use archive::serve;
 pub const ROOM: usize = 6360;
 /// Bytes of the fresh strip.
 pub const STRIP: usize = 512;
-/// Bytes of the stored table.
-pub const TABLE: usize = 8208;
 /// Bytes of the longest request that is read.
 pub const REQUEST: usize = 4096;
+
+/// Places of a small table: the keys that it holds at one time. Its lead says how many places a table has.
+pub const SMALL_COUNT: usize = 64;
+/// Places of a large table.
+pub const LARGE_COUNT: usize = 256;
+/// Bytes of a small table.
+pub const SMALL_SIZE: usize = table_size(SMALL_COUNT);
+/// Bytes of a large table.
+pub const LARGE_SIZE: usize = table_size(LARGE_COUNT);
+
+/// Bytes of a table with so many places: the size follows from the count.
+pub const fn table_size(count: usize) -> usize {
+    16 + 128 * count
+}
 
 /// What a call gives: the length of the response at the front of the output, or why the request was turned away.
 /// A refused call leaves table and output byte for byte.
@@ -44,7 +56,8 @@ pub enum Refusal {
     Room = 1,
     /// Fresh strip not of [`STRIP`] bytes.
     Strip = 2,
-    /// Table not of [`TABLE`] bytes, or unsound.
+    /// Table with a place count other than [`SMALL_COUNT`] and [`LARGE_COUNT`], of another size than its count's, or
+    /// unsound.
     Table = 3,
     /// Request empty or above [`REQUEST`] bytes.
     Size = 4,
@@ -107,9 +120,9 @@ fn served(number: u32, length: u64, room: usize) -> Served {
     Err(Refusal::from_number(number).expect("a refusal has a number from 1 to 10"))
 }
 
-/// A blank table: all zero but the place count.
-pub fn blank_table() -> [u8; TABLE] {
-    let mut table = [0; TABLE];
-    table[7] = 64;
+/// A blank table of so many places: all zero but the place count. Only [`SMALL_COUNT`] and [`LARGE_COUNT`] are served.
+pub fn blank_table(count: usize) -> Vec<u8> {
+    let mut table = vec![0; table_size(count)];
+    table[4..8].copy_from_slice(&(count as u32).to_be_bytes());
     table
 }

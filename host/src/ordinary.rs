@@ -1,7 +1,7 @@
 //! An ordinary engine for the same box, written for use: in place on the lent bytes, without allocation.
 //! It is what the proved engine is raced against; its trust rests on tests alone.
 
-use crate::{Refusal, Served};
+use crate::{Refusal, Served, LARGE_COUNT, ROOM, SMALL_COUNT, STRIP};
 
 mod act;
 mod items;
@@ -19,12 +19,27 @@ pub use stored::sound;
 
 /// Serves one request, as the engine does.
 pub fn serve(request: &[u8], table: &mut [u8], fresh: &[u8], clock: i64, out: &mut [u8]) -> Served {
-    let out = out.first_chunk_mut::<{ crate::ROOM }>().ok_or(Refusal::Room)?;
-    let fresh: &[u8; crate::STRIP] = fresh.try_into().map_err(|_| Refusal::Strip)?;
-    if !sound(table) {
+    let out = out.first_chunk_mut().ok_or(Refusal::Room)?;
+    let fresh = fresh.try_into().map_err(|_| Refusal::Strip)?;
+    match stored::places_said(table) {
+        Some(SMALL_COUNT) => serve_places::<SMALL_COUNT>(request, table, fresh, clock, out),
+        Some(LARGE_COUNT) => serve_places::<LARGE_COUNT>(request, table, fresh, clock, out),
+        _ => Err(Refusal::Table),
+    }
+}
+
+/// Serves one request on a table whose lead says N.
+fn serve_places<const N: usize>(
+    request: &[u8],
+    table: &mut [u8],
+    fresh: &[u8; STRIP],
+    clock: i64,
+    out: &mut [u8; ROOM],
+) -> Served {
+    if !stored::sound_for::<N>(table) {
         return Err(Refusal::Table);
     }
-    let mut table = Table::new(table).ok_or(Refusal::Table)?;
+    let mut table = Table::<N>::new(table).ok_or(Refusal::Table)?;
     let frame = accept(request)?;
     if clock < 1 {
         return Err(Refusal::Clock);
@@ -56,7 +71,7 @@ fn accept(request: &[u8]) -> Result<Frame<'_>, Refusal> {
 }
 
 /// Carries the items out and writes their answers; gives the length of the response.
-fn answer(frame: &Frame, session: &mut Session, now: u64, mut writer: Writer) -> usize {
+fn answer<const N: usize>(frame: &Frame, session: &mut Session<N>, now: u64, mut writer: Writer) -> usize {
     let stops = frame.option != Some(1);
     let message = writer.open(0x42007B01);
     let count = writer.response_header(now);

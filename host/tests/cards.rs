@@ -6,7 +6,7 @@ mod support;
 use junctionmoth::message::*;
 use junctionmoth::model::table::{Name, Record, Table};
 use junctionmoth::model::ttlv::{self, Item, Value};
-use junctionmoth::{blank_table, Refusal, Served};
+use junctionmoth::{blank_table, Refusal, Served, LARGE_COUNT, SMALL_COUNT};
 use support::coverage::results;
 use support::{engines, unhex, Case, Effect};
 
@@ -28,6 +28,11 @@ const OBJECT_NOT_FOUND: Option<u32> = Some(0x37);
 const SERVER_LIMIT_EXCEEDED: Option<u32> = Some(0x3A);
 const WRONG_STATE: Option<u32> = Some(0x43);
 
+/// A blank table as the bench program has it.
+fn blank() -> Vec<u8> {
+    blank_table(SMALL_COUNT)
+}
+
 /// A call on every engine.
 fn call(request: Vec<u8>, table: &[u8]) -> Effect {
     Case::new(request, table.to_vec()).run_all(&engines(), "card")
@@ -44,7 +49,7 @@ fn response(effect: &Effect) -> &[u8] {
 }
 
 fn refusal(bytes: &str) -> Served {
-    call(unhex(bytes), &blank_table()).served
+    call(unhex(bytes), &blank()).served
 }
 
 fn new_key(limit: Option<(i64, u32)>) -> Node {
@@ -111,8 +116,8 @@ fn text_of_8_takes_16_and_of_9_takes_24() {
 fn depth_8_is_read_and_depth_9_refused() {
     let nested =
         |depth: usize| (1..depth).fold(structure(0x420001, vec![]), |inner, _| structure(0x420001, vec![inner]));
-    assert_eq!(call(nested(8).encode(), &blank_table()).served, Err(Refusal::Frame));
-    assert_eq!(call(nested(9).encode(), &blank_table()).served, Err(Refusal::Malformed));
+    assert_eq!(call(nested(8).encode(), &blank()).served, Err(Refusal::Frame));
+    assert_eq!(call(nested(9).encode(), &blank()).served, Err(Refusal::Malformed));
 }
 
 /// The examples of KMIP 1.x, section 9.1.2, and one of a Date-Time Extended: meaning and bytes.
@@ -210,14 +215,14 @@ fn empty_strings_and_structures_are_well_formed() {
 #[test]
 fn grants_of_60_and_40_use_up_100() {
     let items = vec![new_key(Some((100, 2))), on(ACTIVATE, None), take(None, 60), take(None, 40), take(None, 1)];
-    let effect = call(batch(None, items), &blank_table());
+    let effect = call(batch(None, items), &blank());
     assert_eq!(reasons(&effect), [None, None, None, None, USAGE_LIMIT_EXCEEDED]);
     assert_eq!(record(&effect, 0).count, 0);
 }
 
 #[test]
 fn a_grant_of_101_on_100_changes_nothing() {
-    let effect = call(batch(None, vec![new_key(Some((100, 2))), on(ACTIVATE, None), take(None, 101)]), &blank_table());
+    let effect = call(batch(None, vec![new_key(Some((100, 2))), on(ACTIVATE, None), take(None, 101)]), &blank());
     assert_eq!(reasons(&effect), [None, None, USAGE_LIMIT_EXCEEDED]);
     assert_eq!(record(&effect, 0).count, 100);
 }
@@ -226,7 +231,7 @@ fn a_grant_of_101_on_100_changes_nothing() {
 fn an_active_key_is_revoked_before_it_is_destroyed() {
     let one = Some("00000001");
     let items = vec![new_key(None), on(ACTIVATE, None), on(DESTROY, None), revoke(one, 5), on(DESTROY, one)];
-    let effect = call(batch(Some(1), items), &blank_table());
+    let effect = call(batch(Some(1), items), &blank());
     assert_eq!(reasons(&effect), [None, None, WRONG_STATE, None, None]);
     assert_eq!((record(&effect, 0).state, record(&effect, 0).material), (5, [0; 32]));
     let later = call(batch(None, vec![revoke(one, 2)]), &effect.table);
@@ -238,7 +243,7 @@ fn an_active_key_is_revoked_before_it_is_destroyed() {
 #[test]
 fn a_key_is_rekeyed_once() {
     let items = vec![new_key(Some((9, 1))), on(REKEY, None), on(REKEY, Some("00000001"))];
-    let effect = call(batch(None, items), &blank_table());
+    let effect = call(batch(None, items), &blank());
     assert_eq!(reasons(&effect), [None, None, PERMISSION_DENIED]);
     let (old, new) = (record(&effect, 0), record(&effect, 1));
     assert_eq!((old.replaced, old.replacement, new.replaced, new.replacement), (0, 2, 1, 0));
@@ -249,7 +254,7 @@ fn a_key_is_rekeyed_once() {
 fn a_replacement_begins_in_the_state_that_its_dates_give() {
     let one = Some("00000001");
     let setup = vec![new_key(None), on(ACTIVATE, None)];
-    let active = call(batch(None, setup), &blank_table()).table;
+    let active = call(batch(None, setup), &blank()).table;
     let rekeyed = |table: &[u8]| record(&call(batch(None, vec![on(REKEY, one)]), table), 1);
     assert_eq!((rekeyed(&active).state, rekeyed(&active).activation), (2, 1));
     let stopped = call(batch(None, vec![revoke(one, 1)]), &active).table;
@@ -263,7 +268,7 @@ fn the_printed_offset_of_ten_days_moves_both_dates() {
         00000000 42007901 00000020 42009407 00000008 30303030 30303031 4200580A 00000004 000D2F00 00000000";
     assert_eq!(batch(None, vec![item(REKEY, None, replacement(Some("00000001"), 864_000))]), unhex(asked));
     let dated = item(CREATE, None, create_dated(128, 4, None, (Some(5), Some(9))));
-    let table = call(batch(None, vec![dated]), &blank_table()).table;
+    let table = call(batch(None, vec![dated]), &blank()).table;
     let effect = call(unhex(asked), &table);
     assert_eq!(reasons(&effect), [None]);
     let new = record(&effect, 1);
@@ -273,8 +278,8 @@ fn the_printed_offset_of_ten_days_moves_both_dates() {
 #[test]
 fn a_bad_create_stops_the_batch_or_empties_the_placeholder() {
     let items = || vec![item(CREATE, None, create(129, 4, None)), on(ACTIVATE, None)];
-    assert_eq!(reasons(&call(batch(None, items()), &blank_table())), [INVALID_FIELD]);
-    let effect = call(batch(Some(1), items()), &blank_table());
+    assert_eq!(reasons(&call(batch(None, items()), &blank())), [INVALID_FIELD]);
+    let effect = call(batch(Some(1), items()), &blank());
     assert_eq!(reasons(&effect), [INVALID_FIELD, OBJECT_NOT_FOUND]);
     let printed = "42007B01 000000C0 42007A01 00000048 42006901 00000020 42006A02 00000004 00000002 00000000 42006B02 \
         00000004 00000001 00000000 42009209 00000008 00000000 00000001 42000D02 00000004 00000002 00000000 42000F01 \
@@ -286,7 +291,7 @@ fn a_bad_create_stops_the_batch_or_empties_the_placeholder() {
 
 #[test]
 fn output_of_6359_is_too_small() {
-    let mut case = Case::new(batch(None, vec![new_key(None)]), blank_table().to_vec());
+    let mut case = Case::new(batch(None, vec![new_key(None)]), blank());
     case.room = 6359;
     assert_eq!(case.run_all(&engines(), "card").served, Err(Refusal::Room));
     case.room = 6360;
@@ -296,14 +301,14 @@ fn output_of_6359_is_too_small() {
 #[test]
 fn a_batch_of_16_runs_and_17_is_refused() {
     let creates = |number: usize| batch(None, (0..number).map(|_| new_key(None)).collect());
-    assert_eq!(reasons(&call(creates(16), &blank_table())), [None; 16]);
-    assert_eq!(call(creates(17), &blank_table()).served, Err(Refusal::Count));
+    assert_eq!(reasons(&call(creates(16), &blank())), [None; 16]);
+    assert_eq!(call(creates(17), &blank()).served, Err(Refusal::Count));
 }
 
-/// A table of 64 live keys with serials 1 to 64.
-fn full_table() -> Table {
-    let mut table = Table::blank();
-    table.last = 64;
+/// A table of so many live keys with serials from 1 on, in all its places.
+fn full_table(count: usize) -> Table {
+    let mut table = Table::blank(count);
+    table.last = count as u32;
     for (serial, record) in (1..).zip(&mut table.places) {
         *record = Record { serial, state: 2, length: 128, mask: 4, material: [0; 32], ..Record::default() };
     }
@@ -312,28 +317,68 @@ fn full_table() -> Table {
 
 #[test]
 fn a_full_table_gives_up_destroyed_places_only() {
-    let mut table = full_table();
     let create = || batch(None, vec![new_key(None)]);
-    assert_eq!(reasons(&call(create(), &table.encode())), [SERVER_LIMIT_EXCEEDED]);
-    table.places[9].state = 5;
-    let effect = call(create(), &table.encode());
-    assert_eq!((reasons(&effect), record(&effect, 9).serial), (vec![None], 65));
-    let old = call(batch(None, vec![on(ATTRIBUTES, Some("0000000A"))]), &effect.table);
-    assert_eq!(reasons(&old), [OBJECT_NOT_FOUND]);
+    for (count, place, old) in
+        [(SMALL_COUNT, 9, "0000000A"), (LARGE_COUNT, 9, "0000000A"), (LARGE_COUNT, 200, "000000C9")]
+    {
+        let mut table = full_table(count);
+        assert_eq!(reasons(&call(create(), &table.encode())), [SERVER_LIMIT_EXCEEDED]);
+        table.places[place].state = 5;
+        let effect = call(create(), &table.encode());
+        assert_eq!((reasons(&effect), record(&effect, place).serial), (vec![None], count as u32 + 1));
+        let old = call(batch(None, vec![on(ATTRIBUTES, Some(old))]), &effect.table);
+        assert_eq!(reasons(&old), [OBJECT_NOT_FOUND]);
+    }
 }
 
 #[test]
 fn a_free_place_comes_before_a_destroyed_one() {
-    let mut table = full_table();
-    table.places[9].state = 5;
-    table.places[40] = Record::default();
-    let effect = call(batch(None, vec![new_key(None)]), &table.encode());
-    assert_eq!((record(&effect, 9).serial, record(&effect, 40).serial), (10, 65));
+    for (count, free) in [(SMALL_COUNT, 40), (LARGE_COUNT, 40), (LARGE_COUNT, 255)] {
+        let mut table = full_table(count);
+        table.places[9].state = 5;
+        table.places[free] = Record::default();
+        let effect = call(batch(None, vec![new_key(None)]), &table.encode());
+        assert_eq!((record(&effect, 9).serial, record(&effect, free).serial), (10, count as u32 + 1));
+    }
+}
+
+/// Sixteen times sixteen Creates from blank on.
+#[test]
+fn the_257th_create_fails_with_server_limit_exceeded() {
+    let sixteen = || batch(None, (0..16).map(|_| new_key(None)).collect());
+    let mut table = blank_table(LARGE_COUNT);
+    for number in 1..=16 {
+        let effect = call(sixteen(), &table);
+        assert_eq!(reasons(&effect), [None; 16]);
+        assert_eq!(record(&effect, 16 * number - 1).serial, 16 * number as u32);
+        table = effect.table;
+    }
+    assert_eq!((table.len(), &table[..8]), (32784, &[0, 0, 1, 0, 0, 0, 1, 0][..]), "256 issued, 256 places");
+    let effect = call(batch(None, vec![new_key(None)]), &table);
+    assert_eq!(reasons(&effect), [SERVER_LIMIT_EXCEEDED]);
+    assert_eq!(effect.table[..8], table[..8], "nothing was issued, and the count stays");
+}
+
+/// Its line is bytes 4,096 to 4,111 of the table and its body the last 112.
+#[test]
+fn the_key_at_place_255_is_activated_granted_and_shown() {
+    let mut table = full_table(LARGE_COUNT);
+    table.places[255] = Record::default();
+    let items = vec![new_key(Some((100, 2))), on(ACTIVATE, None), take(None, 60), take(None, 40), take(None, 1)];
+    let effect = call(batch(None, items), &table.encode());
+    assert_eq!(reasons(&effect), [None, None, None, None, USAGE_LIMIT_EXCEEDED]);
+    assert_eq!(effect.table[4096..4112], unhex("00000101 02 02 0080 00000000 00000000"));
+    let body = "0000000000000064 0000000000000000 00000004 00000000 000102030405060708090A0B0C0D0E0F";
+    let rest = "00000000000000000000000000000000 0000000000000001 0000000000000000";
+    let nothing = "00".repeat(40);
+    assert_eq!(effect.table[32672..], unhex(&format!("{body}{rest}{nothing}")));
+    let shown = call(batch(None, vec![on(ATTRIBUTES, Some("00000101"))]), &effect.table);
+    assert_eq!(reasons(&shown), [None]);
 }
 
 #[test]
 fn the_last_serial_is_issued_once() {
-    let mut table = Table::blank();
+    let mut table = Table::blank(SMALL_COUNT);
     table.last = 0xFFFF_FFFE;
     let effect = call(batch(None, vec![new_key(None), new_key(None)]), &table.encode());
     assert_eq!(reasons(&effect), [None, SERVER_LIMIT_EXCEEDED]);
@@ -342,13 +387,13 @@ fn the_last_serial_is_issued_once() {
 
 #[test]
 fn eight_zeros_name_no_free_place() {
-    let effect = call(batch(None, vec![on(ACTIVATE, Some("00000000"))]), &blank_table());
+    let effect = call(batch(None, vec![on(ACTIVATE, Some("00000000"))]), &blank());
     assert_eq!(reasons(&effect), [OBJECT_NOT_FOUND]);
 }
 
 #[test]
 fn activate_is_answered_with_the_printed_152_bytes() {
-    let table = call(batch(None, vec![new_key(None)]), &blank_table()).table;
+    let table = call(batch(None, vec![new_key(None)]), &blank()).table;
     let effect = call(batch(None, vec![on(ACTIVATE, Some("00000001"))]), &table);
     let printed = "42007B01 00000090 42007A01 00000048 42006901 00000020 42006A02 00000004 00000002 00000000 42006B02 \
         00000004 00000001 00000000 42009209 00000008 00000000 00000001 42000D02 00000004 00000001 00000000 42000F01 \
@@ -369,7 +414,7 @@ fn create_is_written_and_answered_with_the_printed_bytes() {
         00000048 42005C05 00000004 00000001 00000000 42007F05 00000004 00000000 00000000 42007C01 00000020 42005705 \
         00000004 00000002 00000000 42009407 00000008 30303030 30303031";
     assert_eq!(batch(None, vec![new_key(None)]), unhex(asked));
-    let effect = call(unhex(asked), &blank_table());
+    let effect = call(unhex(asked), &blank());
     assert_eq!(response(&effect), unhex(answered));
     let key = record(&effect, 0);
     assert_eq!(key.material[..16], (0..16).collect::<Vec<u8>>());
@@ -383,7 +428,7 @@ fn the_printed_name_is_written_and_shown_last() {
     assert_eq!(name("pump").encode(), unhex(printed));
     let full = create_with(create_dated(128, 4, Some((5, 1)), (Some(8), Some(9))), name("pump"));
     let setup = vec![item(CREATE, None, full), on(REKEY, None), on(ATTRIBUTES, None)];
-    let effect = call(batch(None, setup), &blank_table());
+    let effect = call(batch(None, setup), &blank());
     assert_eq!(reasons(&effect), [None; 3]);
     assert!(response(&effect).ends_with(&unhex(printed)), "behind the link");
     assert_eq!((record(&effect, 0).name.text(), record(&effect, 1).name.text()), (None, Some(&b"pump"[..])));
@@ -395,7 +440,7 @@ fn the_printed_name_is_written_and_shown_last() {
 fn a_name_is_given_once() {
     let one = Some("00000001");
     let items = vec![new_key_named("pump"), new_key_named("pump"), on(ACTIVATE, None), new_key_named("pump 2")];
-    let effect = call(batch(Some(1), items), &blank_table());
+    let effect = call(batch(Some(1), items), &blank());
     assert_eq!(reasons(&effect), [None, NON_UNIQUE_NAME, OBJECT_NOT_FOUND, None]);
     let destroyed = call(batch(None, vec![on(DESTROY, one), new_key_named("pump")]), &effect.table);
     assert_eq!(reasons(&destroyed), [None, NON_UNIQUE_NAME]);
@@ -405,7 +450,7 @@ fn a_name_is_given_once() {
 /// Locate answers one identifier, 16 bytes, or an empty payload.
 #[test]
 fn locate_sets_the_placeholder_or_empties_it() {
-    let table = call(batch(None, vec![new_key_named("pump"), new_key(None)]), &blank_table()).table;
+    let table = call(batch(None, vec![new_key_named("pump"), new_key(None)]), &blank()).table;
     let found = call(batch(None, vec![locate("pump"), on(ATTRIBUTES, None)]), &table);
     assert_eq!(reasons(&found), [None; 2]);
     let head = "42000F01 00000038 42005C05 00000004 00000008 00000000 42007F05 00000004 00000000 00000000 42007C01 \
@@ -421,7 +466,7 @@ fn locate_sets_the_placeholder_or_empties_it() {
 /// A name counts until the place of its destroyed key is taken over; the name is tested before the place is chosen.
 #[test]
 fn a_taken_place_frees_its_name() {
-    let mut table = full_table();
+    let mut table = full_table(SMALL_COUNT);
     table.places[9].state = 5;
     table.places[9].name = Name::of(b"pump");
     let items = vec![new_key_named("pump"), locate("pump"), new_key(None), locate("pump"), new_key_named("pump")];
@@ -439,7 +484,7 @@ fn a_taken_place_frees_its_name() {
 fn the_longest_response_has_6360_bytes() {
     let first = create_with(create_dated(128, 4, Some((5, 1)), (Some(8), Some(9))), name(&"é".repeat(16)));
     let setup = vec![item(CREATE, None, first), on(REKEY, None), on(REKEY, None)];
-    let mut table = Table::decode(&call(batch(None, setup), &blank_table()).table);
+    let mut table = Table::decode(&call(batch(None, setup), &blank()).table);
     let items = || (0..16).map(|_| item(ATTRIBUTES, Some(&[7; 16]), target(Some("00000002")))).collect();
     assert_eq!(call(batch(Some(2), items()), &table.encode()).served, Ok(5336), "the name has been moved on");
     table.places[1].name = Name::of(&[b'x'; 32]);
@@ -453,13 +498,15 @@ fn fifteen_full_creates_are_a_request() {
         |at: usize| create_with(create_dated(256, 4, Some((5, 1)), (Some(8), Some(9))), name(&format!("{at:032}")));
     let creates = |number| batch(Some(1), (0..number).map(|at| item(CREATE, Some(&[7; 16]), full(at))).collect());
     assert_eq!((creates(15).len(), creates(16).len()), (4048, 4312));
-    assert_eq!(reasons(&call(creates(15), &blank_table())), [None; 15]);
-    assert_eq!(call(creates(16), &blank_table()).served, Err(Refusal::Size));
+    assert_eq!(reasons(&call(creates(15), &blank())), [None; 15]);
+    assert_eq!(call(creates(16), &blank()).served, Err(Refusal::Size));
 }
 
 #[test]
 fn the_model_loses_no_byte_of_a_table() {
     let mut rng = support::rng::Rng::new(1);
-    let bytes = rng.bytes(8208);
-    assert_eq!(Table::decode(&bytes).encode(), bytes);
+    for size in [8208, 32784] {
+        let bytes = rng.bytes(size);
+        assert_eq!(Table::decode(&bytes).encode(), bytes);
+    }
 }

@@ -5,7 +5,7 @@
 mod support;
 
 use junctionmoth::model::ttlv;
-use junctionmoth::{blank_table, Engine, ROOM, STRIP, TABLE};
+use junctionmoth::{blank_table, table_size, Engine, LARGE_COUNT, LARGE_SIZE, ROOM, SMALL_COUNT, STRIP};
 use support::coverage::Coverage;
 use support::{engines, hex, Case, Effect};
 
@@ -21,7 +21,7 @@ const STRIP_MOST: usize = 1024;
 /// Bytes of the longest request that a line has.
 const REQUEST_MOST: usize = 8192;
 
-/// How a request is served: the clock, and how many bytes of output, strip and table are lent.
+/// How a request is served: the clock, and how many bytes of output, strip and table are lent, of all that there are.
 struct Setting {
     clock: i64,
     room: usize,
@@ -38,14 +38,16 @@ struct Bench {
     coverage: Coverage,
 }
 
-fn usual() -> Setting {
-    Setting { clock: 1, room: ROOM, strip: STRIP, size: TABLE }
+fn usual(count: usize) -> Setting {
+    Setting { clock: 1, room: ROOM, strip: STRIP, size: table_size(count) }
 }
 
 impl Bench {
     fn new(engine: Engine) -> Bench {
-        let (table, out) = (blank_table().to_vec(), vec![0xFF; ROOM_MOST]);
-        Bench { engine, table, out, setting: usual(), coverage: Coverage::default() }
+        let (table, out) = (Vec::new(), vec![0xFF; ROOM_MOST]);
+        let mut bench = Bench { engine, table, out, setting: usual(SMALL_COUNT), coverage: Coverage::default() };
+        bench.blank(SMALL_COUNT);
+        bench
     }
 
     /// What a line prints: one line or nothing.
@@ -60,7 +62,8 @@ impl Bench {
     fn carry_out(&mut self, line: &str) -> Option<String> {
         let (verb, rest) = line.split_once(' ').unwrap_or((line, ""));
         match verb {
-            "blank" if rest.is_empty() => self.blank(),
+            "blank" if rest.is_empty() => self.blank(SMALL_COUNT),
+            "blank" => self.blank(number(rest).filter(|count| [SMALL_COUNT, LARGE_COUNT].contains(count))?),
             "put" => self.put(rest)?,
             "clock" => self.setting.clock = clock(rest)?,
             "room" => self.setting.room = number(rest)?,
@@ -74,15 +77,17 @@ impl Bench {
         Some(String::new())
     }
 
-    fn blank(&mut self) {
-        self.table = blank_table().to_vec();
+    /// A blank table of so many places, at the front of the bytes that there are, and zeros behind it.
+    fn blank(&mut self, count: usize) {
+        self.table = blank_table(count);
+        self.table.resize(LARGE_SIZE, 0);
         self.out.fill(0xFF);
-        self.setting = usual();
+        self.setting = usual(count);
     }
 
     fn put(&mut self, rest: &str) -> Option<()> {
         let (at, digits) = rest.split_once(' ')?;
-        let (at, bytes) = (number(at)?, bytes(digits, TABLE)?);
+        let (at, bytes) = (number(at)?, bytes(digits, LARGE_SIZE)?);
         let end = at.checked_add(bytes.len())?;
         self.table.get_mut(at..end).filter(|_| !bytes.is_empty())?.copy_from_slice(&bytes);
         Some(())
@@ -97,7 +102,8 @@ impl Bench {
     /// Serves a request by the setting: the response, or the refusal, or what there is too little of.
     fn serve(&mut self, request: Vec<u8>) -> String {
         let Setting { clock, room, strip, size } = self.setting;
-        for (name, lent, most) in [("size", size, TABLE), ("strip", strip, STRIP_MOST), ("room", room, ROOM_MOST)] {
+        for (name, lent, most) in [("size", size, LARGE_SIZE), ("strip", strip, STRIP_MOST), ("room", room, ROOM_MOST)]
+        {
             if lent > most {
                 return format!("no such {name}");
             }

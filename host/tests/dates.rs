@@ -7,7 +7,7 @@ mod support;
 use junctionmoth::message::{allocation, create_dated, item, location, replacement, request, revocation, target, Node};
 use junctionmoth::model::soundness;
 use junctionmoth::model::table::{Name, Record, Table};
-use junctionmoth::Refusal;
+use junctionmoth::{Refusal, SMALL_COUNT};
 use support::coverage::results;
 use support::coverage::Coverage;
 use support::{engines, Case};
@@ -21,7 +21,7 @@ const CLOCKS: [(i64, i64); 6] = [(NOW, 0), (NOW, NOW), (NOW - 5, NOW), (1, NOW),
 
 /// A table with one key, called pump.
 fn table_of(state: u8, activation: i64, deactivation: i64, latest: i64) -> Vec<u8> {
-    let mut table = Table::blank();
+    let mut table = Table::blank(SMALL_COUNT);
     (table.last, table.latest) = (1, latest);
     let material = [if state < 5 { 7 } else { 0 }; 32];
     let (unit, total, count) = (1, 100, 50);

@@ -33,7 +33,7 @@ fn main() {
     }
     let seconds = start.elapsed().as_secs_f64();
     println!("{seconds:.1} s, {:.0} cases a second", cases as f64 / seconds);
-    let missing = coverage.report();
+    let missing = coverage.report_with_above();
     if cases >= 100_000 {
         assert!(missing.is_empty(), "{}", missing.join("\n"));
     }

@@ -8,9 +8,10 @@ use junctionmoth::model::frame::{self, BatchItem};
 use junctionmoth::model::operations::identifier;
 use junctionmoth::model::payload::{self, Action, Order, Target};
 use junctionmoth::model::soundness;
-use junctionmoth::model::table::Table;
+use junctionmoth::model::table::{Record, Table};
 use junctionmoth::model::tags::*;
 use junctionmoth::model::ttlv::{self, Item};
+use junctionmoth::{LARGE_COUNT, SMALL_COUNT};
 use std::collections::{BTreeMap, BTreeSet};
 use support::holders::Holders;
 use support::names::near;
@@ -281,8 +282,17 @@ fn next_clock(rng: &mut Rng, latest: i64) -> i64 {
     }
 }
 
+/// A request on the table of now; on a large one that has never been full, every second is a batch of Creates.
+fn any_request(rng: &mut Rng, table: &Table, names: &BTreeSet<String>) -> Vec<u8> {
+    let fills = table.places.len() == LARGE_COUNT && (table.last as usize) < LARGE_COUNT;
+    if fills && rng.one_in(2) {
+        return requests::creations(rng, table).encode();
+    }
+    next_request(rng, table, names)
+}
+
 fn step(rng: &mut Rng, table: &Table, ledger: &mut Ledger) -> Effect {
-    let mut case = Case::new(next_request(rng, table, &ledger.names), table.encode());
+    let mut case = Case::new(any_request(rng, table, &ledger.names), table.encode());
     case.fresh = rng.bytes(512);
     case.clock = next_clock(rng, table.latest);
     let effect = case.run_all(&engines(), "history");
@@ -314,6 +324,21 @@ const NAMES: [(&str, u64); 12] = [
     ("placeholder of a Locate that found a destroyed record used", 100),
 ];
 
+/// Runs on large tables.
+const LARGE_RUNS: u64 = 16;
+
+/// One run of so many requests, on a table that has so many places, from blank on: the ledger, and the table at the end.
+fn run(seed: u64, count: usize, requests: usize) -> (Ledger, Table) {
+    let mut rng = Rng::new(seed);
+    let mut table = Table::blank(count);
+    let mut ledger = Ledger { holders: Holders::of(&table), ..Ledger::default() };
+    for _ in 0..requests {
+        let effect = step(&mut rng, &table, &mut ledger);
+        table = Table::decode(&effect.table);
+    }
+    (ledger, table)
+}
+
 #[test]
 fn grants_are_counted_destroyed_keys_stay_so_and_names_stand_once() {
     let (mut grants, mut full, mut taken_over) = (0, 0, 0);
@@ -323,13 +348,7 @@ fn grants_are_counted_destroyed_keys_stay_so_and_names_stand_once() {
     let mut events: BTreeMap<&str, u64> = BTreeMap::new();
     let (mut given, mut gone) = (0, 0);
     for seed in 0..200 {
-        let mut rng = Rng::new(seed);
-        let mut table = Table::blank();
-        let mut ledger = Ledger::default();
-        for _ in 0..100 {
-            let effect = step(&mut rng, &table, &mut ledger);
-            table = Table::decode(&effect.table);
-        }
+        let (ledger, table) = run(seed, SMALL_COUNT, 100);
         grants += ledger.grants;
         handed_out += ledger.handed_out;
         asked_dead += ledger.asked_dead;
@@ -341,8 +360,8 @@ fn grants_are_counted_destroyed_keys_stay_so_and_names_stand_once() {
         }
         given += ledger.names.len();
         gone += ledger.names.iter().filter(|name| ledger.holders.holder(name.as_bytes()).is_none()).count();
-        full += u32::from(table.standing().count() == 64);
-        taken_over += u32::from(ledger.issued.len() > 64);
+        full += u32::from(table.standing().count() == SMALL_COUNT);
+        taken_over += u32::from(ledger.issued.len() > SMALL_COUNT);
     }
     println!("{grants} grants; {full} of 200 runs ended with a full table, {taken_over} took over destroyed places");
     println!("{handed_out} keys handed out, and {asked_dead} that were asked for after their Destroy were not");
@@ -359,4 +378,23 @@ fn grants_are_counted_destroyed_keys_stay_so_and_names_stand_once() {
         println!("{times:>10}  {event}");
         assert!(times >= least, "too seldom: {event}");
     }
+}
+
+/// The same on large tables: the ledger holds, they fill up, and destroyed places above 63 go to new keys.
+#[test]
+fn the_same_holds_on_large_tables() {
+    let (mut grants, mut full, mut taken_over, mut asked_dead, mut gone) = (0, 0, 0, 0, 0);
+    for seed in 0..LARGE_RUNS {
+        let (ledger, table) = run(1_000 + seed, LARGE_COUNT, 250);
+        grants += ledger.grants;
+        asked_dead += ledger.asked_dead;
+        gone += ledger.names.iter().filter(|name| ledger.holders.holder(name.as_bytes()).is_none()).count();
+        full += u32::from(table.standing().count() == LARGE_COUNT);
+        let later = |record: &Record| record.serial as usize > LARGE_COUNT;
+        taken_over += table.places[SMALL_COUNT..].iter().filter(|record| later(record)).count();
+    }
+    println!("{full} of {LARGE_RUNS} large tables full at the end, {taken_over} keys in places above 63 taken over");
+    println!("{grants} grants, {asked_dead} keys asked for after their Destroy, {gone} names free again");
+    assert!(full > 5 && taken_over > 50);
+    assert!(grants > 50 && asked_dead > 50 && gone > 50);
 }

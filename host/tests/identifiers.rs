@@ -7,7 +7,7 @@ mod support;
 use junctionmoth::message::{item, location, raw_text, request};
 use junctionmoth::model::operations::{identifier, Reason};
 use junctionmoth::model::table::{Name, Record, Table};
-use junctionmoth::Refusal;
+use junctionmoth::{Refusal, SMALL_COUNT};
 use std::collections::BTreeSet;
 use support::coverage::results;
 use support::rng::Rng;
@@ -16,7 +16,7 @@ use support::{engines, Case, Effect};
 
 /// A table with a key for each of these serials.
 fn table_of(serials: &BTreeSet<u32>) -> Vec<u8> {
-    let mut table = Table::blank();
+    let mut table = Table::blank(SMALL_COUNT);
     table.last = *serials.last().expect("a serial");
     for (place, &serial) in serials.iter().enumerate() {
         table.places[place] = Record { serial, state: 2, length: 128, mask: 4, ..Record::default() };

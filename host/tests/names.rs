@@ -6,9 +6,9 @@ mod support;
 
 use junctionmoth::message::*;
 use junctionmoth::model::operations::{identifier, Reason};
-use junctionmoth::model::table::{Name, Record, Table, PLACES};
+use junctionmoth::model::table::{Name, Record, Table};
 use junctionmoth::model::{payload, tags, ttlv};
-use junctionmoth::{blank_table, Refusal};
+use junctionmoth::{blank_table, Refusal, LARGE_COUNT, SMALL_COUNT};
 use std::collections::BTreeSet;
 use std::str::from_utf8;
 use support::names::{fault, wrong_location, wrong_name, Fault};
@@ -75,7 +75,7 @@ fn key(serial: u32, state: u8, name: &[u8]) -> Record {
 
 /// A table with a key of each of these names, with serials from 1 on; the empty one is none.
 fn table_of(names: &[&[u8]]) -> Table {
-    let mut table = Table::blank();
+    let mut table = Table::blank(SMALL_COUNT);
     table.last = names.len() as u32;
     for (place, name) in names.iter().enumerate() {
         table.places[place] = key(place as u32 + 1, 2, name);
@@ -97,7 +97,7 @@ fn text_of(length: usize, letter: &str) -> String {
 fn names_have_1_to_32_bytes() {
     for length in (0..=40).chain([63, 64, 65, 255, 256, 257, 264, 288]) {
         for text in ["x", "\0", "é", "€", "🔑"].map(|letter| text_of(length, letter).into_bytes()) {
-            let effect = call(vec![create_named(&text), locate(&text), then(0x0B)], &blank_table());
+            let effect = call(vec![create_named(&text), locate(&text), then(0x0B)], &blank_table(SMALL_COUNT));
             if (1..=32).contains(&length) {
                 assert_eq!(answers(&effect), [Ok(1); 3], "{}", hex(&text));
                 assert_eq!(Table::decode(&effect.table).places[0].name, Name::of(&text));
@@ -152,7 +152,7 @@ fn a_name_that_differs_in_one_byte_or_in_its_length_is_another() {
 #[test]
 fn names_are_compared_byte_for_byte() {
     let names = ["é", "e\u{301}", "É", "E", "e", "ａ", "a", "A", "А", "ß", "ss", "SS", " a", "a ", "ﬀ", "ff"];
-    let effect = call(names.iter().map(|name| create_named(name.as_bytes())).collect(), &blank_table());
+    let effect = call(names.iter().map(|name| create_named(name.as_bytes())).collect(), &blank_table(SMALL_COUNT));
     let issued: Vec<Answer> = (1..=16).map(Ok).collect();
     assert_eq!(answers(&effect), issued);
     let effect = call(names.iter().map(|name| locate(name.as_bytes())).collect(), &effect.table);
@@ -167,13 +167,14 @@ fn is_sound(field: &[u8; 40]) -> bool {
         && text.is_some_and(|text| from_utf8(text).is_ok() && field[8 + length..] == [0; 32][length..])
 }
 
-/// Every engine says the same of a table with this name field at a place, and what is due.
+/// Every engine says the same of a table with this name field at a place, of a large table from 64 on, and what is due.
 fn check_field(field: [u8; 40], state: u8, place: usize) -> bool {
-    let mut table = Table::blank();
+    let count = if place < SMALL_COUNT { SMALL_COUNT } else { LARGE_COUNT };
+    let mut table = Table::blank(count);
     table.last = 64;
     table.places[place] = key(9, state, b"");
     let mut table = table.encode();
-    let at = 16 + 64 * 16 + 112 * place + 72;
+    let at = 16 + count * 16 + 112 * place + 72;
     table[at..at + 40].copy_from_slice(&field);
     let served = call(vec![on(0x0B, 9)], &table).served;
     let sound = is_sound(&field);
@@ -184,7 +185,7 @@ fn check_field(field: [u8; 40], state: u8, place: usize) -> bool {
 #[test]
 fn every_byte_of_a_name_field_is_looked_at() {
     let (mut sound, mut unsound) = (0, 0);
-    for (state, place) in [(1, 0), (5, 63)] {
+    for (state, place) in [(1, 0), (5, 63), (3, 255)] {
         for length in [0, 1, 8, 31, 32] {
             let mut field = [0; 40];
             field[0] = length as u8;
@@ -205,7 +206,7 @@ fn every_byte_of_a_name_field_is_looked_at() {
         }
     }
     println!("{sound} sound and {unsound} not");
-    assert!(sound > 500 && unsound > 2000);
+    assert!(sound > 750 && unsound > 3000);
 }
 
 /// Each edge at each place of a stored name where it fits, with x before it, and x behind it or its end there.
@@ -246,13 +247,13 @@ fn a_stored_name_is_not_cut_inside_a_character() {
 #[test]
 fn a_name_that_is_asked_for_is_text() {
     for edge in GOOD {
-        let effect = call(vec![create_named(edge), locate(edge), then(0x0B)], &blank_table());
+        let effect = call(vec![create_named(edge), locate(edge), then(0x0B)], &blank_table(SMALL_COUNT));
         assert_eq!(answers(&effect), [Ok(1); 3], "{}", hex(edge));
         assert_eq!(name_at(&effect, 0), Some(edge.to_vec()));
     }
     for (edge, _) in BAD {
         for asked in [create_named(edge), locate(edge)] {
-            assert_eq!(call(vec![asked], &blank_table()).served, Err(Refusal::Malformed), "{}", hex(edge));
+            assert_eq!(call(vec![asked], &blank_table(SMALL_COUNT)).served, Err(Refusal::Malformed), "{}", hex(edge));
         }
     }
 }
@@ -262,10 +263,10 @@ fn name_of(place: usize) -> Vec<u8> {
     format!("station 12, row 3, step no. {place:04}").into_bytes()
 }
 
-/// 64 keys with names, in all states.
-fn full_table() -> Table {
-    let mut table = Table::blank();
-    table.last = 64;
+/// Keys with names in all places, in all states.
+fn full_table(count: usize) -> Table {
+    let mut table = Table::blank(count);
+    table.last = count as u32;
     for (place, record) in table.places.iter_mut().enumerate() {
         *record = key(place as u32 + 1, (place % 6) as u8 + 1, &name_of(place));
     }
@@ -274,30 +275,40 @@ fn full_table() -> Table {
 
 #[test]
 fn every_key_is_located_by_its_name() {
-    let table = full_table();
-    for places in (0..PLACES).collect::<Vec<_>>().chunks(8) {
-        let asked = places.iter().flat_map(|&place| [locate(&name_of(place)), then(0x0B)]);
-        let effect = call(asked.collect(), &table.encode());
-        let serials: Vec<Answer> = places.iter().flat_map(|&place| [Ok(place as u32 + 1); 2]).collect();
-        assert_eq!(answers(&effect), serials);
-        let asked = places.iter().map(|&place| create_named(&name_of(place)));
-        assert_eq!(answers(&call(asked.collect(), &table.encode())), [NON_UNIQUE_NAME; 8]);
+    for count in [SMALL_COUNT, LARGE_COUNT] {
+        let table = full_table(count);
+        for places in (0..count).collect::<Vec<_>>().chunks(8) {
+            let asked = places.iter().flat_map(|&place| [locate(&name_of(place)), then(0x0B)]);
+            let effect = call(asked.collect(), &table.encode());
+            let serials: Vec<Answer> = places.iter().flat_map(|&place| [Ok(place as u32 + 1); 2]).collect();
+            assert_eq!(answers(&effect), serials);
+            let asked = places.iter().map(|&place| create_named(&name_of(place)));
+            assert_eq!(answers(&call(asked.collect(), &table.encode())), [NON_UNIQUE_NAME; 8]);
+        }
+        let absent = call(vec![locate(&name_of(count)), then(0x0B)], &table.encode());
+        assert_eq!(answers(&absent), [Ok(0), OBJECT_NOT_FOUND]);
     }
-    let absent = call(vec![locate(&name_of(64)), then(0x0B)], &table.encode());
-    assert_eq!(answers(&absent), [Ok(0), OBJECT_NOT_FOUND]);
+}
+
+/// Every two places of a small table, and every place of a large one with some others.
+fn pairs_of_places() -> Vec<(usize, usize, usize)> {
+    let small = (0..SMALL_COUNT).flat_map(|two| (0..two).map(move |one| (SMALL_COUNT, one, two)));
+    let large = (0..LARGE_COUNT).flat_map(|two| [0, 63, 64, 254, 255].map(|one| (LARGE_COUNT, one, two)));
+    small.chain(large).filter(|(_, one, two)| one != two).collect()
 }
 
 #[test]
 fn no_two_places_have_the_same_name() {
-    let full = full_table();
-    assert!(call(vec![locate(b"x")], &full.encode()).served.is_ok(), "the table without a fault");
-    for one in 0..PLACES {
-        for two in one + 1..PLACES {
-            let mut table = full.clone();
-            let (from, to) = if (one + two) % 2 == 0 { (one, two) } else { (two, one) };
-            table.places[to].name = table.places[from].name.clone();
-            assert_eq!(call(vec![locate(b"x")], &table.encode()).served, Err(Refusal::Table), "{from} and {to}");
-        }
+    let [small, large] = [SMALL_COUNT, LARGE_COUNT].map(full_table);
+    for full in [&small, &large] {
+        assert!(call(vec![locate(b"x")], &full.encode()).served.is_ok(), "the table without a fault");
+    }
+    for (count, one, two) in pairs_of_places() {
+        let mut table = if count == SMALL_COUNT { small.clone() } else { large.clone() };
+        let (from, to) = if (one + two) % 2 == 0 { (one, two) } else { (two, one) };
+        table.places[to].name = table.places[from].name.clone();
+        let served = call(vec![locate(b"x")], &table.encode()).served;
+        assert_eq!(served, Err(Refusal::Table), "{from} and {to} of {count}");
     }
     for (one, two) in [(&b"a"[..], &b"a\0"[..]), (b"a\0\0", b"a\0"), (b"\0", b"\0\0")] {
         assert_eq!(answers(&call(vec![locate(one), locate(two)], &table_of(&[two, one]).encode())), [Ok(2), Ok(1)]);
@@ -336,7 +347,7 @@ fn re_key_again_moves_the_name_again() {
     assert_eq!(answers(&effect), [Ok(2), Ok(3), Ok(4), PERMISSION_DENIED, Ok(4), Ok(5), Ok(4)]);
     let names: Vec<_> = (0..5).map(|place| name_at(&effect, place)).collect();
     assert_eq!(names, [None, None, None, None, Some(b"pump".to_vec())]);
-    let mut table = full_table();
+    let mut table = full_table(SMALL_COUNT);
     table.places.iter_mut().for_each(|record| record.state = 2);
     let effect = call(vec![on(0x04, 1), locate(&name_of(0))], &table.encode());
     assert_eq!(answers(&effect), [SERVER_LIMIT_EXCEEDED, Ok(1)]);
@@ -346,7 +357,7 @@ fn re_key_again_moves_the_name_again() {
 /// A new key in the place of a destroyed one: the old name is free from then on, in the same batch already.
 #[test]
 fn a_place_that_is_taken_over_frees_its_name() {
-    let mut table = full_table();
+    let mut table = full_table(SMALL_COUNT);
     table.places.iter_mut().for_each(|record| record.state = 2);
     for place in [9, 12] {
         table.places[place].state = 5;

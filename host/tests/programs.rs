@@ -5,7 +5,7 @@
 mod support;
 
 use junctionmoth::message::*;
-use junctionmoth::{blank_table, model, REQUEST};
+use junctionmoth::{blank_table, model, REQUEST, SMALL_COUNT};
 use std::fs::{self, File};
 use std::io::{Seek, Write};
 use std::path::{Path, PathBuf};
@@ -154,7 +154,7 @@ fn bench_prints_responses_in_hex() {
         [("16 items", longest), ("16 items that fail", failed), ("other letters", foreign), ("a name", named)]
     {
         let input = message.encode();
-        let effect = Case::new(input.clone(), blank_table().to_vec()).run(model::serve);
+        let effect = Case::new(input.clone(), blank_table(SMALL_COUNT)).run(model::serve);
         let response = hex(&effect.out[..effect.served.expect("an answer")]);
         let expected = Ran { printed: format!("{response}\n").to_uppercase(), taken: input.len() as u64 };
         assert_eq!(run("bench", case, &input), expected, "{case}");
@@ -213,6 +213,6 @@ fn lines_that_are_none_of_a_script_are_printed() {
         let script = format!("request {line}\n");
         assert_eq!(run("cards", line, script.as_bytes()).printed, format!("bad line: {script}"));
     }
-    assert_eq!(run("cards", "too long", &vec![b'\n'; 524_288]).printed, "script too long\n");
+    assert_eq!(run("cards", "too long", &vec![b'\n'; 1_048_576]).printed, "script too long\n");
     assert_eq!(run("cards_ttlv", "too long", &vec![b'\n'; 65_536]).printed, "script too long\n");
 }

@@ -1,10 +1,10 @@
-//! Every combination of the ten faults: the lowest number is given, and nothing is touched.
-//! A fault is put in so that the others stand beside it.
+//! Every combination of the ten faults, on tables of both place counts: the lowest number is given, and nothing is
+//! touched. A fault is put in so that the others stand beside it.
 
 mod support;
 
 use junctionmoth::message::{create, integer, item, request_with, Body, Header, Node};
-use junctionmoth::{blank_table, Refusal};
+use junctionmoth::{blank_table, Refusal, LARGE_COUNT, SMALL_COUNT};
 use support::{engines, Case};
 
 /// The faults of a case: bit n - 1 stands for refusal n.
@@ -35,7 +35,7 @@ impl Faults {
         message
     }
 
-    fn case(self, empty: bool) -> Case {
+    fn case(self, empty: bool, count: usize) -> Case {
         let mut request = self.message().encode();
         if self.has(Refusal::Malformed) {
             request[0] = 0x54;
@@ -43,8 +43,8 @@ impl Faults {
         if self.has(Refusal::Size) {
             request.resize(if empty { 0 } else { 4097 }, 0);
         }
-        let mut case = Case::new(request, blank_table().to_vec());
-        case.table[7] = if self.has(Refusal::Table) { 63 } else { 64 };
+        let mut case = Case::new(request, blank_table(count));
+        case.table[7] |= u8::from(self.has(Refusal::Table));
         case.fresh.truncate(if self.has(Refusal::Strip) { 511 } else { 512 });
         case.room = if self.has(Refusal::Room) { 6359 } else { 6360 };
         case.clock = if self.has(Refusal::Clock) { 0 } else { 1 };
@@ -56,10 +56,10 @@ impl Faults {
 fn the_lowest_refusal_is_given() {
     let engines = engines();
     for bits in 0..1024 {
-        for empty in [false, true] {
+        for (empty, count) in [(false, SMALL_COUNT), (true, SMALL_COUNT), (false, LARGE_COUNT), (true, LARGE_COUNT)] {
             let faults = Faults(bits);
-            let effect = faults.case(empty).run_all(&engines, "refusals");
-            assert_eq!(effect.served.err(), faults.lowest(), "faults {bits:010b}");
+            let effect = faults.case(empty, count).run_all(&engines, "refusals");
+            assert_eq!(effect.served.err(), faults.lowest(), "faults {bits:010b}, {count} places");
         }
     }
 }

@@ -8,7 +8,7 @@ use junctionmoth::message::{allocation, item, raw_text, request, revocation, str
 use junctionmoth::model::operations::Reason::{InvalidField, ObjectNotFound, OperationNotSupported};
 use junctionmoth::model::table::{Record, Table};
 use junctionmoth::model::ttlv::is_text;
-use junctionmoth::Refusal;
+use junctionmoth::{Refusal, SMALL_COUNT};
 use std::str::from_utf8;
 use support::coverage::results;
 use support::rng::Rng;
@@ -110,7 +110,7 @@ fn the_edges_are_what_they_are_said_to_be() {
 
 /// A table with the Pre-Active key 00000001.
 fn table() -> Vec<u8> {
-    let mut table = Table::blank();
+    let mut table = Table::blank(SMALL_COUNT);
     table.last = 1;
     table.places[0] = Record { serial: 1, state: 1, length: 128, mask: 4, ..Record::default() };
     table.encode()

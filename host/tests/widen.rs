@@ -8,7 +8,7 @@ use junctionmoth::message::{item, request, target};
 use junctionmoth::model::operations::identifier;
 use junctionmoth::model::soundness;
 use junctionmoth::model::table::{Name, Table};
-use junctionmoth::{blank_table, Refusal};
+use junctionmoth::{blank_table, Refusal, LARGE_COUNT, SMALL_COUNT};
 use std::io::Write;
 use std::process::{Command, Stdio};
 use support::coverage::results;
@@ -23,6 +23,11 @@ const BODIES: usize = 16 + 64 * 16;
 const UNDATED: usize = 56;
 const UNNAMED: usize = 72;
 const BODY: usize = 112;
+
+/// A blank table of today, as wide as older ones get.
+fn blank() -> Vec<u8> {
+    blank_table(SMALL_COUNT)
+}
 
 /// What the program writes on standard output and on standard error.
 fn widen(input: &[u8]) -> (Vec<u8>, String) {
@@ -44,7 +49,7 @@ fn narrowed(table: &[u8], body: usize) -> Vec<u8> {
 
 /// A sound table without names.
 fn unnamed(rng: &mut Rng) -> Table {
-    let mut table = tables::sound(rng);
+    let mut table = tables::sound_of(rng, SMALL_COUNT);
     table.places.iter_mut().for_each(|record| record.name = Name::default());
     table
 }
@@ -81,7 +86,7 @@ fn check(table: &[u8], body: usize) {
 #[test]
 fn a_sound_table_from_before_dates_is_widened() {
     let mut rng = Rng::new(1);
-    check(&blank_table(), UNDATED);
+    check(&blank(), UNDATED);
     for _ in 0..40 {
         check(&undated(&mut rng).encode(), UNDATED);
     }
@@ -90,7 +95,7 @@ fn a_sound_table_from_before_dates_is_widened() {
 #[test]
 fn a_sound_table_from_before_names_keeps_its_dates_and_its_clock() {
     let mut rng = Rng::new(2);
-    check(&blank_table(), UNNAMED);
+    check(&blank(), UNNAMED);
     let (mut dates, mut clocks) = (0, 0);
     for _ in 0..60 {
         let table = unnamed(&mut rng);
@@ -119,11 +124,12 @@ fn declined(what: &str, input: &[u8]) {
 #[test]
 fn what_is_no_sound_table_of_an_old_size_is_declined() {
     declined("nothing", &[]);
-    declined("a table of today", &blank_table());
-    declined("a table of today without its last byte", &blank_table()[..8207]);
-    declined("a table of today and a byte more", &[&blank_table()[..], &[0]].concat());
+    declined("a table of today", &blank());
+    declined("a large table of today", &blank_table(LARGE_COUNT));
+    declined("a table of today without its last byte", &blank()[..8207]);
+    declined("a table of today and a byte more", &[&blank()[..], &[0]].concat());
     for body in [UNDATED, UNNAMED] {
-        let old = narrowed(&blank_table(), body);
+        let old = narrowed(&blank(), body);
         let size = old.len();
         declined("a byte less", &old[..size - 1]);
         declined("a byte more", &[&old[..], &[0]].concat());
@@ -142,12 +148,12 @@ fn what_is_no_sound_table_of_an_old_size_is_declined() {
 /// The zeros of the lead of old are the latest clock of later: 0 there, and any that is not negative here.
 #[test]
 fn a_clock_is_taken_from_a_table_with_dates_alone() {
-    let undated = narrowed(&blank_table(), UNDATED);
-    let unnamed = narrowed(&blank_table(), UNNAMED);
+    let undated = narrowed(&blank(), UNDATED);
+    let unnamed = narrowed(&blank(), UNNAMED);
     for at in 8..16 {
         declined("a byte in the zeros of the lead", &with(&undated, at, &[1]));
         let (new, said) = widen(&with(&unnamed, at, &[1]));
-        assert!(new == with(&blank_table(), at, &[1]) && said.is_empty());
+        assert!(new == with(&blank(), at, &[1]) && said.is_empty());
     }
     declined("a negative clock", &with(&unnamed, 8, &[0x80]));
 }
@@ -160,6 +166,9 @@ fn wrong_dates_are_declined() {
     let mut met = [0; 4];
     while met.iter().any(|&times| times < 3) {
         let mut table = Table::decode(&tables::broken(&mut rng));
+        if table.places.len() != SMALL_COUNT {
+            continue;
+        }
         table.places.iter_mut().for_each(|record| record.name = Name::default());
         let table = table.encode();
         let broken = soundness::broken(&table);

@@ -6,7 +6,7 @@ use junctionmoth::message::{
 };
 use junctionmoth::model::operations::identifier;
 use junctionmoth::model::table::{Name, Record, Table};
-use junctionmoth::{ordinary, Engine, LINKED, ROOM, STRIP};
+use junctionmoth::{ordinary, Engine, LARGE_COUNT, LINKED, ROOM, SMALL_COUNT, SMALL_SIZE, STRIP};
 use std::hint::black_box;
 use std::time::Instant;
 
@@ -28,9 +28,17 @@ struct Buffers {
     out: Vec<u8>,
 }
 
+/// The proved engine, and nanoseconds for restoring a small table and a large one.
+struct Course {
+    proved: Engine,
+    small: f64,
+    large: f64,
+}
+
 const METHOD: &str = "\
-Before each call the table is restored by copying its 8,208 bytes from a kept one; the time of that copy, measured in
-rounds of its own, is taken off. The output is not restored: no engine reads it, and a call writes its response whole.
+Before each call the table is restored by copying its 8,208 bytes, or 32,784 of a large one, from a kept one; the time of
+that copy, measured in rounds of its own, is taken off. The output is not restored: no engine reads it, and a call writes
+its response whole. A table has 64 places where it is not called large.
 ";
 
 const SOUNDNESS: &str = "\
@@ -44,6 +52,10 @@ before the first item). The difference is what making the changes costs; looking
 const NAMES: &str = "\
 Names: 64 keys, of which the last 16 are destroyed, with names of 32 bytes that differ in their last two. The check of
 such a table is in each line, and with it the comparison of every two names.";
+
+const LARGE: &str = "\
+Large tables, of 256 places: one Create, which goes to the lowest place that is left, and Get Attributes of the 16 keys at
+the end (on the empty table of none), among keys without names and with names. The check of the table is in each line.";
 
 const IDENTIFIER: &str = "\
 Identifier text: nanoseconds for turning one text into a serial, read off whole calls. A call is 16 Activate items under
@@ -74,27 +86,34 @@ fn main() {
     println!("Nanoseconds a call, as in the fastest of {ROUNDS} rounds of {CALLS} calls, the engines taking turns.");
     println!("{METHOD}");
     println!("{:44} {:>9} {:>9} {:>6}  items that succeed", "", "proved", "ordinary", "ratio");
-    let restore = fastest((0..ROUNDS).map(|_| restoring(&full())).collect());
+    let restore = |count| fastest((0..ROUNDS).map(|_| restoring(&full(count))).collect());
+    let course = Course { proved, small: restore(SMALL_COUNT), large: restore(LARGE_COUNT) };
     for scene in scenes() {
-        run(proved, &scene, restore);
+        course.run(&scene);
     }
-    dates(proved, restore);
-    names(proved, restore);
-    soundness(proved, restore);
+    dates(&course);
+    names(&course);
+    large(&course);
+    soundness(&course);
     identifiers(proved);
     texts(proved);
-    control(restore);
+    control(course.small);
 }
 
-/// The tables by how full they are.
-fn tables() -> [(&'static str, Vec<u8>); 3] {
-    [("empty", Table::blank().encode()), ("half full", half()), ("full", full())]
+/// The blank table of 64 places.
+fn blank() -> Vec<u8> {
+    Table::blank(SMALL_COUNT).encode()
+}
+
+/// The tables of so many places by how full they are.
+fn tables(count: usize) -> [(&'static str, Vec<u8>); 3] {
+    [("empty", Table::blank(count).encode()), ("half full", half(count)), ("full", full(count))]
 }
 
 /// Every typical request, alone and in a batch of 16, on each table.
 fn scenes() -> Vec<Scene> {
     let mut scenes = Vec::new();
-    for (fill, table) in &tables() {
+    for (fill, table) in &tables(SMALL_COUNT) {
         for size in [1, 16] {
             for (operation, items) in operations(size) {
                 let name = format!("{operation} x {size}, {fill} table");
@@ -120,27 +139,27 @@ fn operations(size: u32) -> Vec<(&'static str, Vec<Node>)> {
     ]
 }
 
-fn half() -> Vec<u8> {
-    filled(32, 0)
+fn half(count: usize) -> Vec<u8> {
+    filled(count, count / 2, 0)
 }
 
-fn full() -> Vec<u8> {
-    filled(64, 16)
+fn full(count: usize) -> Vec<u8> {
+    filled(count, count, 16)
 }
 
 /// The full table with its serials in no order of places.
-fn unordered() -> Vec<u8> {
-    let mut table = Table::decode(&full());
+fn unordered(count: usize) -> Vec<u8> {
+    let mut table = Table::decode(&full(count));
     let places = table.places.clone();
     for (place, record) in places.into_iter().enumerate() {
-        table.places[place * 37 % 64] = record;
+        table.places[place * 37 % count] = record;
     }
     table.encode()
 }
 
 /// A table with this many records, the last of them destroyed; every fourth record replaces the one two before it.
-fn filled(number: usize, destroyed: usize) -> Vec<u8> {
-    let mut table = Table::blank();
+fn filled(count: usize, number: usize, destroyed: usize) -> Vec<u8> {
+    let mut table = Table::blank(count);
     table.last = number as u32;
     for (place, record) in table.places.iter_mut().enumerate().take(number) {
         *record = live_record(place as u32 + 1);
@@ -164,11 +183,14 @@ fn live_record(serial: u32) -> Record {
     Record { serial, state, unit: 2, length: 256, total, count, mask: 4, material: [7; 32], ..Record::default() }
 }
 
-/// Times both engines on a scene and prints a line.
-fn run(proved: Engine, scene: &Scene, restore: f64) {
-    let successes = compare(proved, scene);
-    let (proved, plain) = race(proved, ordinary::serve, scene);
-    print_line(&scene.name, proved - restore, plain - restore, &successes);
+impl Course {
+    /// Times both engines on a scene and prints a line.
+    fn run(&self, scene: &Scene) {
+        let restore = if scene.table.len() == SMALL_SIZE { self.small } else { self.large };
+        let successes = compare(self.proved, scene);
+        let (proved, plain) = race(self.proved, ordinary::serve, scene);
+        print_line(&scene.name, proved - restore, plain - restore, &successes);
+    }
 }
 
 /// Times two engines on a scene, by turns.
@@ -179,12 +201,12 @@ fn race(first: Engine, second: Engine, scene: &Scene) -> (f64, f64) {
 }
 
 /// The changes that are due before the first item: none, and one at each place.
-fn dates(proved: Engine, restore: f64) {
+fn dates(course: &Course) {
     println!("\n{DATES}");
     let request = request(Some(1), vec![item(0x0B, Some(b"A1"), target(Some(&identifier(64))))]).encode();
     for (name, clock) in [("64 keys, nothing due", START - 1), ("64 keys, 64 due", START)] {
         let name = format!("Get Attributes x 1, {name}");
-        run(proved, &Scene { name, request: request.clone(), table: waiting(), clock }, restore);
+        course.run(&Scene { name, request: request.clone(), table: waiting(), clock });
     }
 }
 
@@ -193,7 +215,7 @@ const START: i64 = 1_000_000;
 
 /// A table of 64 Pre-Active keys with both dates set.
 fn waiting() -> Vec<u8> {
-    let mut table = Table::blank();
+    let mut table = Table::blank(SMALL_COUNT);
     table.last = 64;
     for (serial, record) in (1..).zip(&mut table.places) {
         *record = Record { state: 1, activation: START, deactivation: 2 * START, ..live_record(serial) };
@@ -202,7 +224,7 @@ fn waiting() -> Vec<u8> {
 }
 
 /// Items that look for a name or show one: alone and sixteen of them.
-fn names(proved: Engine, restore: f64) {
+fn names(course: &Course) {
     println!("\n{NAMES}");
     for size in [1, 16] {
         let batch = |make: &dyn Fn(u32) -> Node| (0..size).map(make).collect::<Vec<_>>();
@@ -216,35 +238,57 @@ fn names(proved: Engine, restore: f64) {
         ];
         for (operation, items) in operations {
             let name = format!("{operation} x {size}");
-            run(proved, &Scene { name, request: request(Some(1), items).encode(), table: named(), clock: 1 }, restore);
+            let request = request(Some(1), items).encode();
+            course.run(&Scene { name, request, table: named(SMALL_COUNT), clock: 1 });
         }
     }
 }
 
-/// A name of 32 bytes that differs from others in its end; from 64 on no key in `named` has it.
+/// A name of 32 bytes that differs from others in its end; from the place count on no key in `named` has it.
 fn name_of(number: u32) -> String {
     format!("station 12, row 3, step, no. {number:03}")
 }
 
 /// The full table with a name for each key.
-fn named() -> Vec<u8> {
-    let mut table = Table::decode(&full());
+fn named(count: usize) -> Vec<u8> {
+    let mut table = Table::decode(&full(count));
     for (number, record) in (0..).zip(&mut table.places) {
         record.name = Name::of(name_of(number).as_bytes());
     }
     table.encode()
 }
 
-/// The soundness check, seen through refusal 4, and that of the ordinary engine by itself.
-fn soundness(proved: Engine, restore: f64) {
-    println!("\n{SOUNDNESS}");
-    let mut tables = tables().to_vec();
-    tables.extend([("full, unordered", unordered()), ("full, 64 names", named())]);
+/// Few requests on large tables, by how full they are.
+fn large(course: &Course) {
+    println!("\n{LARGE}");
+    let mut tables = tables(LARGE_COUNT).to_vec();
+    tables.push(("full named", named(LARGE_COUNT)));
     for (fill, table) in tables {
-        let name = format!("refusal 4, {fill} table");
-        let alone = fastest((0..ROUNDS).map(|_| checking(&table)).collect());
-        run(proved, &Scene { name, request: Vec::new(), table, clock: 1 }, restore);
-        println!("{:44} {:>9} {alone:>9.0}", "  the check by itself", "");
+        let keys = Table::decode(&table).last.max(16);
+        let last = |index: u32| target(Some(&identifier(keys - index)));
+        for (operation, items) in [
+            ("Create x 1", vec![item(0x01, Some(b"A1"), create(256, 4, Some((1000, 2))))]),
+            ("Get Attributes x 16", (0..16).map(|index| item(0x0B, Some(b"A1"), last(index))).collect()),
+        ] {
+            let name = format!("{operation}, {fill} large table");
+            let request = request(Some(1), items).encode();
+            course.run(&Scene { name, request, table: table.clone(), clock: 1 });
+        }
+    }
+}
+
+/// The soundness check, seen through refusal 4, and that of the ordinary engine by itself.
+fn soundness(course: &Course) {
+    println!("\n{SOUNDNESS}");
+    for (count, size) in [(SMALL_COUNT, ""), (LARGE_COUNT, "large ")] {
+        let mut tables = tables(count).to_vec();
+        tables.extend([("full unordered", unordered(count)), ("full named", named(count))]);
+        for (fill, table) in tables {
+            let name = format!("refusal 4, {fill} {size}table");
+            let alone = fastest((0..ROUNDS).map(|_| checking(&table)).collect());
+            course.run(&Scene { name, request: Vec::new(), table, clock: 1 });
+            println!("{:44} {:>9} {alone:>9.0}", "  the check by itself", "");
+        }
     }
 }
 
@@ -299,7 +343,7 @@ fn identifiers(proved: Engine) {
             let requests: Vec<Vec<u8>> = (0..REQUESTS).map(|_| activations(texts, &mut seed)).collect();
             if round == 0 {
                 let (name, request) = (texts.name.to_string(), requests[0].clone());
-                let scene = Scene { name, request, table: Table::blank().encode(), clock: 1 };
+                let scene = Scene { name, request, table: blank(), clock: 1 };
                 assert_eq!(compare(proved, &scene), "0 of 16");
             }
             for (engine, time) in engines.into_iter().zip(times) {
@@ -335,7 +379,7 @@ fn random(seed: &mut u64) -> u32 {
 
 /// Nanoseconds a call of these requests, each served once on the blank table, of which they change the clock alone.
 fn answering(engine: Engine, requests: &[Vec<u8>]) -> f64 {
-    let mut lent = buffers(&Table::blank().encode());
+    let mut lent = buffers(&blank());
     let start = Instant::now();
     for request in requests {
         let _ = black_box(engine(black_box(request), &mut lent.table, &lent.fresh, black_box(1), &mut lent.out));
@@ -382,7 +426,7 @@ fn reading(proved: Engine, length: usize, sizes: &[usize], seed: &mut u64) -> [f
             let requests: Vec<Vec<u8>> = texts.iter().map(|texts| unsupported(node, texts)).collect();
             if round == 0 {
                 let (name, request) = (format!("{length} bytes"), requests[0].clone());
-                let scene = Scene { name, request, table: Table::blank().encode(), clock: 1 };
+                let scene = Scene { name, request, table: blank(), clock: 1 };
                 assert_eq!(compare(proved, &scene), "0 of 1");
             }
             for (engine, times) in [proved, ordinary::serve].into_iter().zip(&mut times) {

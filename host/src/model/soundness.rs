@@ -1,24 +1,25 @@
 //! Soundness of a stored table, as a list of named rules.
 //! A table is sound if none of them is broken.
 
-use super::table::{Name, Record, Table, SIZE};
+use super::table::{places_in, Name, Record, Table, COUNTS};
 use super::ttlv::is_text;
 
 /// The greatest total of a usage limit.
 pub const GREATEST_TOTAL: u64 = 1_000_000_000_000;
 
-/// A rule that a table of the right size keeps or breaks.
+/// A rule that a table of a size that there is keeps or breaks.
 pub struct Rule {
     pub name: &'static str,
     pub kept: fn(&Table) -> bool,
 }
 
-/// The name of the one rule that is about the size alone.
+/// The name of the one rule that is about the size alone: it is that of some place count.
 pub const SIZE_RULE: &str = "size";
 
 /// All other rules.
-pub const RULES: [Rule; 28] = [
-    Rule { name: "place count", kept: |table| table.place_count == 64 },
+pub const RULES: [Rule; 29] = [
+    Rule { name: "place count", kept: |table| COUNTS.contains(&(table.place_count as usize)) },
+    Rule { name: "size of the place count", kept: size_follows },
     Rule { name: "free line", kept: |table| table.places.iter().all(|record| !record.is_free() || line_zero(record)) },
     Rule { name: "free body", kept: |table| table.places.iter().all(|record| !record.is_free() || body_zero(record)) },
     Rule { name: "body zeros", kept: |table| table.standing().all(|record| record.zeros == 0) },
@@ -58,11 +59,17 @@ pub fn names() -> Vec<&'static str> {
 
 /// The names of the rules that this table breaks: of the size alone if that is wrong.
 pub fn broken(bytes: &[u8]) -> Vec<&'static str> {
-    if bytes.len() != SIZE {
+    if places_in(bytes.len()).is_none() {
         return vec![SIZE_RULE];
     }
     let table = Table::decode(bytes);
     RULES.iter().filter(|rule| !(rule.kept)(&table)).map(|rule| rule.name).collect()
+}
+
+/// The size is that of the place count, if that is one that there is.
+fn size_follows(table: &Table) -> bool {
+    let said = table.place_count as usize;
+    !COUNTS.contains(&said) || table.places.len() == said
 }
 
 fn line_zero(record: &Record) -> bool {
@@ -110,17 +117,17 @@ fn replacement_is_above(record: &Record, last: u32) -> bool {
 
 /// Whoever is named as replaced, and stands, names the one who says so as its replacement.
 fn replaced_names_back(table: &Table) -> bool {
-    table.standing().all(|record| {
-        let named = table.standing().filter(|other| other.serial == record.replaced);
-        named.into_iter().all(|other| other.replacement == record.serial)
+    table.standing().filter(|record| record.replaced != 0).all(|record| {
+        let mut named = table.standing().filter(|other| other.serial == record.replaced);
+        named.all(|other| other.replacement == record.serial)
     })
 }
 
 /// Whoever is named as replacement, and stands, names the one who says so as replaced.
 fn replacement_names_back(table: &Table) -> bool {
-    table.standing().all(|record| {
-        let named = table.standing().filter(|other| other.serial == record.replacement);
-        named.into_iter().all(|other| other.replaced == record.serial)
+    table.standing().filter(|record| record.replacement != 0).all(|record| {
+        let mut named = table.standing().filter(|other| other.serial == record.replacement);
+        named.all(|other| other.replaced == record.serial)
     })
 }
 

@@ -1,14 +1,22 @@
 //! The stored table as records, and back to bytes.
-//! Every byte of a table of the right size is kept by some field, so that decoding and encoding lose nothing.
+//! Every byte of a table of a size that there is, is kept by some field, so that decoding and encoding lose nothing.
 
-/// Places in a table.
-pub const PLACES: usize = 64;
+/// The place counts that a lead may say.
+pub const COUNTS: [usize; 2] = [64, 256];
 /// Bytes of a body.
 const BODY: usize = 112;
-/// Bytes of a table.
-pub const SIZE: usize = 16 + PLACES * 16 + PLACES * BODY;
 
-/// Lead with the latest clock seen, and the record of each place.
+/// Bytes of a table: lead, contents and bodies, of so many places.
+pub fn size_of(count: usize) -> usize {
+    16 + count * 16 + count * BODY
+}
+
+/// How many places a table of this size has, if a table may have this size.
+pub fn places_in(size: usize) -> Option<usize> {
+    COUNTS.into_iter().find(|&count| size_of(count) == size)
+}
+
+/// Lead with the latest clock seen, and the record of each place. What the lead says need not be how many there are.
 #[derive(Clone, Debug, PartialEq)]
 pub struct Table {
     pub last: u32,
@@ -68,9 +76,9 @@ impl Name {
 }
 
 impl Table {
-    /// A table with nothing issued and no clock seen.
-    pub fn blank() -> Table {
-        Table { last: 0, place_count: 64, latest: 0, places: vec![Record::default(); PLACES] }
+    /// A table of so many places with nothing issued and no clock seen.
+    pub fn blank(count: usize) -> Table {
+        Table { last: 0, place_count: count as u32, latest: 0, places: vec![Record::default(); count] }
     }
 
     /// The records that stand: those of the places that are not free.
@@ -88,11 +96,11 @@ impl Table {
         self.standing().find(|record| record.name.text() == Some(name))
     }
 
-    /// The records of a table of the right size.
+    /// The records of a table of a size that there is.
     pub fn decode(bytes: &[u8]) -> Table {
-        assert_eq!(bytes.len(), SIZE);
+        let count = places_in(bytes.len()).expect("the size of a table");
         let (lead, rest) = bytes.split_at(16);
-        let (lines, bodies) = rest.split_at(PLACES * 16);
+        let (lines, bodies) = rest.split_at(count * 16);
         Table {
             last: number(lead, 0, 4) as u32,
             place_count: number(lead, 4, 4) as u32,

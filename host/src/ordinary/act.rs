@@ -40,15 +40,15 @@ const COMPROMISE: Moves = [Ok(4), Ok(4), Ok(4), STUCK, Ok(6), STUCK];
 const DESTROY: Moves = [Ok(5), STUCK, Ok(5), Ok(6), GONE, GONE];
 
 /// One request at work: the table, the fresh strip in parts, the clock, and the placeholder (0 if empty).
-pub struct Session<'a> {
-    table: Table<'a>,
+pub struct Session<'a, const N: usize> {
+    table: Table<'a, N>,
     fresh: &'a [[u8; 32]],
     now: u64,
     placeholder: u32,
 }
 
-impl<'a> Session<'a> {
-    pub fn new(table: Table<'a>, fresh: &'a [[u8; 32]], now: u64) -> Self {
+impl<'a, const N: usize> Session<'a, N> {
+    pub fn new(table: Table<'a, N>, fresh: &'a [[u8; 32]], now: u64) -> Self {
         Session { table, fresh, now, placeholder: 0 }
     }
 

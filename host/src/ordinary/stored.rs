@@ -1,7 +1,8 @@
-//! The stored table, read and written in place, and its soundness.
+//! The stored table, read and written in place, and its soundness. `N` is its number of places.
 //! Assumes nothing.
 
-pub const PLACES: usize = 64;
+use crate::{LARGE_COUNT, SMALL_COUNT};
+
 pub const GREATEST_TOTAL: u64 = 1_000_000_000_000;
 
 /// The largest Date-Time.
@@ -21,10 +22,10 @@ const TEXT: usize = 8;
 const LATEST: std::ops::Range<usize> = 8..LEAD;
 
 /// The parts of a table, lent for writing.
-pub struct Table<'a> {
+pub struct Table<'a, const N: usize> {
     lead: &'a mut [u8; LEAD],
-    lines: &'a mut [[u8; LINE]; PLACES],
-    bodies: &'a mut [[u8; BODY]; PLACES],
+    lines: &'a mut [[u8; LINE]; N],
+    bodies: &'a mut [[u8; BODY]; N],
 }
 
 /// A line of the contents.
@@ -184,11 +185,11 @@ fn words(body: &[u8; BODY]) -> [u64; BODY / 8] {
     words
 }
 
-impl<'a> Table<'a> {
+impl<'a, const N: usize> Table<'a, N> {
     /// The parts of a table of the right size.
     pub fn new(bytes: &'a mut [u8]) -> Option<Self> {
         let (lead, rest) = bytes.split_first_chunk_mut()?;
-        let (lines, bodies) = rest.split_at_mut_checked(PLACES * LINE)?;
+        let (lines, bodies) = rest.split_at_mut_checked(N * LINE)?;
         match (lines.as_chunks_mut(), bodies.as_chunks_mut()) {
             ((lines, []), (bodies, [])) => {
                 Some(Table { lead, lines: lines.try_into().ok()?, bodies: bodies.try_into().ok()? })
@@ -217,49 +218,49 @@ impl<'a> Table<'a> {
     }
 
     pub fn line(&self, place: usize) -> Line {
-        Line::read(&self.lines[place % PLACES])
+        Line::read(&self.lines[place % N])
     }
 
     pub fn usage(&self, place: usize) -> Usage {
-        let [total, count, mask, ..] = words(&self.bodies[place % PLACES]);
+        let [total, count, mask, ..] = words(&self.bodies[place % N]);
         Usage { total, count, mask: (mask >> 32) as u32 }
     }
 
     pub fn material(&self, place: usize) -> [u8; 32] {
         let mut material = [0; 32];
-        material.copy_from_slice(&self.bodies[place % PLACES][MATERIAL]);
+        material.copy_from_slice(&self.bodies[place % N][MATERIAL]);
         material
     }
 
     pub fn dates(&self, place: usize) -> Dates {
-        Dates::read(&self.bodies[place % PLACES])
+        Dates::read(&self.bodies[place % N])
     }
 
     /// The key of this place, which has this line.
     pub fn key(&self, place: usize, line: Line) -> Key {
-        let name = Name::read(&self.bodies[place % PLACES]);
+        let name = Name::read(&self.bodies[place % N]);
         Key { line, usage: self.usage(place), dates: self.dates(place), name }
     }
 
     pub fn set_line(&mut self, place: usize, line: Line) {
-        self.lines[place % PLACES] = line.bytes();
+        self.lines[place % N] = line.bytes();
     }
 
     pub fn set_count(&mut self, place: usize, count: u64) {
-        self.bodies[place % PLACES][8..16].copy_from_slice(&count.to_be_bytes());
+        self.bodies[place % N][8..16].copy_from_slice(&count.to_be_bytes());
     }
 
     pub fn clear_material(&mut self, place: usize) {
-        self.bodies[place % PLACES][MATERIAL].fill(0);
+        self.bodies[place % N][MATERIAL].fill(0);
     }
 
     pub fn clear_name(&mut self, place: usize) {
-        self.bodies[place % PLACES][NAME].fill(0);
+        self.bodies[place % N][NAME].fill(0);
     }
 
     pub fn set_dates(&mut self, place: usize, dates: Dates) {
         let both = u128::from(dates.activation) << 64 | u128::from(dates.deactivation);
-        self.bodies[place % PLACES][DATES].copy_from_slice(&both.to_be_bytes());
+        self.bodies[place % N][DATES].copy_from_slice(&both.to_be_bytes());
     }
 
     /// Writes a whole new record, which becomes the last issued. Of `fresh` the first `length / 8` bytes are taken.
@@ -268,7 +269,7 @@ impl<'a> Table<'a> {
         self.lead[..4].copy_from_slice(&line.serial.to_be_bytes());
         self.set_line(place, *line);
         self.set_dates(place, *dates);
-        let body = &mut self.bodies[place % PLACES];
+        let body = &mut self.bodies[place % N];
         body[NAME].copy_from_slice(&name.0);
         body[..8].copy_from_slice(&usage.total.to_be_bytes());
         body[8..16].copy_from_slice(&usage.count.to_be_bytes());
@@ -300,33 +301,48 @@ impl<'a> Table<'a> {
     }
 }
 
-/// Whether a stored table is sound: size and lead, every place by itself, then serials and links, then names.
+/// How many places the lead of a table says it has.
+pub fn places_said(table: &[u8]) -> Option<usize> {
+    let lead: &[u8; LEAD] = table.first_chunk()?;
+    Some((u128::from_be_bytes(*lead) >> 64) as u32 as usize)
+}
+
+/// Whether a stored table has a number of places that there is, and is sound.
 pub fn sound(table: &[u8]) -> bool {
-    let Some((lead, lines, bodies)) = parts(table) else {
+    match places_said(table) {
+        Some(SMALL_COUNT) => sound_for::<SMALL_COUNT>(table),
+        Some(LARGE_COUNT) => sound_for::<LARGE_COUNT>(table),
+        _ => false,
+    }
+}
+
+/// Whether a table whose lead says N is sound: size and clock, every place by itself, then serials and links, then names.
+pub fn sound_for<const N: usize>(table: &[u8]) -> bool {
+    let Some((lead, lines, bodies)) = parts::<N>(table) else {
         return false;
     };
     let lead = u128::from_be_bytes(*lead);
     let last = (lead >> 96) as u32;
     let latest = lead as u64;
-    (lead >> 64) as u32 == PLACES as u32
-        && latest >> 63 == 0
+    latest >> 63 == 0
         && lines.iter().zip(bodies).all(|(line, body)| sound_place(line, body, last, latest))
         && sound_links(lines)
         && names_differ(bodies)
 }
 
-type Parts<'a> = (&'a [u8; LEAD], &'a [[u8; LINE]; PLACES], &'a [[u8; BODY]; PLACES]);
+type Parts<'a, const N: usize> = (&'a [u8; LEAD], &'a [[u8; LINE]; N], &'a [[u8; BODY]; N]);
 
 /// The parts of a table of the right size.
-fn parts(table: &[u8]) -> Option<Parts<'_>> {
+fn parts<const N: usize>(table: &[u8]) -> Option<Parts<'_, N>> {
     let (lead, rest) = table.split_first_chunk()?;
-    let (lines, bodies) = rest.split_at_checked(PLACES * LINE)?;
+    let (lines, bodies) = rest.split_at_checked(N * LINE)?;
     match (lines.as_chunks(), bodies.as_chunks()) {
         ((lines, []), (bodies, [])) => Some((lead, lines.try_into().ok()?, bodies.try_into().ok()?)),
         _ => None,
     }
 }
 
+#[inline(always)]
 fn sound_place(line: &[u8; LINE], body: &[u8; BODY], last: u32, latest: u64) -> bool {
     let line_bytes = line;
     let line = Line::read(line);
@@ -374,8 +390,8 @@ fn any_bit(words: &[u64]) -> u64 {
 }
 
 /// Serials distinct, and each link whose ends both stand named by both.
-fn sound_links(lines: &[[u8; LINE]; PLACES]) -> bool {
-    let mut room = [Line::default(); PLACES];
+fn sound_links<const N: usize>(lines: &[[u8; LINE]; N]) -> bool {
+    let mut room = [Line::default(); N];
     let mut number = 0;
     for (slot, line) in room.iter_mut().zip(lines.iter().map(Line::read).filter(|line| line.serial != 0)) {
         *slot = line;
@@ -388,8 +404,8 @@ fn sound_links(lines: &[[u8; LINE]; PLACES]) -> bool {
 }
 
 /// Whether all names are different. Every one of them is sound by itself, and free places have none.
-fn names_differ(bodies: &[[u8; BODY]; PLACES]) -> bool {
-    let mut room = [Name::default(); PLACES];
+fn names_differ<const N: usize>(bodies: &[[u8; BODY]; N]) -> bool {
+    let mut room = [Name::default(); N];
     let mut number = 0;
     for (slot, name) in room.iter_mut().zip(bodies.iter().map(Name::read).filter(|name| !name.is_none())) {
         *slot = name;

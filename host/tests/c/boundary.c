@@ -55,7 +55,7 @@ static const uint8_t located[152] = {
 };
 
 static uint8_t request[JUNCTIONMOTH_REQUEST_MOST + 1];
-static uint8_t table[JUNCTIONMOTH_TABLE_SIZE + 1];
+static uint8_t table[JUNCTIONMOTH_LARGE_SIZE + 1];
 static uint8_t strip[JUNCTIONMOTH_STRIP_SIZE + 1];
 static uint8_t out[ROOM];
 static uint8_t table_before[sizeof table];
@@ -71,14 +71,14 @@ static void expect(int holds, const char *what)
     }
 }
 
-/* Every buffer as it is before a call: a blank table, the sample, output that is not zero. */
-static void lay_out(void)
+/* Every buffer as it is before a call: a blank table of so many places, the sample, output that is not zero. */
+static void lay_out_for(uint32_t count)
 {
     size_t i;
     memset(request, 0, sizeof request);
     memcpy(request, sample, sizeof sample);
     memset(table, 0xEE, sizeof table);
-    junctionmoth_blank(table);
+    junctionmoth_blank(table, count);
     for (i = 0; i < sizeof strip; i++) {
         strip[i] = (uint8_t)(i + 1);
     }
@@ -86,6 +86,11 @@ static void lay_out(void)
     memcpy(table_before, table, sizeof table);
     memcpy(out_before, out, sizeof out);
     length = 7;
+}
+
+static void lay_out(void)
+{
+    lay_out_for(JUNCTIONMOTH_SMALL_COUNT);
 }
 
 static void expect_untouched(const char *what)
@@ -105,7 +110,7 @@ static void refused(size_t asked, size_t stored, size_t fresh, size_t room, uint
 
 static void sizes(void)
 {
-    const size_t table_size = JUNCTIONMOTH_TABLE_SIZE;
+    const size_t table_size = JUNCTIONMOTH_SMALL_SIZE;
     const size_t strip_size = JUNCTIONMOTH_STRIP_SIZE;
     const size_t room_least = JUNCTIONMOTH_ROOM_LEAST;
     const size_t most = JUNCTIONMOTH_REQUEST_MOST;
@@ -114,6 +119,7 @@ static void sizes(void)
     refused(sizeof sample, table_size, strip_size + 1, room_least, JUNCTIONMOTH_REFUSED_STRIP, "strip one long");
     refused(sizeof sample, table_size - 1, strip_size, room_least, JUNCTIONMOTH_REFUSED_TABLE, "table one short");
     refused(sizeof sample, table_size + 1, strip_size, room_least, JUNCTIONMOTH_REFUSED_TABLE, "table one long");
+    refused(sizeof sample, JUNCTIONMOTH_LARGE_SIZE, strip_size, room_least, JUNCTIONMOTH_REFUSED_TABLE, "64 places, large");
     refused(sizeof sample, 4624, strip_size, room_least, JUNCTIONMOTH_REFUSED_TABLE, "table without dates");
     refused(sizeof sample, 5648, strip_size, room_least, JUNCTIONMOTH_REFUSED_TABLE, "table without names");
     refused(0, table_size, strip_size, room_least, JUNCTIONMOTH_REFUSED_SIZE, "request empty");
@@ -126,7 +132,7 @@ static void spoilt(size_t at, uint8_t byte, uint32_t number, const char *what)
 {
     lay_out();
     request[at] = byte;
-    expect(junctionmoth_serve(request, sizeof sample, table, JUNCTIONMOTH_TABLE_SIZE, strip, JUNCTIONMOTH_STRIP_SIZE, 1,
+    expect(junctionmoth_serve(request, sizeof sample, table, JUNCTIONMOTH_SMALL_SIZE, strip, JUNCTIONMOTH_STRIP_SIZE, 1,
                               out, sizeof out, &length) == number, what);
     expect_untouched(what);
 }
@@ -148,7 +154,7 @@ static void other_option(void)
     memcpy(request + 56, option, sizeof option);
     request[7] = 0xB8;
     request[15] = 0x48;
-    expect(junctionmoth_serve(request, sizeof sample + sizeof option, table, JUNCTIONMOTH_TABLE_SIZE, strip,
+    expect(junctionmoth_serve(request, sizeof sample + sizeof option, table, JUNCTIONMOTH_SMALL_SIZE, strip,
                               JUNCTIONMOTH_STRIP_SIZE, 1, out, sizeof out, &length) == JUNCTIONMOTH_REFUSED_OPTION,
            "option 3");
     expect_untouched("option 3");
@@ -161,7 +167,7 @@ static void no_buffers(void)
     expect(junctionmoth_serve(NULL, 0, NULL, 0, NULL, 0, 1, NULL, 0, &length) == JUNCTIONMOTH_REFUSED_ROOM, "all NULL");
     expect_untouched("all NULL");
     lay_out();
-    expect(junctionmoth_serve(request, sizeof sample, table, JUNCTIONMOTH_TABLE_SIZE, NULL, 0, 1, out, sizeof out,
+    expect(junctionmoth_serve(request, sizeof sample, table, JUNCTIONMOTH_SMALL_SIZE, NULL, 0, 1, out, sizeof out,
                               &length) == JUNCTIONMOTH_REFUSED_STRIP, "no strip");
     expect_untouched("no strip");
     lay_out();
@@ -169,7 +175,7 @@ static void no_buffers(void)
                               &length) == JUNCTIONMOTH_REFUSED_TABLE, "no table");
     expect_untouched("no table");
     lay_out();
-    expect(junctionmoth_serve(NULL, 0, table, JUNCTIONMOTH_TABLE_SIZE, strip, JUNCTIONMOTH_STRIP_SIZE, 1, out,
+    expect(junctionmoth_serve(NULL, 0, table, JUNCTIONMOTH_SMALL_SIZE, strip, JUNCTIONMOTH_STRIP_SIZE, 1, out,
                               sizeof out, &length) == JUNCTIONMOTH_REFUSED_SIZE, "no request");
     expect_untouched("no request");
 }
@@ -181,13 +187,13 @@ static void clocks(void)
     size_t i;
     for (i = 0; i < 3; i++) {
         lay_out();
-        expect(junctionmoth_serve(request, sizeof sample, table, JUNCTIONMOTH_TABLE_SIZE, strip, JUNCTIONMOTH_STRIP_SIZE,
+        expect(junctionmoth_serve(request, sizeof sample, table, JUNCTIONMOTH_SMALL_SIZE, strip, JUNCTIONMOTH_STRIP_SIZE,
                                   below[i], out, sizeof out, &length) == JUNCTIONMOTH_REFUSED_CLOCK, "clock below 1");
         expect_untouched("clock below 1");
     }
     lay_out();
     for (i = 5; i >= 3; i--) {
-        expect(junctionmoth_serve(request, sizeof sample, table, JUNCTIONMOTH_TABLE_SIZE, strip, JUNCTIONMOTH_STRIP_SIZE,
+        expect(junctionmoth_serve(request, sizeof sample, table, JUNCTIONMOTH_SMALL_SIZE, strip, JUNCTIONMOTH_STRIP_SIZE,
                                   (int64_t)i, out, sizeof out, &length) == JUNCTIONMOTH_ANSWERED, "clocks 5, 4 and 3");
         expect(table[15] == 5, "5 is the latest clock");
         expect(out[71] == 5, "and the Time Stamp");
@@ -197,20 +203,47 @@ static void clocks(void)
 static void answered(void)
 {
     lay_out();
-    expect(junctionmoth_serve(request, sizeof sample, table, JUNCTIONMOTH_TABLE_SIZE, strip, JUNCTIONMOTH_STRIP_SIZE, 1,
+    expect(junctionmoth_serve(request, sizeof sample, table, JUNCTIONMOTH_SMALL_SIZE, strip, JUNCTIONMOTH_STRIP_SIZE, 1,
                               out, sizeof out, &length) == JUNCTIONMOTH_ANSWERED, "the sample is answered");
     expect(length == 168, "its response has 168 bytes");
     expect(memcmp(out + 160, "00000001", 8) == 0, "and ends with the new identifier");
     expect(memcmp(out + 168, out_before + 168, sizeof out - 168) == 0, "output past it is as it was");
     expect(table[3] == 1, "the last serial issued is 1");
-    expect(memcmp(table + 16 + 16 * JUNCTIONMOTH_PLACES + 24, strip, 16) == 0, "its material is the strip's front");
-    expect(table[JUNCTIONMOTH_TABLE_SIZE] == 0xEE, "nothing past the table is written");
+    expect(memcmp(table + 16 + 16 * JUNCTIONMOTH_SMALL_COUNT + 24, strip, 16) == 0, "its material is the strip's front");
+    expect(table[JUNCTIONMOTH_SMALL_SIZE] == 0xEE, "nothing past the table is written");
+}
+
+/* The sample on a blank table of this count, of which this many bytes are lent. */
+static uint32_t serve_large(uint32_t count, size_t stored)
+{
+    lay_out_for(count);
+    return junctionmoth_serve(request, sizeof sample, table, stored, strip, JUNCTIONMOTH_STRIP_SIZE, 1, out, sizeof out,
+                              &length);
+}
+
+/* "its size follows from that"; "no call changes it" */
+static void large(void)
+{
+    const size_t size = JUNCTIONMOTH_LARGE_SIZE;
+    expect(serve_large(256, size - 1) == JUNCTIONMOTH_REFUSED_TABLE, "large table one short");
+    expect_untouched("large table one short");
+    expect(serve_large(256, size + 1) == JUNCTIONMOTH_REFUSED_TABLE, "large table one long");
+    expect_untouched("large table one long");
+    expect(serve_large(256, JUNCTIONMOTH_SMALL_SIZE) == JUNCTIONMOTH_REFUSED_TABLE, "256 places, small");
+    expect_untouched("256 places, small");
+    expect(serve_large(128, JUNCTIONMOTH_TABLE_SIZE(128)) == JUNCTIONMOTH_REFUSED_TABLE, "128 places");
+    expect_untouched("128 places");
+    expect(serve_large(JUNCTIONMOTH_LARGE_COUNT, size) == JUNCTIONMOTH_ANSWERED, "a large table is served");
+    expect(length == 168 && table[3] == 1, "and the last serial issued is 1");
+    expect(table[4] == 0 && table[5] == 0 && table[6] == 1 && table[7] == 0, "it says 256 as before");
+    expect(memcmp(table + 16 + 16 * 256 + 24, strip, 16) == 0, "the material stands in its first body");
+    expect(table[size] == 0xEE, "nothing past the large table is written");
 }
 
 /* A call on the table as it is, which is answered. */
 static void ask(const uint8_t *asked, size_t size, const char *what)
 {
-    expect(junctionmoth_serve(asked, size, table, JUNCTIONMOTH_TABLE_SIZE, strip, JUNCTIONMOTH_STRIP_SIZE, 1, out,
+    expect(junctionmoth_serve(asked, size, table, JUNCTIONMOTH_SMALL_SIZE, strip, JUNCTIONMOTH_STRIP_SIZE, 1, out,
                               sizeof out, &length) == JUNCTIONMOTH_ANSWERED, what);
 }
 
@@ -222,7 +255,7 @@ static void names(void)
     expect(length == 136 && out[135] == 0, "with an empty payload while no key has the name");
     ask(named, sizeof named, "a Create with a name is answered");
     expect(length == 168 && memcmp(out + 160, "00000001", 8) == 0, "with the new identifier");
-    expect(memcmp(table + 16 + 16 * JUNCTIONMOTH_PLACES + 80, "pump", 4) == 0, "the name stands in the table");
+    expect(memcmp(table + 16 + 16 * JUNCTIONMOTH_SMALL_COUNT + 80, "pump", 4) == 0, "the name stands in the table");
     ask(named, sizeof named, "a second Create with the name is answered");
     expect(length == 144 && out[139] == 0x35, "with Non Unique Name Attribute");
     ask(located, sizeof located, "a Locate is answered again");
@@ -237,6 +270,7 @@ int main(void)
     no_buffers();
     clocks();
     answered();
+    large();
     names();
     return failures == 0 ? 0 : 1;
 }

@@ -1,6 +1,7 @@
 //! What occurred in a run: refusals, operation by result, rules of soundness broken alone, changes of state, dates.
 //! Everything is read off the calls' inputs and effects, not told by an engine.
 
+use super::above::Above;
 use super::holders::{self, Holders};
 use super::names;
 use super::texts::{self, Fault};
@@ -13,7 +14,7 @@ use junctionmoth::model::soundness;
 use junctionmoth::model::table::{Record, Table};
 use junctionmoth::model::tags::*;
 use junctionmoth::model::ttlv::{self, Item, Value};
-use junctionmoth::Refusal;
+use junctionmoth::{ordinary, Refusal, LARGE_COUNT, SMALL_COUNT};
 use std::collections::BTreeMap;
 
 /// The reasons that can be given to each operation: these must occur, and no others.
@@ -41,13 +42,18 @@ const CHANGES: [(u8, u8); 9] = [(1, 2), (1, 4), (1, 5), (2, 3), (2, 4), (3, 4), 
 const DUE: [(u8, u8); 3] = [(1, 2), (2, 3), (1, 3)];
 
 /// Things that must occur beside those lists, and beside those about names.
-const EVENTS: [&str; 58] = [
+const EVENTS: [&str; 63] = [
     "answered with fewer items than asked",
     "batch of 16 answered whole",
     "response of 6,360 bytes",
     "request of 4,096 bytes answered",
     "new record in a free place",
     "new record in a destroyed place",
+    "new record in place 255 of 256",
+    "new record in a free place above 63",
+    "no place left of 64: Server Limit Exceeded",
+    "no place left of 256: Server Limit Exceeded",
+    "state changed by date above place 63",
     "serial FFFFFFFF issued",
     "last serial FFFFFFFF with a free place: Server Limit Exceeded",
     "no usage limit: Invalid Field",
@@ -114,15 +120,13 @@ pub struct Coverage {
     events: BTreeMap<&'static str, u64>,
     text_faults: BTreeMap<Fault, u64>,
     name_faults: BTreeMap<(u32, names::Fault), u64>,
+    above: Above,
     missing: Vec<String>,
 }
 
 impl Coverage {
     /// Counts a call.
     pub fn count(&mut self, case: &Case, effect: &Effect) {
-        if let [rule] = soundness::broken(&case.table)[..] {
-            *self.rules.entry(rule).or_default() += 1;
-        }
         match effect.served {
             Ok(length) => self.count_answer(case, effect, length),
             Err(refusal) => self.count_refusal(case, refusal),
@@ -131,6 +135,9 @@ impl Coverage {
 
     fn count_refusal(&mut self, case: &Case, refusal: Refusal) {
         *self.refused.entry(refusal).or_default() += 1;
+        if refusal == Refusal::Table {
+            self.count_unsound(&case.table);
+        }
         if case.clock < 1 {
             *self.refused_below_1.entry(refusal).or_default() += 1;
         } else {
@@ -142,9 +149,20 @@ impl Coverage {
         }
     }
 
+    /// Counts a table that was refused: it breaks a rule, and here one alone is counted.
+    fn count_unsound(&mut self, table: &[u8]) {
+        let broken = soundness::broken(table);
+        assert!(!broken.is_empty() && !ordinary::sound(table), "a sound table was refused");
+        if let [rule] = broken[..] {
+            *self.rules.entry(rule).or_default() += 1;
+            self.above.count_rule(table, rule);
+        }
+    }
+
     fn count_answer(&mut self, case: &Case, effect: &Effect, length: usize) {
         self.answered += 1;
         assert!(soundness::broken(&effect.table).is_empty(), "an answered call left an unsound table");
+        assert!([&case.table, &effect.table].into_iter().all(|table| ordinary::sound(table)), "the check by itself");
         let response = &effect.out[..length];
         let results = results(response);
         for &(operation, reason) in &results {
@@ -163,6 +181,7 @@ impl Coverage {
         }
         self.count_names(&start, &after, &case.request, response);
         self.count_targets(&start, &asked, &results);
+        self.above.count_first(&start, &asked[0], results[0]);
         self.count_activate(&start, &asked[0], results[0]);
         self.count_rekey(&start, &asked[0], results[0], case.clock < before.latest);
         self.count_renewals(&before, &after);
@@ -195,11 +214,13 @@ impl Coverage {
 
     /// Counts the changes of state before the first item.
     fn count_due(&mut self, before: &Table, start: &Table) {
-        for (old, new) in before.places.iter().zip(&start.places) {
+        for (place, (old, new)) in before.places.iter().zip(&start.places).enumerate() {
             if old.state != new.state {
                 *self.due.entry((old.state, new.state)).or_default() += 1;
+                self.note_if("state changed by date above place 63", place >= SMALL_COUNT);
             }
         }
+        self.above.count_due(before, start);
     }
 
     /// Counts what happened to names and to the placeholder; the names of the table are those that were followed.
@@ -323,13 +344,16 @@ impl Coverage {
 
     /// Counts what the one item of a request did to the table that it met.
     fn count_single(&mut self, before: &Table, after: &Table, item: &BatchItem, result: (u32, Option<u32>)) {
-        for (old, new) in before.places.iter().zip(&after.places) {
+        self.above.count_single(before, after);
+        for (place, (old, new)) in before.places.iter().zip(&after.places).enumerate() {
             if old.serial == new.serial {
                 self.count_change(old, new, after.latest);
                 continue;
             }
             self.note_if("new record in a free place", old.is_free());
             self.note_if("new record in a destroyed place", !old.is_free());
+            self.note_if("new record in a free place above 63", old.is_free() && place >= SMALL_COUNT);
+            self.note_if("new record in place 255 of 256", place == 255);
             match before.find(new.replaced) {
                 None => self.count_new_dates(new, after.latest),
                 Some(replaced) => {
@@ -343,6 +367,10 @@ impl Coverage {
         let free = before.places.iter().any(|record| record.is_free());
         let limited = result.1 == Some(ServerLimitExceeded as u32);
         self.note_if("last serial FFFFFFFF with a free place: Server Limit Exceeded", limited && free);
+        let left = before.last < u32::MAX;
+        let count = before.places.len();
+        self.note_if("no place left of 64: Server Limit Exceeded", limited && left && count == SMALL_COUNT);
+        self.note_if("no place left of 256: Server Limit Exceeded", limited && left && count == LARGE_COUNT);
     }
 
     /// Counts a replacement: its dates are copied or moved, and its state is what they make of a Pre-Active key.
@@ -447,6 +475,14 @@ impl Coverage {
         let others: Vec<_> = self.events.keys().map(|event| format!("event is not listed: {event}")).collect();
         self.missing.extend(others);
         self.missing
+    }
+
+    /// The same, and for all that must have occurred above place 63 too.
+    pub fn report_with_above(mut self) -> Vec<String> {
+        for (what, count) in std::mem::take(&mut self.above).lines(&CHANGES, &DUE) {
+            self.line(what, count);
+        }
+        self.report()
     }
 
     fn report_changes(&mut self) {

@@ -6,7 +6,7 @@ use super::names::{fault, Fault};
 use junctionmoth::model::frame::{self, BatchItem};
 use junctionmoth::model::operations::Reason::*;
 use junctionmoth::model::payload::{self, Action, Order, Target, Wanted};
-use junctionmoth::model::table::{Table, PLACES};
+use junctionmoth::model::table::Table;
 use junctionmoth::model::tags::*;
 use junctionmoth::model::ttlv::{self, Item};
 
@@ -81,7 +81,7 @@ pub struct Held {
 }
 
 /// The records by their places.
-#[derive(Clone, Debug, PartialEq)]
+#[derive(Clone, Debug, Default, PartialEq)]
 pub struct Holders {
     pub places: Vec<Option<Held>>,
 }
@@ -117,13 +117,6 @@ struct Batch {
 
 /// What an item was answered: the fields of its payload, or its reason.
 type Answer<'a> = Result<&'a [Item], u32>;
-
-impl Default for Holders {
-    /// Those of a blank table.
-    fn default() -> Self {
-        Holders { places: vec![None; PLACES] }
-    }
-}
 
 impl Holders {
     /// Those of a table.

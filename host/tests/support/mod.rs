@@ -2,6 +2,7 @@
 
 #![allow(dead_code)]
 
+pub mod above;
 pub mod coverage;
 pub mod holders;
 pub mod names;
@@ -169,6 +170,10 @@ fn odd_sized(rng: &mut Rng) -> Vec<u8> {
     bytes
 }
 
+/// Sizes of tables: of none and of both counts, of some in between, of older tables, and a byte or eight off.
+const SIZES: [usize; 20] =
+    [0, 1, 8, 15, 16, 1040, 4112, 4624, 5648, 8192, 8207, 8208, 8209, 8216, 16400, 32783, 32784, 32785, 32792, 33792];
+
 fn any_table(rng: &mut Rng, table: &Table) -> Vec<u8> {
     let mut bytes = table.encode();
     match rng.below(100) {
@@ -179,7 +184,7 @@ fn any_table(rng: &mut Rng, table: &Table) -> Vec<u8> {
             let at = rng.index(bytes.len());
             bytes[at] ^= 1 << rng.below(8);
         }
-        98 => bytes.resize(rng.pick(&[0, 1, 15, 16, 1040, 4624, 5648, 8192, 8207, 8209, 8216]), 0),
+        98 => bytes.resize(rng.pick(&SIZES), 0),
         _ => {
             let any = rng.bytes(bytes.len());
             bytes = rng.pick(&[any, vec![0; bytes.len()], vec![0xFF; bytes.len()]]);

@@ -4,7 +4,7 @@ use super::rng::Rng;
 use super::texts::any_text;
 use junctionmoth::message::*;
 use junctionmoth::model::payload;
-use junctionmoth::model::table::Table;
+use junctionmoth::model::table::{Record, Table};
 use junctionmoth::model::tags::*;
 use junctionmoth::model::ttlv::{Item, Value};
 
@@ -55,19 +55,19 @@ fn with_same_front(rng: &mut Rng, name: &str) -> String {
     name.get(..8).map_or(String::new(), |front| front.to_string() + &any_text(rng, rest))
 }
 
-/// The names of a sound table.
-pub fn names_of(table: &Table) -> Vec<String> {
-    let names = table.standing().filter_map(|record| record.name.text());
-    names.map(|name| String::from_utf8(name.to_vec()).expect("a sound table has names that are text")).collect()
+/// The name of a record that has one, in a sound table.
+fn text_of(record: &Record) -> String {
+    let name = record.name.text().expect("a name");
+    String::from_utf8(name.to_vec()).expect("a sound table has names that are text")
 }
 
 /// A name that a record of the table has, or nearly has, or any.
 pub fn name_around(rng: &mut Rng, table: &Table) -> String {
-    let known = names_of(table);
+    let known: Vec<&Record> = table.standing().filter(|record| record.name.length > 0).collect();
     if known.is_empty() {
         return any_name(rng);
     }
-    let name = rng.pick(&known);
+    let name = text_of(rng.pick(&known));
     match rng.below(8) {
         0..=2 => name,
         3..=4 => near(rng, &name),

@@ -62,12 +62,12 @@ fn payload(rng: &mut Rng, table: &Table, operation: u32) -> Vec<Node> {
     }
 }
 
-/// The serial of a record on which the operation can succeed.
+/// The serial of a record on which the operation can succeed; for units, of one that may have no limit.
 fn fitting(rng: &mut Rng, table: &Table, operation: u32) -> Option<u32> {
     let fits = |record: &&Record| match operation {
         0x04 => record.state < 5 && record.replacement == 0,
         0x0A => record.state < 5,
-        0x11 => record.state == 2 && record.unit != 0,
+        0x11 => record.state == 2,
         0x12 => record.state == 1,
         0x13 => record.state < 4 || record.state == 5,
         0x14 => [1, 3, 4].contains(&record.state),

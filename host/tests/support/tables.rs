@@ -1,11 +1,12 @@
-//! Tables: sound ones of many kinds, and such that break one rule of soundness.
+//! Tables of both place counts: sound ones of many kinds, and such that break one rule of soundness.
 
 use super::names::name_around;
 use super::requests::date_around;
 use super::rng::Rng;
 use super::texts::{any_text, no_text};
 use junctionmoth::model::soundness::{self, GREATEST_TOTAL};
-use junctionmoth::model::table::{Name, Record, Table, PLACES};
+use junctionmoth::model::table::{Name, Record, Table};
+use junctionmoth::{LARGE_COUNT, SMALL_COUNT};
 
 /// Which states the records of a table are in.
 #[derive(Clone, Copy)]
@@ -17,13 +18,19 @@ enum Mix {
     Destroyed,
 }
 
-/// A sound table.
+/// A sound table; one in four is large.
 pub fn sound(rng: &mut Rng) -> Table {
-    let mut table = Table::blank();
-    table.last = last_serial(rng);
+    let count = if rng.one_in(4) { LARGE_COUNT } else { SMALL_COUNT };
+    sound_of(rng, count)
+}
+
+/// A sound table of so many places.
+pub fn sound_of(rng: &mut Rng, count: usize) -> Table {
+    let mut table = Table::blank(count);
+    table.last = last_serial(rng, count);
     table.latest = latest_clock(rng);
     let mix = rng.pick(&[Mix::Any, Mix::Any, Mix::Live, Mix::Live, Mix::PreActive, Mix::Active, Mix::Destroyed]);
-    for (place, serial) in placed_serials(rng, table.last) {
+    for (place, serial) in placed_serials(rng, count, table.last) {
         table.places[place] = record(rng, serial, mix);
     }
     set_dates(rng, &mut table);
@@ -36,11 +43,12 @@ pub fn sound(rng: &mut Rng) -> Table {
     table
 }
 
-fn last_serial(rng: &mut Rng) -> u32 {
+fn last_serial(rng: &mut Rng, count: usize) -> u32 {
+    let count = count as u32;
     let near_the_end = u32::MAX - rng.below(70) as u32;
     let any = rng.next() as u32;
-    let small = rng.below(200) as u32;
-    let edges = [0, 1, 2, 40, 64, 65, 100, 0xFFFF, 0x7FFF_FFFF, 0x8000_0000, u32::MAX - 1, u32::MAX];
+    let small = rng.below(3 * u64::from(count)) as u32;
+    let edges = [0, 1, 2, 40, count, count + 1, 2 * count, 0xFFFF, 0x7FFF_FFFF, 0x8000_0000, u32::MAX - 1, u32::MAX];
     let edge = rng.pick(&edges);
     rng.pick(&[near_the_end, any, small, edge, edge])
 }
@@ -72,7 +80,7 @@ fn set_dates(rng: &mut Rng, table: &mut Table) {
 /// Names for some records, for none or for nearly all; many are alike, and no two are the same.
 fn set_names(rng: &mut Rng, table: &mut Table) {
     let share = rng.pick(&[0, 1, 2, 2, 4, 4]);
-    for place in 0..PLACES {
+    for place in 0..table.places.len() {
         if table.places[place].is_free() || rng.below(4) >= share {
             continue;
         }
@@ -84,15 +92,15 @@ fn set_names(rng: &mut Rng, table: &mut Table) {
 }
 
 /// Places and the serials to stand there: distinct, issued, with or without gaps, in order or not.
-fn placed_serials(rng: &mut Rng, last: u32) -> Vec<(usize, u32)> {
-    let any = rng.index(PLACES + 1);
-    let fill = rng.pick(&[0, 1, 3, 32, 63, 64, 64, 64, any, any]);
+fn placed_serials(rng: &mut Rng, count: usize, last: u32) -> Vec<(usize, u32)> {
+    let any = rng.index(count + 1);
+    let fill = rng.pick(&[0, 1, 3, count / 2, count - 1, count, count, SMALL_COUNT, any, any]);
     let window = (fill + rng.pick(&[0, 1, 10, 50])).min(last as usize) as u32;
     let low = if rng.one_in(4) { 1 } else { (last - window).saturating_add(1) };
     let mut serials: Vec<u32> = (0..window).map(|step| low + step).collect();
     rng.shuffle(&mut serials);
     serials.truncate(fill);
-    let mut places: Vec<usize> = (0..PLACES).collect();
+    let mut places: Vec<usize> = (0..count).collect();
     if rng.one_in(2) {
         rng.shuffle(&mut places);
     } else {
@@ -142,13 +150,13 @@ fn standing(rng: &mut Rng, table: &Table) -> Option<usize> {
 }
 
 fn choose(rng: &mut Rng, table: &Table, wanted: fn(&Record) -> bool) -> Option<usize> {
-    let places: Vec<usize> = (0..PLACES).filter(|&place| wanted(&table.places[place])).collect();
+    let places: Vec<usize> = (0..table.places.len()).filter(|&place| wanted(&table.places[place])).collect();
     (!places.is_empty()).then(|| rng.pick(&places))
 }
 
 /// Links of which both ends stand; chains come about by themselves.
 fn link_both_ends(rng: &mut Rng, table: &mut Table) {
-    let mut places: Vec<usize> = (0..PLACES).filter(|&place| !table.places[place].is_free()).collect();
+    let mut places: Vec<usize> = (0..table.places.len()).filter(|&place| !table.places[place].is_free()).collect();
     places.sort_by_key(|&place| table.places[place].serial);
     let times = rng.pick(&[0, 0, 2, 10, 100]);
     for _ in 0..times {
@@ -191,8 +199,9 @@ fn link_dangling(rng: &mut Rng, table: &mut Table) {
 type Break = fn(&mut Rng, &mut Table) -> Option<()>;
 
 /// For each rule a way to break it.
-const BREAKS: [(&str, Break); 28] = [
+const BREAKS: [(&str, Break); 29] = [
     ("place count", break_place_count),
+    ("size of the place count", break_size_of_count),
     ("free line", break_free_line),
     ("free body", break_free_body),
     ("body zeros", break_body_zeros),
@@ -250,7 +259,15 @@ pub fn self_linked(rng: &mut Rng) -> Vec<u8> {
 }
 
 fn break_place_count(rng: &mut Rng, table: &mut Table) -> Option<()> {
-    table.place_count = rng.pick(&[0, 1, 63, 65, 256, 0x4000_0000, u32::MAX]);
+    let any = rng.next() as u32;
+    table.place_count =
+        rng.pick(&[0, 1, 63, 65, 128, 255, 257, 320, 0x4000, 0x1_0000, 0x0100_0040, 0x4000_0000, u32::MAX, any]);
+    Some(())
+}
+
+fn break_size_of_count(_: &mut Rng, table: &mut Table) -> Option<()> {
+    let other = if table.places.len() == SMALL_COUNT { LARGE_COUNT } else { SMALL_COUNT };
+    table.place_count = other as u32;
     Some(())
 }
 
