@@ -21,7 +21,7 @@ use Rattle.values.specs.Values.{notNegative, aboveZero}
 use Rattle.batch_item.specs.Item.{idMost, idOk, idBytes}
 use Rattle.frame.specs.Frame.{batchMost}
 use Rattle.plans.specs.declared.Outcome.{Outcome}
-use Rattle.plans.specs.declared.Outcome.the-variants.{Failed, Created, Done, Showed, Got, Located}
+use Rattle.plans.specs.declared.Outcome.the-variants.{Failed, Created, Done, Showed, Got, Located, Undone}
 use Rattle.answer.specs.Respond.{Answer, Response, outcomeItems, idItems, answerItems, batchItems, versionItems, headerItems, respond}
 use Rattle.answer.specs.Read.{answerIn, answersOf, headIn, outcomeOk, answerOk, allowed, ifAllowed, answersIn}
 use Rattle.octets.proofs.Maybe.{not-some, some-is, on-bind, on-test}
@@ -43,6 +43,7 @@ no-id (Done serial) = refl
 no-id (Showed shown) = refl
 no-id (Got key) = refl
 no-id (Located serial) = refl
+no-id Undone = refl
 
 -- an ID, as it is read in front of the rest
 record IdRead (id : List ℕ) (rest : Items) : Type 0 where

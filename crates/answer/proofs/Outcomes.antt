@@ -18,11 +18,11 @@ use Rattle.octets.proofs.Bools.{both}
 use Rattle.tags.specs.Tags.{responsePayload, resultReason, resultStatus}
 use Rattle.rules.specs.declared.Reason.{Reason}
 use Rattle.rules.specs.declared.Reason.the-variants.{OperationNotSupported, InvalidField, ObjectNotFound, ObjectDestroyed, PermissionDenied, WrongKeyLifecycleState, UsageLimitExceeded, ServerLimitExceeded, NonUniqueName}
-use Rattle.rules.specs.Numbers.{reasonNumber, create, locate, get, getAttributes, success, operationFailed}
+use Rattle.rules.specs.Numbers.{reasonNumber, create, locate, get, getAttributes, success, operationFailed, operationUndone}
 use Rattle.plans.specs.declared.Outcome.{Outcome}
-use Rattle.plans.specs.declared.Outcome.the-variants.{Failed, Created, Done, Showed, Got, Located}
+use Rattle.plans.specs.declared.Outcome.the-variants.{Failed, Created, Done, Showed, Got, Located, Undone}
 use Rattle.answer.specs.Respond.{word, succeeded, outcomeItems}
-use Rattle.answer.specs.Read.{doneIn, showedIn, gotIn, locatedIn, answersDone, payloadIn, reasons, reasonAmong, failureIn, successIn, outcomeIn, serialOk, linkOk, shownOk, keyOk, outcomeOk}
+use Rattle.answer.specs.Read.{doneIn, showedIn, gotIn, locatedIn, answersDone, payloadIn, reasons, reasonAmong, failureIn, successIn, undoneIn, statusIn, outcomeIn, serialOk, linkOk, shownOk, keyOk, outcomeOk}
 use Rattle.octets.proofs.Maybe.{not-some, some-is, on-bind, on-test}
 use Rattle.answer.proofs.Fields.{ended-is, body-spells, spelled-back, spelled-spells}
 use Rattle.answer.proofs.Payloads.{created-back, created-spells, done-back, done-spells, showed-back, showed-spells, located-back, located-spells}
@@ -66,7 +66,7 @@ reason-spells n (q ∷ rs) {r} h =
 -- ---- outcomes
 
 failed-back : (operation : ℕ) (reason : Reason) → outcomeIn operation (outcomeItems (Failed reason)) ≡ some (Failed reason)
-unfolding outcomeIn outcomeItems failureIn ifb ended _>>=_ _>>_
+unfolding outcomeIn statusIn outcomeItems failureIn ifb ended _>>=_ _>>_
 failed-back operation reason =
     rw (
       spelled-back 4 resultStatus enumeration operationFailed _ (omega arith),
@@ -75,8 +75,12 @@ failed-back operation reason =
     )
 
 succeeded-back : (operation : ℕ) (payload : Items) → outcomeIn operation (succeeded payload) ≡ payloadIn operation payload
-unfolding outcomeIn successIn bodyOf ifb ended _>>=_ _>>_
+unfolding outcomeIn statusIn successIn bodyOf ifb ended _>>=_ _>>_
 succeeded-back operation payload = rw (spelled-back 4 resultStatus enumeration success _ (omega arith))
+
+undone-back : (operation : ℕ) → outcomeIn operation (outcomeItems Undone) ≡ some Undone
+unfolding outcomeIn statusIn outcomeItems undoneIn ifb ended _>>=_ _>>_
+undone-back operation = rw (spelled-back 4 resultStatus enumeration operationUndone nil (omega arith))
 
 -- the operations that answer an identifier alone do not create
 not-create : (operation : ℕ) → answersDone operation ≡ true → eqb operation create ≡ false
@@ -104,6 +108,7 @@ outcome-back operation (Located serial) h =
     let p = both (eqb operation locate) (linkOk serial) h in
     let e = eqb-true operation locate (p .0) in
     succeeded-back operation _ ∙ rw e (unfold ifb in located-back serial (p .1))
+outcome-back operation Undone h = undone-back operation
 
 -- what is read as a success's payload was written as one
 payload-spells : (operation : ℕ) (t : Items) {o : Outcome} → payloadIn operation t ≡ some o → succeeded t ≡ outcomeItems o
@@ -145,19 +150,26 @@ success-spells operation t h =
     let t2 = ended-is (p .1) u in
     rw (t1, t2) (payload-spells operation (p .0) w)))
 
+undone-spells : (t : Items) {o : Outcome} → undoneIn t ≡ some o → word resultStatus enumeration operationUndone t ≡ outcomeItems o
+unfolding undoneIn outcomeItems
+undone-spells t h = on-test h (λ u w. let t1 = ended-is t u in rw (← (some-is w), t1))
+
 pub outcome-spells : (operation : ℕ) (t : Items) {o : Outcome} → outcomeIn operation t ≡ some o → t ≡ outcomeItems o
-unfolding outcomeIn
+unfolding outcomeIn statusIn
 outcome-spells operation t {o} h =
     on-bind h (λ s e g. spelled-spells 4 resultStatus enumeration t e ∙ by-status (s .0) (s .1) g)
   where
     Spelled : ℕ → Items → Option Outcome → Type 0
     Spelled status rest q = q ≡ some o → word resultStatus enumeration status rest ≡ outcomeItems o
 
-    failed-next : (status : ℕ) (rest : Items) → Spelled status rest (ifb (eqb status operationFailed) (failureIn rest) none)
-    failed-next status rest =
-        on-if (Spelled status rest) (λ e g. rw (eqb-true status operationFailed e) (failure-spells rest g)) (λ e g. absurd (not-some g))
+    undone-last : (status : ℕ) (rest : Items) → Spelled status rest (ifb (eqb status operationUndone) (undoneIn rest) none)
+    undone-last status rest =
+        on-if (Spelled status rest) (λ e g. rw (eqb-true status operationUndone e) (undone-spells rest g)) (λ e g. absurd (not-some g))
 
-    by-status : (status : ℕ) (rest : Items)
-        → Spelled status rest (ifb (eqb status success) (successIn operation rest) (ifb (eqb status operationFailed) (failureIn rest) none))
+    failed-next : (status : ℕ) (rest : Items) → Spelled status rest (ifb (eqb status operationFailed) (failureIn rest) (ifb (eqb status operationUndone) (undoneIn rest) none))
+    failed-next status rest =
+        on-if (Spelled status rest) (λ e g. rw (eqb-true status operationFailed e) (failure-spells rest g)) (λ e. undone-last status rest)
+
+    by-status : (status : ℕ) (rest : Items) → Spelled status rest (statusIn operation status rest)
     by-status status rest =
         on-if (Spelled status rest) (λ e g. rw (eqb-true status success e) (success-spells operation rest g)) (λ e. failed-next status rest)

@@ -26,7 +26,7 @@ use Rattle.name_read.specs.Name.{uninterpretedText}
 use Rattle.plans.specs.declared.Shown.{Shown}
 use Rattle.plans.specs.declared.Key.{Key}
 use Rattle.plans.specs.declared.Outcome.{Outcome}
-use Rattle.plans.specs.declared.Outcome.the-variants.{Failed, Created, Done, Showed, Got, Located}
+use Rattle.plans.specs.declared.Outcome.the-variants.{Failed, Created, Done, Showed, Got, Located, Undone}
 use Rattle.answer.specs.Respond.{Answer, word, long, named, dateItems, limitItems, linkItems, nameItems, attributeItems, locatedItems, materialOf, keyBlockItems, keyItems, outcomeItems, idItems, answerItems, batchItems, replacedObjectLink, replacementObjectLink}
 use Rattle.answer.specs.Read.{answerOk}
 use Rattle.answer.specs.Front.{longestItem}
@@ -113,6 +113,7 @@ outcome-size (Done serial) = simp sizes (omega arith)
 outcome-size (Showed shown) = simp sizes (omega (arith, attributes-size shown))
 outcome-size (Got key) = simp sizes (omega (arith, key-size key))
 outcome-size (Located serial) = simp sizes (omega (arith, located-size serial))
+outcome-size Undone = simp sizes (omega arith)
 
 pub id-size : (id : List ℕ) (rest : Items) → length id ≤ idMost → size (idItems id rest) ≤ 24 + size rest
 unfolding idItems

@@ -27,11 +27,11 @@ use Rattle.ttlv.proofs.Fine.{group-well}
 use Rattle.identifier.specs.Identifier.{identifier}
 use Rattle.identifier.proofs.Texts.{length-identifier, identifier-text}
 use Rattle.batch_item.specs.Item.{idMost}
-use Rattle.rules.specs.Numbers.{reasonNumber, getAttributes, success, operationFailed}
+use Rattle.rules.specs.Numbers.{reasonNumber, getAttributes, success, operationFailed, operationUndone}
 use Rattle.plans.specs.declared.Shown.{Shown}
 use Rattle.plans.specs.declared.Key.{Key}
 use Rattle.plans.specs.declared.Outcome.{Outcome}
-use Rattle.plans.specs.declared.Outcome.the-variants.{Failed, Created, Done, Showed, Got, Located}
+use Rattle.plans.specs.declared.Outcome.the-variants.{Failed, Created, Done, Showed, Got, Located, Undone}
 use Rattle.answer.specs.Respond.{Answer, Response, word, long, named, dateItems, limitItems, linkItems, nameItems, attributeItems, locatedItems, raw, materialOf, keyValueItems, keyItems, succeeded, outcomeItems, idItems, answerItems, batchItems, versionItems, headerItems, respond, replacedObjectLink, replacementObjectLink}
 use Rattle.answer.specs.Read.{Limits, shownOk, outcomeOk, answerOk, allowed}
 use Rattle.answer.specs.Front.{responseMost}
@@ -191,6 +191,7 @@ outcome-well operation (Got key) ok =
     (word-well 4 objectType enumeration symmetricKey _ refl refl
     (named-well 4 uniqueIdentifier (key .serial) _ refl (key-well key)))
 outcome-well operation (Located serial) ok = succeeded-well _ (omega (arith, located-size serial)) (located-well serial)
+outcome-well operation Undone ok = word-well 5 resultStatus enumeration operationUndone nil refl refl (nil-well 6)
 
 id-well : (id : List ℕ) (rest : Items) → length id ≤ idMost → Well 6 rest → Well 6 (idItems id rest)
 unfolding idItems lengthOk valueOk ifb

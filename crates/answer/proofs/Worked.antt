@@ -8,8 +8,8 @@ use mathlib.Core.List.{List, [], _∷_}
 use lib.ListN.{length, replicate}
 use Rattle.hex.specs.Texts.{hex}
 use Rattle.words.specs.Words.{wordsOf, wordBytes, wordsOk, filled}
-use Rattle.rules.specs.declared.Reason.the-variants.{OperationNotSupported}
-use Rattle.plans.specs.declared.Outcome.the-variants.{Failed, Done, Showed, Got, Located}
+use Rattle.rules.specs.declared.Reason.the-variants.{OperationNotSupported, ObjectNotFound}
+use Rattle.plans.specs.declared.Outcome.the-variants.{Failed, Done, Showed, Got, Located, Undone}
 use Rattle.names.specs.declared.Name.{Name}
 use Rattle.names.specs.Names.{nameText, nameOf, nameOk, sameName}
 use Rattle.name_read.specs.Name.{orNoName}
@@ -27,7 +27,7 @@ use Rattle.identifier.specs.Identifier.{digits, identifier, fromDigitsAfter, se
 use Rattle.attributes_read.specs.Attributes.{orUnset}
 use Rattle.frame.specs.Frame.{versionIn, headerIn, frameIn, optionOf, framing, framed}
 use Rattle.batch_item.specs.Item.{idOk, idBytes, itemIn, itemsIn}
-use Rattle.answer.specs.Read.{spelled, fixed, serialIn, setDate, limitsFirst, orNoLimits, linkFirst, orNoLink, linkIn, nameShown, locatedIn, nameShownOk, shownIn, createdIn, doneIn, showedIn, keyRead, keyBlockIn, keyIn, gotIn, payloadIn, reasonAmong, failureIn, successIn, outcomeIn, answerIn, answersOf, headIn, shownOk, keyOk, outcomeOk, answerOk, allowed, ifAllowed, answersIn}
+use Rattle.answer.specs.Read.{spelled, fixed, serialIn, setDate, limitsFirst, orNoLimits, linkFirst, orNoLink, linkIn, nameShown, locatedIn, nameShownOk, shownIn, createdIn, doneIn, showedIn, keyRead, keyBlockIn, keyIn, gotIn, payloadIn, reasonAmong, failureIn, successIn, undoneIn, statusIn, outcomeIn, answerIn, answersOf, headIn, shownOk, keyOk, outcomeOk, answerOk, allowed, ifAllowed, answersIn}
 
 -- 01's card, at L3's clock 1: "Activate of the Pre-Active "00000001", alone, no Unique Batch Item ID, .., whole response of 152 bytes"
 abbrev activated : Response
@@ -35,7 +35,7 @@ activated = record { clock = 1; answers = record { operation = 0x12; id = []; ou
 
 -- the definitions that the cases compute with: who opens this opens them all
 opened : Unit {0}
-unfolding wordsOf wordBytes wordsOk filled ifb _>>=_ _>>_ isSome be fromBeAfter fromBe all same lengthOk text valueOk encode itemOk wellFormed headed firstOf putValue putGroup more walk parse isOne message startsWith ended bytesOf bodyOf numberOf optional digits identifier fromDigitsAfter serialOf versionIn headerIn idOk idBytes itemIn itemsIn frameIn optionOf framing framed dateItems limitItems linkItems nameItems locatedItems attributeItems materialOf keyItems outcomeItems idItems answerItems batchItems versionItems headerItems respond spelled fixed serialIn setDate orUnset limitsFirst orNoLimits linkFirst orNoLink linkIn nameShown locatedIn nameShownOk nameText nameOf nameOk sameName orNoName shownIn createdIn doneIn showedIn keyRead keyBlockIn keyIn gotIn payloadIn reasonAmong failureIn successIn outcomeIn answerIn answersOf headIn shownOk keyOk outcomeOk answerOk allowed ifAllowed answersIn
+unfolding wordsOf wordBytes wordsOk filled ifb _>>=_ _>>_ isSome be fromBeAfter fromBe all same lengthOk text valueOk encode itemOk wellFormed headed firstOf putValue putGroup more walk parse isOne message startsWith ended bytesOf bodyOf numberOf optional digits identifier fromDigitsAfter serialOf versionIn headerIn idOk idBytes itemIn itemsIn frameIn optionOf framing framed dateItems limitItems linkItems nameItems locatedItems attributeItems materialOf keyItems outcomeItems idItems answerItems batchItems versionItems headerItems respond spelled fixed serialIn setDate orUnset limitsFirst orNoLimits linkFirst orNoLink linkIn nameShown locatedIn nameShownOk nameText nameOf nameOk sameName orNoName shownIn createdIn doneIn showedIn keyRead keyBlockIn keyIn gotIn payloadIn reasonAmong failureIn successIn undoneIn statusIn outcomeIn answerIn answersOf headIn shownOk keyOk outcomeOk answerOk allowed ifAllowed answersIn
 opened = tt
 
 activated-written : encode (respond activated) ≡ hex "42007B01 00000090 42007A01 00000048 42006901 00000020 42006A02 00000004 00000002 00000000 42006B02 00000004 00000001 00000000 42009209 00000008 00000000 00000001 42000D02 00000004 00000001 00000000 42000F01 00000038 42005C05 00000004 00000012 00000000 42007F05 00000004 00000000 00000000 42007C01 00000010 42009407 00000008 30303030 30303031"
@@ -124,3 +124,20 @@ sought-written = refl
 sought-read : answersIn (respond sought) ≡ some sought
 unfolding opened
 sought-read = refl
+
+-- 02, L8: an Activate that was undone and an item that failed: status 3 and nothing behind it; the undone item has 40 bytes
+abbrev undone : Response
+undone = record { clock = 1; answers = record { operation = 0x12; id = []; outcome = Undone } ∷ record { operation = 0x14; id = []; outcome = Failed ObjectNotFound } ∷ [] }
+
+undone-written : encode (respond undone) ≡ hex "42007B01 000000B0 42007A01 00000048 42006901 00000020 42006A02 00000004 00000002 00000000 42006B02 00000004 00000001 00000000 42009209 00000008 00000000 00000001 42000D02 00000004 00000002 00000000 42000F01 00000020 42005C05 00000004 00000012 00000000 42007F05 00000004 00000003 00000000 42000F01 00000030 42005C05 00000004 00000014 00000000 42007F05 00000004 00000001 00000000 42007E05 00000004 00000037 00000000"
+unfolding opened
+undone-written = refl
+
+undone-read : answersIn (respond undone) ≡ some undone
+unfolding opened
+undone-read = refl
+
+-- what cannot succeed cannot be undone: operation 2 is none of ours
+not-undone : allowed (record { clock = 1; answers = record { operation = 2; id = []; outcome = Undone } ∷ [] }) ≡ false
+unfolding opened
+not-undone = refl

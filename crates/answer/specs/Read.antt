@@ -22,13 +22,13 @@ use Rattle.identifier.specs.Identifier.{serialOf}
 use Rattle.values.specs.Values.{bitsOk, maskOk, unitOk, totalOk, notNegative, aboveZero, inOrder}
 use Rattle.rules.specs.declared.Reason.{Reason}
 use Rattle.rules.specs.declared.Reason.the-variants.{OperationNotSupported, InvalidField, ObjectNotFound, ObjectDestroyed, PermissionDenied, WrongKeyLifecycleState, UsageLimitExceeded, ServerLimitExceeded, NonUniqueName}
-use Rattle.rules.specs.Numbers.{reasonNumber, create, rekey, locate, get, getAttributes, getUsageAllocation, activate, revoke, destroy, success, operationFailed}
+use Rattle.rules.specs.Numbers.{reasonNumber, create, rekey, locate, get, getAttributes, getUsageAllocation, activate, revoke, destroy, success, operationFailed, operationUndone}
 use Rattle.changes.specs.Changes.{serialMost}
 use Rattle.words.specs.Words.{wordsOf, wordBytes, wordsOk, filled}
 use Rattle.plans.specs.declared.Shown.{Shown}
 use Rattle.plans.specs.declared.Key.{Key}
 use Rattle.plans.specs.declared.Outcome.{Outcome}
-use Rattle.plans.specs.declared.Outcome.the-variants.{Failed, Created, Done, Showed, Got, Located}
+use Rattle.plans.specs.declared.Outcome.the-variants.{Failed, Created, Done, Showed, Got, Located, Undone}
 use Rattle.batch_item.specs.Item.{idMost, idOk, idBytes}
 use Rattle.frame.specs.Frame.{batchMost}
 use Rattle.answer.specs.Respond.{Answer, Response, raw, materialOf, replacedObjectLink, replacementObjectLink}
@@ -239,10 +239,23 @@ successIn operation t = do
   ended rest
   payloadIn operation payload
 
+unfoldable pub undoneIn : Items → Option Outcome
+undoneIn t = do
+  ended t
+  some Undone
+
+-- by its status
+unfoldable pub statusIn : ℕ → ℕ → Items → Option Outcome
+statusIn operation status rest =
+    ifb (eqb status success) (successIn operation rest)
+    (ifb (eqb status operationFailed) (failureIn rest)
+    (ifb (eqb status operationUndone) (undoneIn rest)
+    none))
+
 unfoldable pub outcomeIn : ℕ → Items → Option Outcome
 outcomeIn operation t = do
   (status, rest) ← spelled 4 resultStatus enumeration t
-  ifb (eqb status success) (successIn operation rest) (ifb (eqb status operationFailed) (failureIn rest) none)
+  statusIn operation status rest
 
 -- ---- the message
 
@@ -308,7 +321,11 @@ shownOk s =
 unfoldable pub keyOk : Key → Bool
 keyOk k = serialOk (k .serial) && bitsOk (k .bits) && wordsOk (k .material) && allZero (drop (k .bits / 8) (wordBytes (k .material)))
 
--- the outcomes that an operation can have; any operation can fail
+-- the operations that can succeed
+abbrev pub isSupported : ℕ → Bool
+isSupported operation = eqb operation create || answersDone operation || eqb operation getAttributes || eqb operation get || eqb operation locate
+
+-- the outcomes that an operation can have; any operation can fail, and what can succeed can be undone
 unfoldable pub outcomeOk : ℕ → Outcome → Bool
 outcomeOk operation (Failed reason) = true
 outcomeOk operation (Created serial) = eqb operation create && serialOk serial
@@ -316,6 +333,7 @@ outcomeOk operation (Done serial) = answersDone operation && serialOk serial
 outcomeOk operation (Showed shown) = eqb operation getAttributes && shownOk shown
 outcomeOk operation (Got key) = eqb operation get && keyOk key
 outcomeOk operation (Located serial) = eqb operation locate && linkOk serial
+outcomeOk operation Undone = isSupported operation
 
 unfoldable pub answerOk : Answer → Bool
 answerOk a = ltb (a .operation) (2 ^ 32) && leb (length (a .id)) idMost && outcomeOk (a .operation) (a .outcome)

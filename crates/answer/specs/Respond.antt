@@ -15,12 +15,12 @@ use Rattle.attributes_read.specs.Attributes.{aes}
 use Rattle.name_read.specs.Name.{uninterpretedText}
 use Rattle.payload.specs.Payload.{symmetricKey}
 use Rattle.identifier.specs.Identifier.{identifier}
-use Rattle.rules.specs.Numbers.{success, operationFailed, reasonNumber}
+use Rattle.rules.specs.Numbers.{success, operationFailed, operationUndone, reasonNumber}
 use Rattle.words.specs.Words.{wordBytes}
 use Rattle.plans.specs.declared.Shown.{Shown}
 use Rattle.plans.specs.declared.Key.{Key}
 use Rattle.plans.specs.declared.Outcome.{Outcome}
-use Rattle.plans.specs.declared.Outcome.the-variants.{Failed, Created, Done, Showed, Got, Located}
+use Rattle.plans.specs.declared.Outcome.the-variants.{Failed, Created, Done, Showed, Got, Located, Undone}
 
 -- ---- what a response says
 
@@ -129,7 +129,7 @@ locatedItems serial = ifb (eqb serial 0) nil (named uniqueIdentifier serial nil)
 abbrev pub succeeded : Items → Items
 succeeded payload = word resultStatus enumeration success (group responsePayload payload nil)
 
--- "Result Status, Result Reason on failure, Response Payload on success"
+-- "Result Status, Result Reason on failure, Response Payload on success"; what was undone carries "status 3 (Operation Undone) and no payload"
 unfoldable pub outcomeItems : Outcome → Items
 outcomeItems (Failed reason) = word resultStatus enumeration operationFailed (word resultReason enumeration (reasonNumber reason) nil)
 outcomeItems (Created serial) = succeeded (word objectType enumeration symmetricKey (named uniqueIdentifier serial nil))
@@ -137,6 +137,7 @@ outcomeItems (Done serial) = succeeded (named uniqueIdentifier serial nil)
 outcomeItems (Showed shown) = succeeded (named uniqueIdentifier (shown .serial) (group attributes (attributeItems shown) nil))
 outcomeItems (Got key) = succeeded (word objectType enumeration symmetricKey (named uniqueIdentifier (key .serial) (keyItems key)))
 outcomeItems (Located serial) = succeeded (locatedItems serial)
+outcomeItems Undone = word resultStatus enumeration operationUndone nil
 
 -- ---- the message
 

@@ -9,7 +9,7 @@ ghost use Rattle.ttlv_put.specs.Write.{Holds};
 ghost use Rattle.tags.specs.Tags.{batchItem, attributes, objectType, uniqueIdentifier};
 ghost use Rattle.payload.specs.Payload.{symmetricKey};
 ghost use Rattle.batch_item.specs.Item.{idMost};
-ghost use Rattle.plans.specs.declared.Outcome.the-variants.{Failed};
+ghost use Rattle.plans.specs.declared.Outcome.the-variants.{Failed, Undone};
 ghost use Rattle.answer.specs.Respond.{word, named, attributeItems, keyItems, locatedItems, outcomeItems, idItems, answerItems};
 ghost use Rattle.answer.specs.Front.{longestItem};
 ghost use Rattle.named_write.specs.Puts.{Puts};
@@ -26,6 +26,8 @@ const SYMMETRIC_KEY: u32 = 2;
 const SUCCESS: u32 = 0;
 
 const OPERATION_FAILED: u32 = 1;
+
+const OPERATION_UNDONE: u32 = 3;
 
 // ---- payloads
 
@@ -96,7 +98,16 @@ fn write_failure(out: &mut [u8], reason: Reason) -> usize
     32
 }
 
-// What became of an item: a reason, or a payload.
+// A success that was undone: its status and nothing behind it.
+fn write_undone(out: &mut [u8]) -> usize
+    requires { ⌜ 16 ≤ length (now out) ⌝ }
+    ensures { λ r. ⌜ Puts 16 (outcomeItems Undone) (now (out .entry)) (now (out .exit)) r ⌝ }
+{
+    ttlv_numbers::write_enumeration(out, tags::RESULT_STATUS, OPERATION_UNDONE);
+    16
+}
+
+// What became of an item: a reason, a payload, or neither.
 fn write_outcome(out: &mut [u8], outcome: Outcome) -> usize
     requires { ⌜ 344 ≤ length (now out) ⌝ }
     ensures { λ r. ⌜ Puts 344 (outcomeItems outcome) (now (out .entry)) (now (out .exit)) r ⌝ }
@@ -123,6 +134,7 @@ fn write_outcome(out: &mut [u8], outcome: Outcome) -> usize
             let n = write_located(&mut out[24..], serial);
             write_success(out, n)
         }
+        Outcome::Undone => write_undone(out),
     }
 }
 

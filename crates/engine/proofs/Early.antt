@@ -11,7 +11,8 @@ use Rattle.octets.specs.Maybe.{isSome}
 use Rattle.octets.proofs.If.{chain, on-if}
 use Rattle.ttlv.specs.Parse.{message}
 use Rattle.place_counts.specs.Counts.{tableRight}
-use Rattle.engine.specs.Effects.{roomLeast, stripSize, requestMost}
+use Rattle.batch.specs.Batch.{stripSize}
+use Rattle.engine.specs.Effects.{roomLeast, requestMost}
 use Rattle.engine.specs.Serving.{earlyRefusal}
 
 -- a test that a function answered, under `!`

@@ -1,12 +1,8 @@
--- The laws of a call: its sizes, refusals, items and batch.
+-- The laws of a call: its sizes, its refusals, and what answers it.
 -- Assumes nothing.
 pub mod Sizes
 pub mod Early
-pub mod Item
-pub mod Turns
+pub mod Late
 pub mod Answers
 pub mod Serves
-pub mod Commands
-pub mod Steps
-pub mod Batches
 pub mod Unique

@@ -29,26 +29,29 @@ use Rattle.frame.specs.Frame.{Frame, Framed, Request, refused, asked, frameIn, 
 use Rattle.frame.specs.Readers.{itemsAt, framingIn, framingOf}
 use Rattle.frame.proofs.Frame.{BatchShape, batch-shape}
 use Rattle.plans.specs.Plans.{emptyHolder}
-use Rattle.engine.specs.Batch.{batch, firstItem, running}
-use Rattle.engine.specs.Effects.{Effect}
-use Rattle.engine.specs.Serving.{turnedAway, answered, earlyRefusal, requested, carryOut, serving}
-use Rattle.engine.specs.Calls.{askedAll, ranOver, RunsWhole, acceptedOver, AcceptedIs, ServedIs}
+use Rattle.batch.specs.Batch.{Ran, batch, firstItem, running}
+use Rattle.batch.specs.Runs.{askedAll, ranOver, RunsIn}
+use Rattle.settle.specs.Undo.{settled, keptIn}
+use Rattle.engine.specs.Effects.{Effect, roomLeast}
+use Rattle.engine.specs.Serving.{turnedAway, answered, earlyRefusal, requested, lateRefusal, carryOut, serving}
+use Rattle.engine.specs.Calls.{RunsWhole, acceptedOver, AcceptedIs, ServedIs}
 use Rattle.engine.proofs.Early.{Passed, passed}
+use Rattle.engine.proofs.Late.{timely}
 
 -- ---- the ladder
 
 -- an early refusal is the outcome
-pub refused-early : (request t strip : List ℕ) (clock : ℕ) (out : List ℕ) (k : ℕ) → k ≡ earlyRefusal request t strip (length out) → (k ≡ 0 → ⊥)
-    → serving request t strip clock out ≡ turnedAway t out k
+pub refused-early : (request t strip : List ℕ) (clock : ℕ) (out buffer : List ℕ) (k : ℕ) → k ≡ earlyRefusal request t strip (length out) → (k ≡ 0 → ⊥)
+    → serving request t strip clock out buffer ≡ turnedAway t out buffer k
 unfolding serving
-refused-early request t strip clock out k e h =
-    ap (λ (n : ℕ). ifb (eqb n 0) (carryOut clock t strip out (requested request)) (turnedAway t out n)) (sym e)
+refused-early request t strip clock out buffer k e h =
+    ap (λ (n : ℕ). ifb (eqb n 0) (carryOut clock t strip out buffer (requested request)) (turnedAway t out buffer n)) (sym e)
     ∙ ifb-false _ _ _ (ne-eqb k 0 h)
 
 -- where there is none, the frame decides
-pub frame-decides : {request t strip out : List ℕ} → Passed request t strip out → (clock : ℕ) → serving request t strip clock out ≡ carryOut clock t strip out (requested request)
+pub frame-decides : {request t strip out : List ℕ} → Passed request t strip out → (clock : ℕ) (buffer : List ℕ) → serving request t strip clock out buffer ≡ carryOut clock t strip out buffer (requested request)
 unfolding serving
-frame-decides {request} {t} {strip} {out} p clock = ifb-true _ _ _ (eq-eqb (earlyRefusal request t strip (length out)) 0 (p .none-early))
+frame-decides {request} {t} {strip} {out} p clock buffer = ifb-true _ _ _ (eq-eqb (earlyRefusal request t strip (length out)) 0 (p .none-early))
 
 -- ---- the frame
 
@@ -62,18 +65,18 @@ unfolding framing
 framing-taken none = not-taken 5
 framing-taken (some f) = on-if Taken (λ e. not-taken 6) (λ e. on-if Taken (λ e. not-taken 7) (λ e. on-if Taken (λ e. not-taken 8) (λ e. taken _)))
 
-module _ {request t strip out : List ℕ} (p : Passed request t strip out) (clock : ℕ) where
+module _ {request t strip out : List ℕ} (p : Passed request t strip out) (clock : ℕ) (buffer : List ℕ) where
   -- by the number of the frame: the refusal is the outcome, or the request that was read decides
   data Frames : ℕ → Type 0 where
-    refuses : (k : ℕ) → serving request t strip clock out ≡ turnedAway t out (suc k) → Frames (suc k)
-    takes : (r : Request) → BatchShape request r → serving request t strip clock out ≡ carryOut clock t strip out (asked r) → Frames 0
+    refuses : (k : ℕ) → serving request t strip clock out buffer ≡ turnedAway t out buffer (suc k) → Frames (suc k)
+    takes : (r : Request) → BatchShape request r → serving request t strip clock out buffer ≡ carryOut clock t strip out buffer (asked r) → Frames 0
 
   frames : Frames (framingOf request .number)
   unfolding framingOf framingIn framed carryOut isSome _>>=_
   frames = by-message (message request) refl (p .is-message)
     where
-      decided : {items : Items} {f : Framed} → message request ≡ some items → framed items ≡ f → serving request t strip clock out ≡ carryOut clock t strip out f
-      decided m e = frame-decides p clock ∙ ap (λ (x : Option Items). carryOut clock t strip out (framing (x >>= frameIn))) m ∙ ap (carryOut clock t strip out) e
+      decided : {items : Items} {f : Framed} → message request ≡ some items → framed items ≡ f → serving request t strip clock out buffer ≡ carryOut clock t strip out buffer f
+      decided m e = frame-decides p clock buffer ∙ ap (λ (x : Option Items). carryOut clock t strip out buffer (framing (x >>= frameIn))) m ∙ ap (carryOut clock t strip out buffer) e
 
       by-taken : (items : Items) → message request ≡ some items → (f : Framed) → framed items ≡ f → Taken f → Frames (framingOf request .number)
       by-taken items m f e (not-taken k) =
@@ -102,14 +105,18 @@ module _ {request : List ℕ} {r : Request} (shape : BatchShape request r) where
   lent-asks = ap (λ (u : List ℕ). itemsIn (treeOf u)) lent-is ∙ shape .items
 
   -- what answering asks
-  runs : {t strip out : List ℕ} → Passed request t strip out → RunsWhole (placesSaid t) lentItems t strip out
+  runs : {t strip out : List ℕ} → Passed request t strip out → RunsIn (placesSaid t) roomLeast lentItems t strip out
   unfolding isSome askedAll
   runs {t} p = record {
-    run = ap isRun lent-is ∙ shape .run;
-    read = ap isSome lent-asks;
-    few = subst (λ (o : Option (List Asked)). length (askedAll o) ≤ batchMost) (sym lent-asks) (shape .few);
-    table = sound-is (placesSaid t) t (right-sound t (p .right)) .size;
-    strip = p .strip-size;
+    carries = record {
+      reads = record {
+        run = ap isRun lent-is ∙ shape .run;
+        read = ap isSome lent-asks;
+        few = subst (λ (o : Option (List Asked)). length (askedAll o) ≤ batchMost) (sym lent-asks) (shape .few);
+      };
+      table = sound-is (placesSaid t) t (right-sound t (p .right)) .size;
+      strip = p .strip-size;
+    };
     fits = p .room;
   }
 
@@ -123,46 +130,47 @@ module _ {request : List ℕ} {r : Request} (shape : BatchShape request r) where
 -- ---- what `serve` answers
 
 -- a call that is turned away
-away-is : {request t strip : List ℕ} {clock : ℕ} {out : List ℕ} (k : ℕ) → serving request t strip clock out ≡ turnedAway t out k
-    → ServedIs request t strip clock out (record { number = k; length = 0 }) t out
+away-is : {request t strip : List ℕ} {clock : ℕ} {out buffer : List ℕ} (k : ℕ) → serving request t strip clock out buffer ≡ turnedAway t out buffer k
+    → ServedIs request t strip clock out buffer (record { number = k; length = 0 }) t out buffer
 away-is k e = record {
   number = sym (ap (λ (x : Effect). x .number) e);
   length = sym (ap (λ (x : Effect). x .length) e);
   table = sym (ap (λ (x : Effect). x .table) e);
   output = sym (ap (λ (x : Effect). x .output) e);
+  undo = sym (ap (λ (x : Effect). x .undo) e);
 }
 
-pub early-away : (request t strip : List ℕ) (clock : ℕ) (out : List ℕ) (k : ℕ) → k ≡ earlyRefusal request t strip (length out) → (k ≡ 0 → ⊥)
-    → ServedIs request t strip clock out (record { number = k; length = 0 }) t out
-early-away request t strip clock out k e h = away-is k (refused-early request t strip clock out k e h)
+pub early-away : (request t strip : List ℕ) (clock : ℕ) (out buffer : List ℕ) (k : ℕ) → k ≡ earlyRefusal request t strip (length out) → (k ≡ 0 → ⊥)
+    → ServedIs request t strip clock out buffer (record { number = k; length = 0 }) t out buffer
+early-away request t strip clock out buffer k e h = away-is k (refused-early request t strip clock out buffer k e h)
 
 -- a call to which refusals 1 to 9 do not apply: the frame says where its items stand
-pub record Asks (request t strip : List ℕ) (clock : ℕ) (out : List ℕ) (f : Framing) : Type 0 where
+pub record Asks (request t strip : List ℕ) (clock : ℕ) (out buffer : List ℕ) (f : Framing) : Type 0 where
   pub passed : Passed request t strip out
   pub framing-is : f ≡ framingOf request
   pub request-is : Request
   pub shape : BatchShape request request-is
-  pub decides : serving request t strip clock out ≡ carryOut clock t strip out (asked request-is)
+  pub decides : serving request t strip clock out buffer ≡ carryOut clock t strip out buffer (asked request-is)
 
-module _ {request t strip out : List ℕ} (p : Passed request t strip out) (clock : ℕ) {f : Framing} (e : f ≡ framingOf request) where
-  frames-by : Frames p clock (f .number)
-  frames-by = subst (λ (x : Framing). Frames p clock (x .number)) (sym e) (frames p clock)
+module _ {request t strip out : List ℕ} (p : Passed request t strip out) (clock : ℕ) (buffer : List ℕ) {f : Framing} (e : f ≡ framingOf request) where
+  frames-by : Frames p clock buffer (f .number)
+  frames-by = subst (λ (x : Framing). Frames p clock buffer (x .number)) (sym e) (frames p clock buffer)
 
-  pub frame-away : (f .number ≡ 0 → ⊥) → ServedIs request t strip clock out (record { number = f .number; length = 0 }) t out
+  pub frame-away : (f .number ≡ 0 → ⊥) → ServedIs request t strip clock out buffer (record { number = f .number; length = 0 }) t out buffer
   frame-away h = away-is (f .number) (go frames-by h)
     where
-      go : {n : ℕ} → Frames p clock n → (n ≡ 0 → ⊥) → serving request t strip clock out ≡ turnedAway t out n
+      go : {n : ℕ} → Frames p clock buffer n → (n ≡ 0 → ⊥) → serving request t strip clock out buffer ≡ turnedAway t out buffer n
       go (refuses j q) h = q
       go (takes r s q) h = absurd (h refl)
 
-  pub frame-asks : f .number ≡ 0 → Asks request t strip clock out f
+  pub frame-asks : f .number ≡ 0 → Asks request t strip clock out buffer f
   frame-asks z = go frames-by z
     where
-      go : {n : ℕ} → Frames p clock n → n ≡ 0 → Asks request t strip clock out f
+      go : {n : ℕ} → Frames p clock buffer n → n ≡ 0 → Asks request t strip clock out buffer f
       go (refuses j q) z = absurd (omega arith)
       go (takes r s q) z = record { passed = p; framing-is = e; request-is = r; shape = s; decides = q }
 
-module _ {request t strip : List ℕ} {clock : ℕ} {out : List ℕ} {f : Framing} (a : Asks request t strip clock out f) where
+module _ {request t strip : List ℕ} {clock : ℕ} {out buffer : List ℕ} {f : Framing} (a : Asks request t strip clock out buffer f) where
   -- where the batch items start
   pub from-within : f .items ≤ length request
   from-within = subst (λ (x : Framing). x .items ≤ length request) (sym (a .framing-is)) (a .shape .within)
@@ -178,38 +186,55 @@ module _ {request t strip : List ℕ} {clock : ℕ} {out : List ℕ} {f : Framin
   pub lead-there : HasLead t
   lead-there = omega (arith, sized)
 
-  -- with the places that the lead says, as they were read
-  pub runs-from : {n : ℕ} → n ≡ placesSaid t → RunsWhole n (items f) t strip out
-  runs-from e =
-      subst (λ (k : ℕ). RunsWhole k (items f) t strip out) (sym e)
-      (subst (λ (x : Framing). RunsWhole (placesSaid t) (items x) t strip out) (sym (a .framing-is)) (runs (a .shape) (a .passed)))
+  -- by whether a late refusal applies, as the code tests it; the clock is given as the same 64 bits
+  module _ {bits late : ℕ} (same : bits ≡ clock) (e : late ≡ lateRefusal bits (length t) (length buffer)) where
+    late-is : late ≡ lateRefusal clock (length t) (length buffer)
+    late-is = e ∙ ap (λ (k : ℕ). lateRefusal k (length t) (length buffer)) same
 
-  ran-from : (n : ℕ) (u : List ℕ) → ranOver n (items f) strip (f .option) u ≡ running n strip u (a .request-is)
-  ran-from n u = subst (λ (x : Framing). ranOver n (items x) strip (x .option) u ≡ running n strip u (a .request-is)) (sym (a .framing-is)) (ran-is (a .shape) n strip u)
+    -- refusals 10 and 11
+    pub late-away : (late ≡ 0 → ⊥) → ServedIs request t strip clock out buffer (record { number = late; length = 0 }) t out buffer
+    unfolding carryOut
+    late-away h =
+        away-is late (a .decides ∙ ifb-false _ _ _ (ne-eqb (lateRefusal clock (length t) (length buffer)) 0 (λ z. h (late-is ∙ z))) ∙ ap (turnedAway t out buffer) (sym late-is))
 
-  -- refusal 10
-  pub clock-away : aboveZero clock ≡ false → ServedIs request t strip clock out (record { number = 10; length = 0 }) t out
-  unfolding carryOut
-  clock-away low = away-is 10 (a .decides ∙ ifb-false _ _ _ low)
+    module _ (none : late ≡ 0) where
+      none-late : lateRefusal clock (length t) (length buffer) ≡ 0
+      none-late = sym late-is ∙ none
 
-  -- the places as they were read, and the clock, given as the same 64 bits
-  pub taken-as : {n : ℕ} → n ≡ placesSaid t → {bits : ℕ} → bits ≡ clock → {length : ℕ} {t′ out′ : List ℕ}
-      → AcceptedIs (acceptedOver n (items f) strip (f .option) bits t out) length t′ out′
-      → AcceptedIs (acceptedOver (placesSaid t) (items f) strip (f .option) clock t out) length t′ out′
-  taken-as {n} p e {length} {t′} {out′} is =
-      subst (λ (k : ℕ). AcceptedIs (acceptedOver k (items f) strip (f .option) clock t out) length t′ out′) p
-      (subst (λ (k : ℕ). AcceptedIs (acceptedOver n (items f) strip (f .option) k t out) length t′ out′) e is)
+      -- with the places that the lead says, as they were read
+      module _ {n : ℕ} (places : n ≡ placesSaid t) where
+        pub runs-from : RunsWhole n (items f) t strip out buffer
+        runs-from =
+            subst (λ (k : ℕ). RunsWhole k (items f) t strip out buffer) (sym places)
+            (subst (λ (x : Framing). RunsWhole (placesSaid t) (items x) t strip out buffer) (sym (a .framing-is))
+            (record { runs = runs (a .shape) (a .passed); sized = timely clock (length t) (length buffer) none-late .sized }))
 
-  -- none
-  pub served-is : aboveZero clock ≡ true → {length : ℕ} {t′ out′ : List ℕ} → AcceptedIs (acceptedOver (placesSaid t) (items f) strip (f .option) clock t out) length t′ out′
-      → ServedIs request t strip clock out (record { number = 0; length = length }) t′ out′
-  unfolding carryOut answered
-  served-is high {length} {t′} {out′} is =
-      let whole : acceptedOver (placesSaid t) (items f) strip (f .option) clock t out ≡ serving request t strip clock out =
-      ap (answered (countedClock clock t) out) (ran-from (placesSaid t) (began (placesSaid t) (countedClock clock t) t)) ∙ sym (a .decides ∙ ifb-true _ _ _ high) in
-      record {
-        number = ap (λ (x : Effect). x .number) whole;
-        length = is .length ∙ ap (λ (x : Effect). x .length) whole;
-        table = is .table ∙ ap (λ (x : Effect). x .table) whole;
-        output = is .output ∙ ap (λ (x : Effect). x .output) whole;
-      }
+        ran-from : (k : ℕ) (u : List ℕ) → ranOver k (items f) strip (f .option) u ≡ running k strip u (a .request-is)
+        ran-from k u = subst (λ (x : Framing). ranOver k (items x) strip (x .option) u ≡ running k strip u (a .request-is)) (sym (a .framing-is)) (ran-is (a .shape) k strip u)
+
+        option-is : f .option ≡ a .request-is .option
+        option-is = ap (λ (x : Framing). x .option) (a .framing-is) ∙ a .shape .option
+
+        whole : acceptedOver n (items f) strip (f .option) bits t out buffer ≡ serving request t strip clock out buffer
+        unfolding carryOut
+        whole =
+            ap (λ (k : ℕ). acceptedOver k (items f) strip (f .option) bits t out buffer) places
+            ∙ ap (λ (k : ℕ). acceptedOver (placesSaid t) (items f) strip (f .option) k t out buffer) same
+            ∙ ap (λ (y : Ran). answered (countedClock clock t) out (keptIn (f .option) start buffer) (settled (f .option) start y)) (ran-from (placesSaid t) start)
+            ∙ ap (λ (k : ℕ). answered (countedClock clock t) out (keptIn k start buffer) (settled k start (running (placesSaid t) strip start (a .request-is)))) option-is
+            ∙ sym (a .decides ∙ ifb-true _ _ _ (eq-eqb (lateRefusal clock (length t) (length buffer)) 0 none-late))
+          where
+            start : List ℕ
+            start = began (placesSaid t) (countedClock clock t) t
+
+        -- none
+        pub served-is : {length : ℕ} {t′ out′ buffer′ : List ℕ} → AcceptedIs (acceptedOver n (items f) strip (f .option) bits t out buffer) length t′ out′ buffer′
+            → ServedIs request t strip clock out buffer (record { number = 0; length = length }) t′ out′ buffer′
+        unfolding answered
+        served-is is = record {
+          number = ap (λ (x : Effect). x .number) whole;
+          length = is .length ∙ ap (λ (x : Effect). x .length) whole;
+          table = is .table ∙ ap (λ (x : Effect). x .table) whole;
+          output = is .output ∙ ap (λ (x : Effect). x .output) whole;
+          undo = is .undo ∙ ap (λ (x : Effect). x .undo) whole;
+        }

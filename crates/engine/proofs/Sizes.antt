@@ -2,7 +2,8 @@
 -- Assumes nothing.
 use mathlib.Core.Path.{_≡_, refl}
 use Rattle.table.specs.Layout.{sizeOf, smallCount, largeCount}
-use Rattle.engine.specs.Effects.{roomLeast, stripSize}
+use Rattle.batch.specs.Batch.{stripSize}
+use Rattle.engine.specs.Effects.{roomLeast}
 
 -- "output room below 6,360 bytes"
 room-least : roomLeast ≡ 6360

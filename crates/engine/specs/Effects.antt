@@ -1,9 +1,7 @@
--- What a call leaves, and the sizes that it keeps to.
+-- What a call leaves, and the sizes that it keeps to; that of the strip is the batch's.
 -- Assumes nothing. Neither the batch nor what a call does is defined or used here, so that a demand can speak of an outcome without them.
-use Prim.Native.Nat.{ℕ, _*_}
+use Prim.Native.Nat.{ℕ}
 use mathlib.Core.List.{List}
-use Rattle.table.specs.Layout.{materialSize}
-use Rattle.frame.specs.Frame.{batchMost}
 use Rattle.answer.specs.Front.{responseMost}
 
 -- ---- sizes
@@ -11,10 +9,6 @@ use Rattle.answer.specs.Front.{responseMost}
 -- "output room below 6,360 bytes": the longest response has to fit
 abbrev pub roomLeast : ℕ
 roomLeast = responseMost
-
--- "fresh strip not 512 bytes": 32 bytes for each of 16 items
-abbrev pub stripSize : ℕ
-stripSize = materialSize * batchMost
 
 -- "request empty or above 4,096 bytes"
 abbrev pub requestMost : ℕ
@@ -27,3 +21,5 @@ pub record Effect : Type 0 where
   pub length : ℕ
   pub table : List ℕ
   pub output : List ℕ
+  -- 02, L8: "a second buffer of the table's size"
+  pub undo : List ℕ

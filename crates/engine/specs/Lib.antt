@@ -1,6 +1,5 @@
 -- The whole outcome of a call.
 -- Assumes nothing.
 pub mod Effects
-pub mod Batch
 pub mod Serving
 pub mod Calls

@@ -1,5 +1,5 @@
--- 01, "Turning a request away", with 02's refusal 10, and the whole outcome of a call: number, length, table and output.
--- Assumes nothing: any request, table, strip, clock and room has an outcome.
+-- 01, "Turning a request away", with 02's refusals 10 and 11, and the whole outcome of a call: number, length, table, output and second buffer.
+-- Assumes nothing: any request, table, strip, clock, room and second buffer has an outcome.
 use Prim.Native.Nat.{ℕ}
 use mathlib.Core.Bool.{not, _||_}
 use mathlib.Core.List.{List}
@@ -16,26 +16,28 @@ use Rattle.place_counts.specs.Counts.{tableRight}
 use Rattle.changes.specs.Dates.{countedClock, began}
 use Rattle.frame.specs.Frame.{Framed, refused, asked, frameIn, framing}
 use Rattle.answer.specs.Respond.{Response, respond}
-use Rattle.engine.specs.Effects.{Effect, roomLeast, stripSize, requestMost}
-use Rattle.engine.specs.Batch.{Ran, running}
+use Rattle.batch.specs.Batch.{Ran, running, stripSize}
+use Rattle.settle.specs.Undo.{settled, keptIn}
+use Rattle.engine.specs.Effects.{Effect, roomLeast, requestMost}
 
 -- ---- what a call leaves
 
--- "Length 0; table and output stay byte for byte"
-abbrev pub turnedAway : List ℕ → List ℕ → ℕ → Effect
-turnedAway t out number = record { number = number; length = 0; table = t; output = out }
+-- "Length 0; table and output stay byte for byte", and so does the second buffer
+abbrev pub turnedAway : List ℕ → List ℕ → List ℕ → ℕ → Effect
+turnedAway t out buffer number = record { number = number; length = 0; table = t; output = out; undo = buffer }
 
 -- the response to a batch
 abbrev pub responseTo : ℕ → Ran → Response
 responseTo clock ran = record { clock = clock; answers = ran .answers }
 
--- "Number 0 means answered; output past the response stays"
-unfoldable pub answered : ℕ → List ℕ → Ran → Effect
-answered clock out ran = record {
+-- "Number 0 means answered; output past the response stays"; `buffer` is what the second buffer holds then
+unfoldable pub answered : ℕ → List ℕ → List ℕ → Ran → Effect
+answered clock out buffer ran = record {
   number = 0;
   length = length (encode (respond (responseTo clock ran)));
   table = ran .table;
   output = over (encode (respond (responseTo clock ran))) out;
+  undo = buffer;
 }
 
 -- ---- "The lowest number that applies is given, and none otherwise"
@@ -54,20 +56,32 @@ earlyRefusal request t strip room =
 abbrev pub requested : List ℕ → Framed
 requested request = framing (message request >>= frameIn)
 
--- an accepted request on a table of so many places: the clock that counts is stored, what is due by it is done, and then the items are carried out and answered
-abbrev pub accepted : ℕ → ℕ → List ℕ → (List ℕ → Ran) → List ℕ → Effect
-accepted places clock t items out = let counted = countedClock clock t in answered counted out (items (began places counted t))
+-- an accepted request on a table of so many places: the clock that counts is stored and what is due by it is done; that is the table before the first item.
+-- Then the items are carried out, and answered by what is left of them under the option
+abbrev pub accepted : ℕ → ℕ → ℕ → List ℕ → (List ℕ → Ran) → List ℕ → List ℕ → Effect
+accepted places option clock t items out buffer =
+    let counted = countedClock clock t in
+    let start = began places counted t in
+    answered counted out (keptIn option start buffer) (settled option start (items start))
 
--- the frame's refusal; refusal 10, "a clock given below 1 .. tested last"; or the batch, on as many places as the table's lead says
-unfoldable pub carryOut : ℕ → List ℕ → List ℕ → List ℕ → Framed → Effect
-carryOut clock t strip out (refused number) = turnedAway t out number
-carryOut clock t strip out (asked request) =
+-- refusals 10 and 11, a line each: "A clock given below 1", and a second buffer of another size than the table's, "tested after 10 for every option"; 0 where neither applies
+unfoldable pub lateRefusal : ℕ → ℕ → ℕ → ℕ
+lateRefusal clock size lent =
+    ifb (not (aboveZero clock)) 10
+    (ifb (not (eqb lent size)) 11
+    0)
+
+-- the frame's refusal; a late one; or the batch, on as many places as the table's lead says
+unfoldable pub carryOut : ℕ → List ℕ → List ℕ → List ℕ → List ℕ → Framed → Effect
+carryOut clock t strip out buffer (refused number) = turnedAway t out buffer number
+carryOut clock t strip out buffer (asked request) =
     let places = placesSaid t in
-    let taken = accepted places clock t (λ start. running places strip start request) out in
-    ifb (aboveZero clock) taken (turnedAway t out 10)
+    let taken = accepted places (request .option) clock t (λ start. running places strip start request) out buffer in
+    let late = lateRefusal clock (length t) (length buffer) in
+    ifb (eqb late 0) taken (turnedAway t out buffer late)
 
 -- the whole outcome; the clock comes as its 64 bits
-unfoldable pub serving : List ℕ → List ℕ → List ℕ → ℕ → List ℕ → Effect
-serving request t strip clock out =
+unfoldable pub serving : List ℕ → List ℕ → List ℕ → ℕ → List ℕ → List ℕ → Effect
+serving request t strip clock out buffer =
     let early = earlyRefusal request t strip (length out) in
-    ifb (eqb early 0) (carryOut clock t strip out (requested request)) (turnedAway t out early)
+    ifb (eqb early 0) (carryOut clock t strip out buffer (requested request)) (turnedAway t out buffer early)

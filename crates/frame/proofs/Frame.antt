@@ -3,7 +3,8 @@
 use mathlib.Core.Path.{_≡_, refl, sym, ap, ap₂, _∙_}
 use Prim.Native.Nat.{ℕ, _+_, _-_, _≤_}
 use native.Mathlib.Omega.{arith}
-use mathlib.Core.Bool.{true, false, not, _&&_, false≢true}
+use mathlib.Core.Logic.{⊎-elim}
+use mathlib.Core.Bool.{true, false, not, _&&_, _||_, false≢true}
 use mathlib.Core.Option.{Option, none, some}
 use mathlib.Core.List.{List, []}
 use lib.ListN.{length, drop}
@@ -20,7 +21,7 @@ use Rattle.fields.specs.Fields.{bodyOf}
 use Rattle.fields.specs.Found.{bodyAt}
 use Rattle.fields.specs.declared.BodyField.{BodyField}
 use Rattle.fields.specs.declared.BodyField.the-variants.{Body, NoBody}
-use Rattle.octets.proofs.Bools.{both}
+use Rattle.octets.proofs.Bools.{both, or-cases}
 use Rattle.ttlv.proofs.Step.{rest}
 use Rattle.fields.proofs.Found.{body-first}
 use Rattle.ttlv.proofs.One.{one-group}
@@ -373,8 +374,9 @@ module _ (o : Option Frame) (at : ℕ) {a b c d n x : ℕ} (t : Told o at a b c 
           ∙ ap₂ (λ (y z : ℕ). record { number = 0; option = y; items = z }) (t .option) (t .start)
 
 -- an option that there is fits 32 bits
-pub option-small : (c : ℕ) → optionOk c ≡ true → c ≤ 2
+pub option-small : (c : ℕ) → optionOk c ≡ true → c ≤ 3
 option-small c e =
-    on-bool (eqb c 1)
-    (λ y. let p = eqb-true c 1 y in omega arith)
-    (λ n. let p : eqb c 2 ≡ true = rw n at e in let q = eqb-true c 2 p in omega arith)
+    ⊎-elim
+    (λ p. ⊎-elim (λ q. let z = eqb-true c 1 q in omega arith) (λ q. let z = eqb-true c 2 q in omega arith) (or-cases (eqb c 1) (eqb c 2) p))
+    (λ p. let z = eqb-true c 3 p in omega arith)
+    (or-cases (eqb c 1 || eqb c 2) (eqb c 3) e)

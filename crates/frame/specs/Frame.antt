@@ -81,19 +81,22 @@ isCount count found = leb 1 count && leb count batchMost && eqb count found
 abbrev pub countOk : Frame → Bool
 countOk f = isCount (f .header .count) (length (f .items))
 
--- "Option 1 is Continue, 2 is Stop; absent means Stop"
+-- "Option 1 is Continue, 2 is Stop; absent means Stop"; 02, L8: "option 3", Undo
 abbrev pub continue : ℕ
 continue = 1
 
 abbrev pub stop : ℕ
 stop = 2
 
+abbrev pub undo : ℕ
+undo = 3
+
 unfoldable pub optionOf : Option ℕ → ℕ
 optionOf none = stop
 optionOf (some option) = option
 
 abbrev pub optionOk : ℕ → Bool
-optionOk option = eqb option continue || eqb option stop
+optionOk option = eqb option continue || eqb option stop || eqb option undo
 
 -- the option and the items of a request that is not turned away
 pub record Request : Type 0 where

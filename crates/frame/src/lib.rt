@@ -22,6 +22,8 @@ const CONTINUE: u64 = 1;
 
 const STOP: u64 = 2;
 
+const UNDO: u64 = 3;
+
 // The most batch items that a request may have.
 const BATCH_MOST: u64 = 16;
 
@@ -219,7 +221,10 @@ fn option_ok(option: u64) -> bool
     if option == CONTINUE {
         return true;
     }
-    option == STOP
+    if option == STOP {
+        return true;
+    }
+    option == UNDO
 }
 
 // A refusal.

@@ -9,11 +9,12 @@ use Rattle.engine.specs.Calls.{ServedIs}
 use Rattle.junctionmoth.specs.Boundary.{CallIs}
 
 -- the clock as the machine has it is the clock
-pub call-is : (request t strip : List ℕ) (bits clock : ℕ) (out : List ℕ) (r : Served) (t′ out′ : List ℕ) → bits ≡ clock → ServedIs request t strip bits out r t′ out′
-    → CallIs request t strip clock out (r .number) (r .length) t′ out′
-call-is request t strip bits clock out r t′ out′ e s = record {
-  number-is = s .number ∙ ap (λ (b : ℕ). serving request t strip b out .number) e;
-  length-is = s .length ∙ ap (λ (b : ℕ). serving request t strip b out .length) e;
-  table-is = s .table ∙ ap (λ (b : ℕ). serving request t strip b out .table) e;
-  output-is = s .output ∙ ap (λ (b : ℕ). serving request t strip b out .output) e;
+pub call-is : (request t strip : List ℕ) (bits clock : ℕ) (out buffer : List ℕ) (r : Served) (t′ out′ buffer′ : List ℕ) → bits ≡ clock
+    → ServedIs request t strip bits out buffer r t′ out′ buffer′ → CallIs request t strip clock out buffer (r .number) (r .length) t′ out′ buffer′
+call-is request t strip bits clock out buffer r t′ out′ buffer′ e s = record {
+  number-is = s .number ∙ ap (λ (b : ℕ). serving request t strip b out buffer .number) e;
+  length-is = s .length ∙ ap (λ (b : ℕ). serving request t strip b out buffer .length) e;
+  table-is = s .table ∙ ap (λ (b : ℕ). serving request t strip b out buffer .table) e;
+  output-is = s .output ∙ ap (λ (b : ℕ). serving request t strip b out buffer .output) e;
+  undo-is = s .undo ∙ ap (λ (b : ℕ). serving request t strip b out buffer .undo) e;
 }

@@ -1,4 +1,4 @@
--- No second outcome meets the contract of `junctionmoth_serve`: number, length, table and output follow from the inputs alone.
+-- No second outcome meets the contract of `junctionmoth_serve`: number, length, table, output and second buffer follow from the inputs alone.
 -- Assumes nothing.
 use mathlib.Core.Path.{sym, _∙_}
 use Prim.Native.Nat.{ℕ}
@@ -8,7 +8,10 @@ use borrow.Fn.Enter.{pair≡}
 use Rattle.outcomes.specs.Outcomes.{OneOutcome}
 use Rattle.junctionmoth.proofs.junctionmoth_serve.Reads as reads
 
--- the length, the table and the output are what is left
-pub junctionmoth-serve-unique : OneOutcome {X = λ k. ℕ × (List ℕ × List ℕ)} reads.Post (λ k s. (now (s .1 .1 .1 .1 .1 .0), (now (s .1 .0), now (s .1 .1 .1 .1 .0))))
-junctionmoth-serve-unique κs a r r′ s s′ p q =
-    (p .number-is ∙ sym (q .number-is), pair≡ (p .length-is ∙ sym (q .length-is)) (pair≡ (p .table-is ∙ sym (q .table-is)) (p .output-is ∙ sym (q .output-is))))
+-- the length, the table, the output and the second buffer are what is left
+pub junctionmoth-serve-unique : OneOutcome {X = λ k. (ℕ × List ℕ) × (List ℕ × List ℕ)} reads.Post
+    (λ k s. ((now (s .1 .1 .1 .1 .1 .0), now (s .1 .0)), (now (s .1 .1 .1 .1 .0), now (s .1 .1 .1 .1 .1 .1 .0))))
+junctionmoth-serve-unique κs a r r′ s s′ p q = (
+  p .number-is ∙ sym (q .number-is),
+  pair≡ (pair≡ (p .length-is ∙ sym (q .length-is)) (p .table-is ∙ sym (q .table-is))) (pair≡ (p .output-is ∙ sym (q .output-is)) (p .undo-is ∙ sym (q .undo-is))),
+)

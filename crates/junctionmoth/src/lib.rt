@@ -13,10 +13,11 @@ pub extern "C" fn junctionmoth_serve(
     clock: i64,
     out: &mut [u8],
     len: &mut u64,
+    undo: &mut [u8],
 ) -> u32
-    ensures { λ r. ⌜ CallIs (now (request .entry)) (now (table .entry)) (now (fresh .entry)) (ofZ w64 clock) (now (out .entry)) r (now (len .exit)) (now (table .exit)) (now (out .exit)) ⌝ }
+    ensures { λ r. ⌜ CallIs (now (request .entry)) (now (table .entry)) (now (fresh .entry)) (ofZ w64 clock) (now (out .entry)) (now (undo .entry)) r (now (len .exit)) (now (table .exit)) (now (out .exit)) (now (undo .exit)) ⌝ }
 {
-    let served = engine::serve(request, table, fresh, clock, out);
+    let served = engine::serve(request, table, fresh, clock, out, undo);
     *len = served.length as u64;
     served.number
 }

@@ -28,7 +28,7 @@ use Rattle.words.specs.Words.{wordsOf}
 use Rattle.plans.specs.declared.Shown.{Shown}
 use Rattle.plans.specs.declared.Key.{Key}
 use Rattle.plans.specs.declared.Outcome.{Outcome}
-use Rattle.plans.specs.declared.Outcome.the-variants.{Failed, Created, Done, Showed, Got, Located}
+use Rattle.plans.specs.declared.Outcome.the-variants.{Failed, Created, Done, Showed, Got, Located, Undone}
 use Rattle.plans.specs.declared.Performed.{Performed}
 
 -- ---- what an item meets
@@ -94,6 +94,7 @@ isFailed (Done serial) = false
 isFailed (Showed shown) = false
 isFailed (Got key) = false
 isFailed (Located serial) = false
+isFailed Undone = false
 
 -- ---- the operations, each as its line of 01 says
 

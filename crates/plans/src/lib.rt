@@ -42,6 +42,8 @@ pub enum Outcome {
     Got { key: Key },
     // Locate: the record with the name that was asked for, 0 where there is none
     Located { serial: u32 },
+    // a success that was undone, because a later item of its batch failed; no operation leaves it
+    Undone,
 }
 
 // What became of an item, and the placeholder after it, 0 where it is empty.
@@ -61,6 +63,7 @@ pub fn is_failed(outcome: Outcome) -> bool
         Outcome::Showed { shown: _ } => false,
         Outcome::Got { key: _ } => false,
         Outcome::Located { serial: _ } => false,
+        Outcome::Undone => false,
     }
 }
 

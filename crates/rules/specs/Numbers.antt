@@ -55,12 +55,15 @@ destroyedCompromised = 6
 
 -- ---- results
 
--- "Status is 0 for success, 1 for failed"
+-- "Status is 0 for success, 1 for failed"; 02, L8: "status 3 (Operation Undone)"
 abbrev pub success : ℕ
 success = 0
 
 abbrev pub operationFailed : ℕ
 operationFailed = 1
+
+abbrev pub operationUndone : ℕ
+operationUndone = 3
 
 -- ---- reasons
 

@@ -153,6 +153,12 @@ write-success-requires-5 : tie.Need-write-success-requires-5
 write-success-requires-5 c κs =
     opening-room (located-room (c .before .before .before)) (c .before .before .before .write-located .ensures) (omega arith) (omega arith)
 
+enum-told : tie.Need-enum-told
+enum-told c = search needs
+
+write-undone-requires : tie.Need-write-undone-requires
+write-undone-requires c κs = search needs
+
 same-length : tie.Need-same-length
 same-length c = search needs
 
@@ -210,6 +216,13 @@ returns-6 c =
     let located-written = located-opened .before .before .before .before in
     puts-outcome (located-arm located-written .outcome6 .given .1) (puts-succeeded 344 (located-room located-written) (located-written .write-located .ensures) (located-opened .write-success5 .ensures) (omega arith) (omega arith))
 
+same-length-7 : tie.Need-same-length-7
+same-length-7 c = search needs
+
+returns-7 : tie.Need-returns-7
+returns-7 c =
+    puts-outcome (c .before .before .before .before .enum-told .given .1) (puts-within (c .before .before .write-undone .ensures) (omega arith))
+
 pub write-outcome-spec : {M : Type 1} → statement M
 write-outcome-spec =
     tie.close
@@ -246,6 +259,8 @@ write-outcome-spec =
     part-write-located-end
     write-located-requires
     write-success-requires-5
+    enum-told
+    write-undone-requires
     same-length
     returns
     same-length-2
@@ -257,4 +272,6 @@ write-outcome-spec =
     same-length-5
     returns-5
     same-length-6
-    returns-6)
+    returns-6
+    same-length-7
+    returns-7)

@@ -20,8 +20,8 @@ use Rattle.batch_item.proofs.Bounds.{AllBounded}
 use Rattle.plans.specs.Plans.{Did, envAt}
 use Rattle.act.specs.Act.{step}
 use Rattle.answer.specs.Read.{answerOk}
-use Rattle.engine.specs.Batch.{Ran, answerTo, lastly, firstly, endsBatch, batch}
-use Rattle.engine.proofs.Steps.{step-held, step-latest, step-ok}
+use Rattle.batch.specs.Batch.{Ran, answerTo, lastly, firstly, endsBatch, batch}
+use Rattle.batch_keeps.proofs.Steps.{step-held, step-latest, step-ok}
 
 module _ (places : ℕ) (strip : List ℕ) (option : ℕ) (strip-bytes : Bytes strip) where
   -- item i has 32 bytes of the strip for its own

@@ -50,8 +50,8 @@ use Rattle.plans.specs.Plans.{Env, Did, createPlan, rekeyPlan, locatePlan, seri
 use Rattle.act.specs.Act.{sought, step}
 use Rattle.act.proofs.Went.{Moving, activating, revoking, destroying, Kind, fails, creates, rekeys, grants, moves, shows, gets, locates, step-kind}
 use Rattle.answer.specs.Read.{answersDone, serialOk, linkOk, nameShownOk, shownOk, keyOk, outcomeOk, answerOk}
-use Rattle.engine.specs.Batch.{answerTo}
-use Rattle.engine.proofs.Commands.{Commanded, to-create, to-rekey, to-allocate, to-activate, to-revoke, to-destroy, to-show, to-get, to-locate, commanded}
+use Rattle.batch.specs.Batch.{answerTo}
+use Rattle.batch_keeps.proofs.Commands.{Commanded, to-create, to-rekey, to-allocate, to-activate, to-revoke, to-destroy, to-show, to-get, to-locate, commanded}
 
 -- ---- what a command's operation answers
 

@@ -1,24 +1,34 @@
 -- 01, "Message frame": a batch carried out item by item, under Continue or Stop.
 -- Assumes nothing. There is no byte of output in it.
-use Prim.Native.Nat.{ℕ, _+_}
+use Prim.Native.Nat.{ℕ, _+_, _*_}
 use mathlib.Core.Bool.{Bool, not, _&&_}
 use mathlib.Core.List.{List, [], _∷_}
 use lib.Dec.{eqb}
 use Rattle.octets.specs.If.{ifb}
+use Rattle.table.specs.Layout.{materialSize}
 use Rattle.batch_item.specs.Item.{Asked}
-use Rattle.frame.specs.Frame.{Request, continue}
+use Rattle.frame.specs.Frame.{Request, batchMost, continue}
+use Rattle.plans.specs.declared.Outcome.{Outcome}
 use Rattle.plans.specs.Plans.{Did, emptyHolder, envAt, isFailed}
 use Rattle.act.specs.Act.{step}
 use Rattle.answer.specs.Respond.{Answer}
+
+-- "fresh strip not 512 bytes": 32 bytes for each of 16 items
+abbrev pub stripSize : ℕ
+stripSize = materialSize * batchMost
 
 -- the answers in order, and the table behind them
 pub record Ran : Type 0 where
   pub answers : List Answer
   pub table : List ℕ
 
--- "Operation as given, the ID if given", and what became of the item
+-- "Operation as given, the ID if given", and what is said of the item
+abbrev pub answerWith : Asked → Outcome → Answer
+answerWith asked outcome = record { operation = asked .operation; id = asked .id; outcome = outcome }
+
+-- what became of it
 abbrev pub answerTo : Asked → Did → Answer
-answerTo asked did = record { operation = asked .operation; id = asked .id; outcome = did .outcome }
+answerTo asked did = answerWith asked (did .outcome)
 
 -- nothing after this item
 abbrev pub lastly : Answer → List ℕ → Ran
@@ -28,7 +38,7 @@ lastly answer t = record { answers = answer ∷ []; table = t }
 abbrev pub firstly : Answer → Ran → Ran
 firstly answer ran = record { answers = answer ∷ ran .answers; table = ran .table }
 
--- "Under Stop nothing after the first failed item is carried out or answered"
+-- "Under Stop nothing after the first failed item is carried out or answered", and no more under Undo: "Items up to and including the failed one are answered"
 unfoldable pub endsBatch : ℕ → Did → Bool
 endsBatch option did = isFailed (did .outcome) && not (eqb option continue)
 

@@ -1,15 +1,17 @@
--- `engine::run_items`. Between two items: what is answered stands in the room, and the rest of the batch gives the whole.
+-- `batch::run_items`. Between two items: what is answered stands in the room, and the rest of the batch gives the whole.
 -- Assumes nothing.
 use Prim.Native.Nat.{_<_}
 use mathlib.Core.Path.{sym, _∙_}
-use lib.ListN.{length, length-take, length-drop}
+use lib.ListN.{length}
 use native.Mathlib.Omega.{arith}
 use borrow.Author.Needs.{needs}
 use Rattle.frame.specs.Frame.{batchMost}
-use Rattle.engine.specs.Calls.{ranOver}
-use Rattle.engine.proofs.Turns.{Mid, Next, begins, ended, next-item, next-index, next-runs, stopped, again}
-use Rattle.engine.proofs.run_items.Statement.{statement}
-use Rattle.engine.proofs.run_items.Tie as tie
+use Rattle.batch.specs.Runs.{ranOver}
+use Rattle.batch.proofs.Left.{Next, next-item, next-index, rest-less}
+use Rattle.batch.proofs.Written.{room-left}
+use Rattle.batch.proofs.Turns.{Mid, begins, ended, next-runs, stopped, again}
+use Rattle.batch.proofs.run_items.Statement.{statement}
+use Rattle.batch.proofs.run_items.Tie as tie
 
 abbrev Inv-loop : tie.InvT-loop
 Inv-loop items table₀ n fresh option out₀ left₀ i₀ holder₀ at₀ table out left i holder at = Mid n (ranOver n items fresh option table₀) fresh option out₀ table out left i holder at
@@ -35,13 +37,13 @@ abbrev last : tie.After-enum-told Inv-loop μ-loop → tie.At-loop Inv-loop μ-l
 last c = c .before .before .before
 
 cast-count : tie.Need-cast-count Inv-loop μ-loop
-cast-count c = omega (arith, last c .loop .inv .few)
+cast-count c = omega (arith, last c .loop .inv .items .few)
 
 same-length : tie.Need-same-length Inv-loop μ-loop
-same-length c = last c .loop .inv .table ∙ sym (last c .before .before .before .before .before .pre .table)
+same-length c = last c .loop .inv .table ∙ sym (last c .before .before .before .before .before .pre .carries .table)
 
 same-length-2 : tie.Need-same-length-2 Inv-loop μ-loop
-same-length-2 c = last c .loop .inv .same
+same-length-2 c = last c .loop .inv .written .same
 
 returns : tie.Need-returns Inv-loop μ-loop
 returns c = ended (last c .loop .inv) (sym (c .before .before .body-field .ensures) ∙ c .enum-told .given .1)
@@ -51,11 +53,11 @@ returns c = ended (last c .loop .inv) (sym (c .before .before .body-field .ensur
 abbrev turn : tie.After-next Inv-loop μ-loop → tie.At-loop Inv-loop μ-loop
 turn c = c .before .before .before
 
-item : (c : tie.After-next Inv-loop μ-loop) → Next (turn c .loop .inv) (c .next .given .0 .0)
-item c = next-item (turn c .loop .inv) (sym (c .before .before .body-field .ensures) ∙ c .next .given .1)
+item : (c : tie.After-next Inv-loop μ-loop) → Next (turn c .loop .inv .items) (c .next .given .0 .0)
+item c = next-item (turn c .loop .inv .items) (sym (c .before .before .body-field .ensures) ∙ c .next .given .1)
 
 index : (c : tie.After-next Inv-loop μ-loop) → turn c .loop .i < batchMost
-index c = next-index (turn c .loop .inv) (item c)
+index c = next-index (turn c .loop .inv .items) (item c)
 
 mul-from : tie.Need-mul-from Inv-loop μ-loop
 mul-from c = omega (arith, index (c .before))
@@ -87,7 +89,7 @@ abbrev lent : tie.After-one-item-arg3 Inv-loop μ-loop → tie.After-next Inv-lo
 lent c = c .before .before .before .before
 
 sub-one-item-3 : tie.Need-sub-one-item-3 Inv-loop μ-loop
-sub-one-item-3 c = let m = turn (lent c) .loop .inv in omega (arith, index (lent c), m .used, m .same, m .room)
+sub-one-item-3 c = room-left (turn (lent c) .loop .inv .written) (index (lent c))
 
 part-one-item-start-3 : tie.Need-part-one-item-start-3 Inv-loop μ-loop
 part-one-item-start-3 c = sub-one-item-3 c
@@ -107,7 +109,7 @@ abbrev done : tie.After-struct-known Inv-loop μ-loop → tie.After-one-item Inv
 done c = c .before .before .before .before .before
 
 add-at : tie.Need-add-at Inv-loop μ-loop
-add-at c = omega (arith, index (asked (done c)), turn (asked (done c)) .loop .inv .used, done c .one-item .ensures .few)
+add-at c = omega (arith, index (asked (done c)), turn (asked (done c)) .loop .inv .written .used, done c .one-item .ensures .few)
 
 add-i : tie.Need-add-i Inv-loop μ-loop
 add-i c = omega (arith, index (asked (done c)))
@@ -128,7 +130,8 @@ returns-2 : tie.Need-returns-2 Inv-loop μ-loop
 returns-2 c =
     let at-done = done (c .before .before) in
     let at-item = asked at-done in
-    stopped (turn at-item .loop .inv) (item at-item) (at-done .one-item .ensures) (c .before .ends .ensures) (c .if1 .taken)
+    let d = at-done .one-item in
+    stopped (turn at-item .loop .inv) (item at-item) (d .ensures) (d .kept .1 .1 .1 .1 .1 .0) (c .before .ends .ensures) (c .if1 .taken)
 
 -- ---- the batch goes on
 
@@ -145,14 +148,14 @@ part-left-end : tie.Need-part-left-end Inv-loop μ-loop
 part-left-end c = search needs
 
 loop-less : tie.Need-loop-less Inv-loop μ-loop
-loop-less c = let x = item (asked (passed (c .before))) in rw (length-take, length-drop) (omega (arith, x .past, x .within))
+loop-less c = let at-passed = asked (passed (c .before)) in rest-less (turn at-passed .loop .inv .items) (item at-passed)
 
 loop-again : tie.Need-loop-again Inv-loop μ-loop
 loop-again c =
-    let at-passed = passed (c .before) in
-    let at-next = asked at-passed in
-    let d = at-passed .one-item in
-    again (turn at-next .loop .inv) (item at-next) (d .ensures) (c .before .before .ends .ensures) (c .before .if1 .left) (d .kept .1 .0) (d .kept .1 .1 .1 .1 .1 .0)
+    let at-last = passed (c .before) in
+    let at-next = asked at-last in
+    let kept = at-last .one-item .kept in
+    again (turn at-next .loop .inv) (item at-next) (at-last .one-item .ensures) (kept .1 .1 .1 .1 .1 .0) (c .before .before .ends .ensures) (c .before .if1 .left) (kept .1 .0)
 
 pub run-items-spec : {M : Type 1} → statement M
 run-items-spec =

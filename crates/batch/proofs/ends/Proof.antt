@@ -1,10 +1,10 @@
--- `engine::ends`. By whether the item failed.
+-- `batch::ends`. By whether the item failed.
 -- Assumes nothing.
 use mathlib.Core.Path.{_≡_}
 use mathlib.Core.Bool.{true, false}
 use borrow.Author.Tests.{not-true, not-false}
-use Rattle.engine.proofs.ends.Statement.{statement}
-use Rattle.engine.proofs.ends.Tie as tie
+use Rattle.batch.proofs.ends.Statement.{statement}
+use Rattle.batch.proofs.ends.Tie as tie
 
 returns : tie.Need-returns
 returns c = let e : c .before .args .failed ≡ false = not-true _ (c .if1 .taken) in rw e
