@@ -15,15 +15,18 @@ extern "C" {
         out: *mut u8,
         out_len: usize,
         len: *mut u64,
+        undo: *mut u8,
+        undo_len: usize,
     ) -> u32;
 }
 
 /// Serves one request: the table is changed, the response stands at the front of `out`, its length is given back.
+/// `undo` is the second buffer: after an accepted request under Undo it holds the table before the first item.
 /// Any bytes and any sizes may be passed; a refused call changes nothing.
-pub fn serve(request: &[u8], table: &mut [u8], fresh: &[u8], clock: i64, out: &mut [u8]) -> Served {
+pub fn serve(request: &[u8], table: &mut [u8], fresh: &[u8], clock: i64, out: &mut [u8], undo: &mut [u8]) -> Served {
     let mut length = 0u64;
     // SAFETY: each pointer comes with the length of the slice it is taken from, the slices live through the call, and
-    // the two that are written are borrowed exclusively, so no two of the buffers overlap.
+    // the three that are written are borrowed exclusively, so no two of the buffers overlap.
     let number = unsafe {
         junctionmoth_serve(
             request.as_ptr(),
@@ -36,6 +39,8 @@ pub fn serve(request: &[u8], table: &mut [u8], fresh: &[u8], clock: i64, out: &m
             out.as_mut_ptr(),
             out.len(),
             &mut length,
+            undo.as_mut_ptr(),
+            undo.len(),
         )
     };
     crate::served(number, length, out.len())

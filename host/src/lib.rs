@@ -35,11 +35,12 @@ pub const fn table_size(count: usize) -> usize {
 }
 
 /// What a call gives: the length of the response at the front of the output, or why the request was turned away.
-/// A refused call leaves table and output byte for byte.
+/// A refused call leaves table, output and second buffer byte for byte.
 pub type Served = Result<usize, Refusal>;
 
-/// An engine: request, table, fresh strip, clock (seconds, as a Date-Time, from 1 up), output.
-pub type Engine = fn(&[u8], &mut [u8], &[u8], i64, &mut [u8]) -> Served;
+/// An engine: request, table, fresh strip, clock (seconds, as a Date-Time, from 1 up), output, and a second buffer of the
+/// table's size, which an accepted request under Undo leaves with the table before its first item, and no other touches.
+pub type Engine = fn(&[u8], &mut [u8], &[u8], i64, &mut [u8], &mut [u8]) -> Served;
 
 /// The proved engine as it is linked: the archive on x86-64, and none on any other machine.
 #[cfg(all(feature = "archive", target_arch = "x86_64"))]
@@ -69,15 +70,17 @@ pub enum Refusal {
     Version = 7,
     /// Batch Count not 1 to 16, or not the number of items.
     Count = 8,
-    /// Batch Error Continuation Option neither 1 nor 2.
+    /// Batch Error Continuation Option none of 1, 2 and 3.
     Continuation = 9,
     /// Clock below 1.
     Clock = 10,
+    /// Second buffer not of the table's size, whatever the option.
+    Undo = 11,
 }
 
 impl Refusal {
     /// All of them, in the order of their numbers.
-    pub const ALL: [Refusal; 10] = [
+    pub const ALL: [Refusal; 11] = [
         Refusal::Room,
         Refusal::Strip,
         Refusal::Table,
@@ -88,9 +91,10 @@ impl Refusal {
         Refusal::Count,
         Refusal::Continuation,
         Refusal::Clock,
+        Refusal::Undo,
     ];
 
-    /// The number of this refusal, 1 to 10.
+    /// The number of this refusal, 1 to 11.
     pub fn number(self) -> u32 {
         self as u32
     }
@@ -117,7 +121,7 @@ fn served(number: u32, length: u64, room: usize) -> Served {
         return Ok(length);
     }
     assert_eq!(length, 0, "a refusal has length 0");
-    Err(Refusal::from_number(number).expect("a refusal has a number from 1 to 10"))
+    Err(Refusal::from_number(number).expect("a refusal has a number from 1 to 11"))
 }
 
 /// A blank table of so many places: all zero but the place count. Only [`SMALL_COUNT`] and [`LARGE_COUNT`] are served.

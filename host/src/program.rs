@@ -51,10 +51,10 @@ fn watch() {
 }
 
 /// Serves one request, as the engine does, on buffers that the program can hold: docs/CONTRACTS.md says how large.
-pub fn serve(request: &[u8], table: &mut [u8], fresh: &[u8], clock: i64, out: &mut [u8]) -> Served {
+pub fn serve(request: &[u8], table: &mut [u8], fresh: &[u8], clock: i64, out: &mut [u8], undo: &mut [u8]) -> Served {
     let mut pipes = PIPES.lock().expect("no call of the program failed before");
-    let case = case(request, table, fresh, clock, out);
-    let mut left = vec![0; 12 + table.len() + out.len()];
+    let case = case(request, table, fresh, clock, out, undo);
+    let mut left = vec![0; 12 + table.len() + out.len() + undo.len()];
     held(&WATCHED).since = Some(Instant::now());
     let exchanged = exchange(&mut pipes, &case, &mut left);
     held(&WATCHED).since = None;
@@ -62,25 +62,33 @@ pub fn serve(request: &[u8], table: &mut [u8], fresh: &[u8], clock: i64, out: &m
         panic!("the program feed ended ({error}; {}): what it or tools/run said stands on standard error", status());
     }
     let (front, rest) = left.split_at(12);
-    let (after, written) = rest.split_at(table.len());
+    let (after, rest) = rest.split_at(table.len());
+    let (written, kept) = rest.split_at(out.len());
     table.copy_from_slice(after);
     out.copy_from_slice(written);
+    undo.copy_from_slice(kept);
     let number = u32::from_be_bytes(front[..4].try_into().expect("4 bytes"));
     let length = u64::from_be_bytes(front[4..].try_into().expect("8 bytes"));
     crate::served(number, length, out.len())
 }
 
 /// A call as the program reads it.
-fn case(request: &[u8], table: &[u8], fresh: &[u8], clock: i64, out: &[u8]) -> Vec<u8> {
+fn case(request: &[u8], table: &[u8], fresh: &[u8], clock: i64, out: &[u8], undo: &[u8]) -> Vec<u8> {
     let mut bytes = Vec::new();
-    for length in [request.len(), table.len(), fresh.len(), out.len()] {
-        bytes.extend(u32::try_from(length).expect("a length of 32 bits").to_be_bytes());
+    for part in [request, table, fresh, out] {
+        bytes.extend(length_of(part));
     }
     bytes.extend(clock.to_be_bytes());
-    for part in [request, table, fresh, out] {
+    bytes.extend(length_of(undo));
+    for part in [request, table, fresh, out, undo] {
         bytes.extend_from_slice(part);
     }
     bytes
+}
+
+/// The length of a part, as it stands in the head of a call.
+fn length_of(part: &[u8]) -> [u8; 4] {
+    u32::try_from(part.len()).expect("a length of 32 bits").to_be_bytes()
 }
 
 /// Writes a call whole, then reads all that it left.

@@ -32,12 +32,42 @@ pub enum Success {
     Located(Option<u32>),
 }
 
+/// What is told of an item.
+#[derive(Debug)]
+pub enum Outcome {
+    Succeeded(Success),
+    Failed(Reason),
+    /// It had succeeded, and a later item of its batch failed.
+    Undone,
+}
+
+impl From<Result<Success, Reason>> for Outcome {
+    fn from(result: Result<Success, Reason>) -> Outcome {
+        result.map_or_else(Outcome::Failed, Outcome::Succeeded)
+    }
+}
+
 /// The answer to an item.
 #[derive(Debug)]
 pub struct Answer {
     pub operation: u32,
     pub id: Option<Vec<u8>>,
-    pub result: Result<Success, Reason>,
+    pub result: Outcome,
+}
+
+impl Answer {
+    pub fn is_failed(&self) -> bool {
+        matches!(self.result, Outcome::Failed(_))
+    }
+
+    /// The answer when the batch is undone: one that succeeded says so and no more, one that failed keeps its reason.
+    pub fn undone(self) -> Answer {
+        let result = match self.result {
+            Outcome::Succeeded(_) => Outcome::Undone,
+            other => other,
+        };
+        Answer { result, ..self }
+    }
 }
 
 /// The box while it carries out one request: its table, the request's fresh strip and the placeholder.

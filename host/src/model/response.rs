@@ -1,7 +1,7 @@
 //! The response as a tree.
 //! Assumes nothing.
 
-use super::operations::{identifier, Answer, Success};
+use super::operations::{identifier, Answer, Outcome, Success};
 use super::table::Record;
 use super::tags::*;
 use super::ttlv::{Item, Value};
@@ -24,21 +24,23 @@ fn header(clock: i64, answered: usize) -> Item {
     structure(RESPONSE_HEADER, fields)
 }
 
-/// Operation as given, the ID if given, Result Status, Result Reason on failure, Response Payload on success
+/// Operation as given, the ID if given, Result Status, Result Reason on failure, Response Payload on success; nothing more
+/// if undone
 fn batch_item(answer: &Answer) -> Item {
     let mut fields = vec![enumeration(OPERATION, answer.operation)];
     if let Some(id) = &answer.id {
         fields.push(Item { tag: UNIQUE_BATCH_ITEM_ID, value: Value::Bytes(id.clone()) });
     }
     match &answer.result {
-        Ok(success) => {
+        Outcome::Succeeded(success) => {
             fields.push(enumeration(RESULT_STATUS, 0));
             fields.push(structure(RESPONSE_PAYLOAD, payload(success)));
         }
-        Err(reason) => {
+        Outcome::Failed(reason) => {
             fields.push(enumeration(RESULT_STATUS, 1));
             fields.push(enumeration(RESULT_REASON, *reason as u32));
         }
+        Outcome::Undone => fields.push(enumeration(RESULT_STATUS, 3)),
     }
     structure(BATCH_ITEM, fields)
 }

@@ -27,6 +27,8 @@ pub enum Outcome {
     Described(Key),
     HandedOut(Line, [u8; 32]),
     Failed(Reason),
+    /// It had succeeded, and is taken back since a later one failed.
+    Undone,
 }
 
 /// What an operation that sets no date makes of states 1 to 6, in this order.
@@ -59,6 +61,11 @@ impl<'a, const N: usize> Session<'a, N> {
             self.placeholder = 0;
             Outcome::Failed(reason)
         })
+    }
+
+    /// Makes the table what it was when it was kept.
+    pub fn put_back(&mut self, kept: &Table<N>) {
+        self.table.copy_from(kept);
     }
 
     fn attempt(&mut self, item: &BatchItem, fresh: &[u8; 32]) -> Result<Outcome, Reason> {

@@ -198,6 +198,13 @@ impl<'a, const N: usize> Table<'a, N> {
         }
     }
 
+    /// Takes over all bytes of another table.
+    pub fn copy_from(&mut self, other: &Table<N>) {
+        self.lead.copy_from_slice(other.lead);
+        self.lines.copy_from_slice(other.lines);
+        self.bodies.copy_from_slice(other.bodies);
+    }
+
     pub fn last(&self) -> u32 {
         (u128::from_be_bytes(*self.lead) >> 96) as u32
     }

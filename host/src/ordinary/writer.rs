@@ -95,12 +95,16 @@ impl<'a> Writer<'a> {
         if let Some(id) = item.id {
             self.string(0x42009308, id);
         }
-        if let Outcome::Failed(reason) = outcome {
-            self.word(0x42007F05, 1);
-            self.word(0x42007E05, *reason as u32);
-        } else {
-            self.word(0x42007F05, 0);
-            self.payload(outcome);
+        match outcome {
+            Outcome::Undone => self.word(0x42007F05, 3),
+            Outcome::Failed(reason) => {
+                self.word(0x42007F05, 1);
+                self.word(0x42007E05, *reason as u32);
+            }
+            _ => {
+                self.word(0x42007F05, 0);
+                self.payload(outcome);
+            }
         }
         self.close(answer);
     }
@@ -122,7 +126,7 @@ impl<'a> Writer<'a> {
                 self.serial(0x42009407, line.serial);
                 self.key(line, material);
             }
-            Outcome::NoneNamed | Outcome::Failed(_) => {}
+            Outcome::NoneNamed | Outcome::Failed(_) | Outcome::Undone => {}
         }
         self.close(payload);
     }
