@@ -6,7 +6,7 @@ use junctionmoth::message::{
 };
 use junctionmoth::model::operations::identifier;
 use junctionmoth::model::table::{Name, Record, Table};
-use junctionmoth::{ordinary, Engine, LARGE_COUNT, LINKED, ROOM, SMALL_COUNT, SMALL_SIZE, STRIP};
+use junctionmoth::{ordinary, Engine, Served, LARGE_COUNT, LINKED, ROOM, SMALL_COUNT, SMALL_SIZE, STRIP};
 use std::hint::black_box;
 use std::time::Instant;
 
@@ -26,6 +26,7 @@ struct Buffers {
     table: Vec<u8>,
     fresh: Vec<u8>,
     out: Vec<u8>,
+    undo: Vec<u8>,
 }
 
 /// The proved engine, and nanoseconds for restoring a small table and a large one.
@@ -37,9 +38,14 @@ struct Course {
 
 const METHOD: &str = "\
 Before each call the table is restored by copying its 8,208 bytes, or 32,784 of a large one, from a kept one; the time of
-that copy, measured in rounds of its own, is taken off. The output is not restored: no engine reads it, and a call writes
-its response whole. A table has 64 places where it is not called large.
+that copy, measured in rounds of its own, is taken off. Output and second buffer are not restored: no engine reads what
+they hold before, and a call writes its response whole. A table has 64 places where it is not called large.
 ";
+
+const UNDO: &str = "\
+Undo: 16 items under Stop and the same under Undo, on half full tables: all of them succeed, or the last one fails. Under
+Undo the table is copied into the second buffer, and no answer is written before it is known whether an item fails. The
+last column counts the items that succeed and stay done.";
 
 const SOUNDNESS: &str = "\
 Soundness check: an empty request is refused with 4 once the check has passed and before anything else is looked at, so
@@ -94,6 +100,7 @@ fn main() {
     dates(&course);
     names(&course);
     large(&course);
+    undo(&course);
     soundness(&course);
     identifiers(proved);
     texts(proved);
@@ -277,6 +284,29 @@ fn large(course: &Course) {
     }
 }
 
+/// Batches of 16 under Stop and under Undo, of which no item fails or the last one.
+fn undo(course: &Course) {
+    println!("\n{UNDO}");
+    for (count, size) in [(SMALL_COUNT, ""), (LARGE_COUNT, "large ")] {
+        for (operation, items) in operations(16) {
+            for (end, items) in [("all pass", items.clone()), ("last fails", last_failing(items))] {
+                for (option, number) in [("Stop", 2), ("Undo", 3)] {
+                    let name = format!("{operation}, {end}, {size}table, {option}");
+                    let request = request(Some(number), items.clone()).encode();
+                    course.run(&Scene { name, request, table: half(count), clock: 1 });
+                }
+            }
+        }
+    }
+}
+
+/// The same items with one in place of the last that finds no key.
+fn last_failing(mut items: Vec<Node>) -> Vec<Node> {
+    items.pop();
+    items.push(item(0x12, Some(b"A1"), target(Some(&identifier(0)))));
+    items
+}
+
 /// The soundness check, seen through refusal 4, and that of the ordinary engine by itself.
 fn soundness(course: &Course) {
     println!("\n{SOUNDNESS}");
@@ -382,7 +412,7 @@ fn answering(engine: Engine, requests: &[Vec<u8>]) -> f64 {
     let mut lent = buffers(&blank());
     let start = Instant::now();
     for request in requests {
-        let _ = black_box(engine(black_box(request), &mut lent.table, &lent.fresh, black_box(1), &mut lent.out));
+        let _ = black_box(lent.serve(engine, black_box(request), black_box(1)));
         black_box(&mut lent.out);
     }
     start.elapsed().as_nanos() as f64 / requests.len() as f64
@@ -479,22 +509,30 @@ fn print_line(name: &str, proved: f64, plain: f64, note: &str) {
 }
 
 fn buffers(table: &[u8]) -> Buffers {
-    Buffers { table: table.to_vec(), fresh: (0..STRIP).map(|at| at as u8).collect(), out: vec![0; ROOM] }
+    let fresh = (0..STRIP).map(|at| at as u8).collect();
+    Buffers { table: table.to_vec(), fresh, out: vec![0; ROOM], undo: vec![0; table.len()] }
+}
+
+impl Buffers {
+    fn serve(&mut self, engine: Engine, request: &[u8], clock: i64) -> Served {
+        engine(request, &mut self.table, &self.fresh, clock, &mut self.out, &mut self.undo)
+    }
 }
 
 /// Both engines must do the same. Says how many items succeed, or which refusal is given.
 fn compare(proved: Engine, scene: &Scene) -> String {
     let (mut one, mut two) = (buffers(&scene.table), buffers(&scene.table));
-    let first = proved(&scene.request, &mut one.table, &one.fresh, scene.clock, &mut one.out);
-    let second = ordinary::serve(&scene.request, &mut two.table, &two.fresh, scene.clock, &mut two.out);
-    assert!(first == second && one.table == two.table && one.out == two.out, "{}: the engines differ", scene.name);
+    let first = one.serve(proved, &scene.request, scene.clock);
+    let second = two.serve(ordinary::serve, &scene.request, scene.clock);
+    let same = first == second && one.table == two.table && one.out == two.out && one.undo == two.undo;
+    assert!(same, "{}: the engines differ", scene.name);
     match first {
         Ok(length) => {
             let count = |status: u8| {
                 let name = [0x42, 0x00, 0x7F, 0x05, 0, 0, 0, 4, 0, 0, 0, status];
                 one.out[..length].windows(12).filter(|window| *window == name).count()
             };
-            format!("{} of {}", count(0), count(0) + count(1))
+            format!("{} of {}", count(0), count(0) + count(1) + count(3))
         }
         Err(refusal) => refusal.to_string(),
     }
@@ -507,10 +545,11 @@ fn round(engine: Engine, scene: &Scene) -> f64 {
     for _ in 0..CALLS {
         lent.table.copy_from_slice(black_box(&scene.table));
         let clock = black_box(scene.clock);
-        let served = engine(black_box(&scene.request), &mut lent.table, &lent.fresh, clock, &mut lent.out);
+        let served = lent.serve(engine, black_box(&scene.request), clock);
         let _ = black_box(served);
         black_box(&mut lent.table);
         black_box(&mut lent.out);
+        black_box(&mut lent.undo);
     }
     start.elapsed().as_nanos() as f64 / f64::from(CALLS)
 }

@@ -5,6 +5,7 @@ use super::above::Above;
 use super::holders::{self, Holders};
 use super::names;
 use super::texts::{self, Fault};
+use super::undo::{self, Watch};
 use super::{Case, Effect};
 use junctionmoth::model::frame::{self, BatchItem};
 use junctionmoth::model::operations::identifier;
@@ -113,6 +114,7 @@ pub struct Coverage {
     answered: u64,
     refused: BTreeMap<Refusal, u64>,
     refused_below_1: BTreeMap<Refusal, u64>,
+    refused_with_second: BTreeMap<Refusal, u64>,
     results: BTreeMap<(Option<u32>, Option<u32>), u64>,
     rules: BTreeMap<&'static str, u64>,
     changes: BTreeMap<(u8, u8), u64>,
@@ -121,6 +123,7 @@ pub struct Coverage {
     text_faults: BTreeMap<Fault, u64>,
     name_faults: BTreeMap<(u32, names::Fault), u64>,
     above: Above,
+    watch: Watch,
     missing: Vec<String>,
 }
 
@@ -142,6 +145,12 @@ impl Coverage {
             *self.refused_below_1.entry(refusal).or_default() += 1;
         } else {
             assert_ne!(refusal, Refusal::Clock, "a clock from 1 up was refused");
+        }
+        if case.second.len() != case.table.len() {
+            *self.refused_with_second.entry(refusal).or_default() += 1;
+        }
+        for event in undo::of_refusal(case, refusal) {
+            self.note_if(event, true);
         }
         let fault = (refusal == Refusal::Malformed).then(|| fault_of_text_alone(&case.request));
         if let Some(fault) = fault.flatten() {
@@ -165,7 +174,8 @@ impl Coverage {
         assert!([&case.table, &effect.table].into_iter().all(|table| ordinary::sound(table)), "the check by itself");
         let response = &effect.out[..length];
         let results = results(response);
-        for &(operation, reason) in &results {
+        let statuses = undo::statuses(response);
+        for (&(operation, reason), _) in results.iter().zip(&statuses).filter(|(_, status)| **status != 3) {
             let known = REASONS.iter().any(|&(_, listed, _)| listed == Some(operation));
             *self.results.entry((known.then_some(operation), reason)).or_default() += 1;
         }
@@ -174,6 +184,9 @@ impl Coverage {
         let start = begun(&before, case.clock);
         self.count_clock(case.clock, &before, &after, response);
         self.count_due(&before, &start);
+        for event in self.watch.of_answer(case, effect, response, &start) {
+            self.note_if(event, true);
+        }
         if results.iter().all(|(_, reason)| reason.is_some()) {
             assert!(after == start, "items that failed changed something");
             self.note_if("every item failed: clock stored", after.latest > before.latest);
@@ -181,7 +194,9 @@ impl Coverage {
         }
         self.count_names(&start, &after, &case.request, response);
         self.count_targets(&start, &asked, &results);
-        self.above.count_first(&start, &asked[0], results[0]);
+        if statuses[0] != 3 {
+            self.above.count_first(&start, &asked[0], results[0]);
+        }
         self.count_activate(&start, &asked[0], results[0]);
         self.count_rekey(&start, &asked[0], results[0], case.clock < before.latest);
         self.count_renewals(&before, &after);
@@ -450,7 +465,11 @@ impl Coverage {
             let count = self.refused.get(&refusal).copied();
             self.line(refusal.to_string(), count);
             let count = self.refused_below_1.get(&refusal).copied();
-            self.line(format!("{refusal}, the clock being below 1"), count);
+            if refusal != Refusal::Undo {
+                self.line(format!("{refusal}, the clock being below 1"), count);
+            }
+            let count = self.refused_with_second.get(&refusal).copied();
+            self.line(format!("{refusal}, the second buffer being of another size"), count);
         }
         self.report_results();
         for rule in soundness::names() {
@@ -468,7 +487,7 @@ impl Coverage {
                 self.line(format!("{name}: Invalid Field for its name alone: {fault:?}"), count);
             }
         }
-        for event in EVENTS.into_iter().chain(holders::EVENTS) {
+        for event in EVENTS.into_iter().chain(holders::EVENTS).chain(undo::EVENTS) {
             let count = self.events.remove(event);
             self.line(event.to_string(), count);
         }
@@ -525,7 +544,7 @@ impl Coverage {
     }
 }
 
-/// Operation and reason (none for success) of each item in a response, read back from its bytes.
+/// Operation and reason (none for success, undone or not) of each item in a response, read back from its bytes.
 pub fn results(response: &[u8]) -> Vec<(u32, Option<u32>)> {
     let message = ttlv::read(response).expect("a response is one well-formed item");
     let items = &message.structure(RESPONSE_MESSAGE).expect("a Response Message")[1..];

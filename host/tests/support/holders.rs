@@ -3,6 +3,7 @@
 //! Each call's events are those that the coverage asks for.
 
 use super::names::{fault, Fault};
+use super::undo;
 use junctionmoth::model::frame::{self, BatchItem};
 use junctionmoth::model::operations::Reason::*;
 use junctionmoth::model::payload::{self, Action, Order, Target, Wanted};
@@ -148,8 +149,11 @@ impl Holders {
         self.places.iter().position(Option::is_none).or_else(|| self.places.iter().position(destroyed))
     }
 
-    /// Follows an answered request.
+    /// Follows an answered request. One that is undone leaves no trace.
     pub fn follow(&mut self, request: &[u8], response: &[u8]) -> Seen {
+        if undo::is_undone(request, response) {
+            return Seen::default();
+        }
         let asked = frame::read(&ttlv::read(request).expect("read")).expect("framed");
         let message = ttlv::read(response).expect("a response is one well-formed item");
         let answers = &message.structure(RESPONSE_MESSAGE).expect("a Response Message")[1..];

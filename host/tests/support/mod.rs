@@ -10,9 +10,10 @@ pub mod requests;
 pub mod rng;
 pub mod tables;
 pub mod texts;
+pub mod undo;
 
 use junctionmoth::model::table::Table;
-use junctionmoth::{model, ordinary, program, Engine, Served, LINKED, ROOM, STRIP};
+use junctionmoth::{model, ordinary, program, Engine, Served, LARGE_SIZE, LINKED, ROOM, SMALL_SIZE, STRIP};
 use rng::Rng;
 
 /// The engines that every case is run on: the model first; the proved one as the archive, or as the program where no
@@ -37,6 +38,8 @@ pub struct Case {
     pub fresh: Vec<u8>,
     pub clock: i64,
     pub room: usize,
+    /// What the second buffer holds before the call.
+    pub second: Vec<u8>,
 }
 
 /// All that a call gives or changes.
@@ -45,12 +48,25 @@ pub struct Effect {
     pub served: Served,
     pub table: Vec<u8>,
     pub out: Vec<u8>,
+    /// What the second buffer holds.
+    pub undo: Vec<u8>,
 }
 
 impl Case {
-    /// A call as the bench program makes it: a strip of the bytes 0 to 255 twice, clock 1, 6,360 bytes of room.
+    /// A call as the bench program makes it: a strip of the bytes 0 to 255 twice, clock 1, 6,360 bytes of room, and a second
+    /// buffer of the table's size.
     pub fn new(request: Vec<u8>, table: Vec<u8>) -> Case {
-        Case { request, table, fresh: (0..STRIP).map(|at| at as u8).collect(), clock: 1, room: ROOM }
+        let fresh = (0..STRIP).map(|at| at as u8).collect();
+        let second = (0..table.len()).map(|at| (at as u8).wrapping_mul(29) ^ 0xEE).collect();
+        Case { request, table, fresh, clock: 1, room: ROOM, second }
+    }
+
+    /// A call on the table that this one left, as large, with another strip.
+    pub fn after(&self, rng: &mut Rng, effect: &Effect) -> Case {
+        let left = Table::decode(&effect.table);
+        let request = requests::new_key(rng, &left).encode();
+        let (fresh, second) = (rng.bytes(STRIP), any_bytes(rng, effect.table.len()));
+        Case { request, table: effect.table.clone(), fresh, clock: any_clock(rng, left.latest), room: ROOM, second }
     }
 
     /// Any case at all.
@@ -59,9 +75,12 @@ impl Case {
         let request = any_request(rng, &table);
         let fresh = if rng.one_in(60) { rng.pick(&[0, 1, 256, 511, 513, 1024]) } else { STRIP };
         let clock = any_clock(rng, table.latest);
+        let table = any_table(rng, &table);
+        let second = any_second(rng, table.len());
         Case {
             request,
-            table: any_table(rng, &table),
+            table,
+            second,
             fresh: rng.bytes(fresh),
             clock,
             room: if rng.one_in(60) {
@@ -76,8 +95,9 @@ impl Case {
     pub fn run(&self, engine: Engine) -> Effect {
         let mut table = self.table.clone();
         let mut out = pattern(self.room);
-        let served = engine(&self.request, &mut table, &self.fresh, self.clock, &mut out);
-        Effect { served, table, out }
+        let mut undo = self.second.clone();
+        let served = engine(&self.request, &mut table, &self.fresh, self.clock, &mut out, &mut undo);
+        Effect { served, table, out, undo }
     }
 
     /// Makes the call on every engine; all must have the same effect, and a refusal none but its number.
@@ -85,10 +105,8 @@ impl Case {
         let (first, model) = engines[0];
         let expected = self.run(model);
         if expected.served.is_err() {
-            assert!(
-                expected.table == self.table && expected.out == pattern(self.room),
-                "{name}: a refusal left a trace"
-            );
+            let (table, out) = (&expected.table == &self.table, expected.out == pattern(self.room));
+            assert!(table && out && expected.undo == self.second, "{name}: a refusal left a trace");
         }
         for &(other, engine) in &engines[1..] {
             let effect = self.run(engine);
@@ -102,10 +120,12 @@ impl Case {
     fn report(&self, name: &str, effects: &[(&str, &Effect)]) -> ! {
         println!("{name}: engines differ; clock {}, room {}", self.clock, self.room);
         println!("request {}\ntable {}\nfresh {}", hex(&self.request), hex(&self.table), hex(&self.fresh));
+        println!("second buffer {}", hex(&self.second));
         for (engine, effect) in effects {
             let length = effect.served.unwrap_or(0).min(effect.out.len());
             println!("{engine}: {:?}, response {}", effect.served, hex(&effect.out[..length]));
             println!("{engine}: table changed at {:?}", changes(&self.table, &effect.table));
+            println!("{engine}: second buffer other than its table at {:?}", changes(&effect.table, &effect.undo));
             println!(
                 "{engine}: output changed past the response at {:?}",
                 changes(&pattern(self.room)[length..], &effect.out[length..])
@@ -138,7 +158,8 @@ pub fn any_clock(rng: &mut Rng, latest: i64) -> i64 {
 
 fn any_request(rng: &mut Rng, table: &Table) -> Vec<u8> {
     let mut bytes = match rng.below(100) {
-        0..=51 => requests::accepted(rng, table).encode(),
+        0..=45 => requests::accepted(rng, table).encode(),
+        46..=51 => requests::all_or_none(rng, table).encode(),
         52..=56 => requests::about_a_name(rng, table).encode(),
         57..=59 => requests::with_text(rng, table).encode(),
         60..=62 => requests::rekey(rng, table).encode(),
@@ -190,6 +211,20 @@ fn any_table(rng: &mut Rng, table: &Table) -> Vec<u8> {
             bytes = rng.pick(&[any, vec![0; bytes.len()], vec![0xFF; bytes.len()]]);
         }
     }
+    bytes
+}
+
+/// A second buffer of any bytes, of the table's size, or of another now and then: of none, a byte off, or of either count.
+fn any_second(rng: &mut Rng, size: usize) -> Vec<u8> {
+    let wrong = [0, size.saturating_sub(1), size + 1, SMALL_SIZE, LARGE_SIZE];
+    let length = if rng.one_in(16) { rng.pick(&wrong) } else { size };
+    any_bytes(rng, length)
+}
+
+/// So many bytes, eight at a time.
+fn any_bytes(rng: &mut Rng, length: usize) -> Vec<u8> {
+    let mut bytes: Vec<u8> = (0..length.div_ceil(8)).flat_map(|_| rng.next().to_be_bytes()).collect();
+    bytes.truncate(length);
     bytes
 }
 

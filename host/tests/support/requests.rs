@@ -14,7 +14,7 @@ pub fn accepted(rng: &mut Rng, table: &Table) -> Node {
     let number = rng.between(1, 16);
     let number = rng.pick(&[1, 1, 1, 1, 2, 3, 5, 16, number]);
     let items = (0..number).map(|_| batch_item(rng, table)).collect();
-    request(rng.pick(&[None, Some(1), Some(1), Some(2)]), items)
+    request(rng.pick(&[None, Some(1), Some(1), Some(1), Some(2), Some(3)]), items)
 }
 
 pub fn batch_item(rng: &mut Rng, table: &Table) -> Node {
@@ -260,6 +260,49 @@ pub fn creations(rng: &mut Rng, table: &Table) -> Node {
     request(Some(1), (0..number).map(|_| item(0x01, None, creation(rng, table))).collect())
 }
 
+/// A batch under Undo, mostly of items that succeed, with one that fails at its front, inside or at its end, or with none.
+pub fn all_or_none(rng: &mut Rng, table: &Table) -> Node {
+    let number = rng.between(1, 16) as usize;
+    let number = rng.pick(&[1, 2, 3, 4, 16, 16, number]);
+    let mut items: Vec<Node> = (0..number).map(|_| likely(rng, table)).collect();
+    let inside = rng.index(number);
+    if let Some(at) = rng.pick(&[None, Some(0), Some(inside), Some(number - 1), Some(number - 1)]) {
+        items[at] = failing(rng);
+    }
+    request(rng.pick(&[Some(3), Some(3), Some(3), Some(2)]), items)
+}
+
+/// An item that mostly succeeds, whatever was done before it.
+fn likely(rng: &mut Rng, table: &Table) -> Node {
+    let operation = rng.pick(&SUPPORTED);
+    let serial = fitting(rng, table, operation).or_else(|| table.standing().next().map(|record| record.serial));
+    let name = serial.map(identifier).filter(|_| !rng.one_in(12));
+    let name = name.as_deref();
+    let payload = match operation {
+        0x01 => create(128, 4, Some((100, 1))),
+        0x08 => location(&name_around(rng, table)),
+        0x11 => allocation(name, 1),
+        0x13 => revocation(name, rng.pick(&[2, 2, 1])),
+        _ => target(name),
+    };
+    item(operation, id(rng).as_deref(), payload)
+}
+
+/// An item that fails on every table.
+fn failing(rng: &mut Rng) -> Node {
+    let operation = rng.pick(&[0x04, 0x0A, 0x0B, 0x12, 0x14, 0x3B]);
+    item(operation, id(rng).as_deref(), target(Some("00000000")))
+}
+
+/// A Create that takes its serial, alone or behind another item.
+pub fn new_key(rng: &mut Rng, table: &Table) -> Node {
+    let mut items = vec![item(0x01, None, create(256, 4, None))];
+    if rng.one_in(3) {
+        items.insert(0, batch_item(rng, table));
+    }
+    request(rng.pick(&[None, Some(1), Some(1), Some(3)]), items)
+}
+
 /// A request with a text in other letters in one of its payloads, or with something that is no text.
 pub fn with_text(rng: &mut Rng, table: &Table) -> Node {
     let tag = rng.pick(&[0x420094, 0x420094, 0x420020, 0x420080]);
@@ -267,7 +310,7 @@ pub fn with_text(rng: &mut Rng, table: &Table) -> Node {
     let operation = rng.pick(&[0x12, 0x0B, 0x3B]);
     let mut items: Vec<Node> = (0..rng.below(3)).map(|_| batch_item(rng, table)).collect();
     items.insert(rng.index(items.len() + 1), item(operation, None, vec![text]));
-    request(rng.pick(&[None, Some(1)]), items)
+    request(rng.pick(&[None, Some(1), Some(3)]), items)
 }
 
 /// A Re-key alone.
@@ -284,7 +327,7 @@ pub fn renewals(rng: &mut Rng, table: &Table) -> Node {
         let used = rng.pick(&[0x04, 0x0A, 0x0B, 0x11, 0x12, 0x14]);
         items.push(item(used, None, payload(rng, table, used)));
     }
-    request(rng.pick(&[Some(1), Some(2)]), items)
+    request(rng.pick(&[Some(1), Some(2), Some(3)]), items)
 }
 
 /// A batch about one name: of the key whose place the next new one takes, if that has a name, or of any; or one that no
@@ -300,7 +343,7 @@ pub fn about_a_name(rng: &mut Rng, table: &Table) -> Node {
     };
     let holder = table.find_name(about.as_bytes()).map(|record| identifier(record.serial));
     let items = (0..rng.between(2, 8)).map(|_| item_about(rng, table, &about, holder.as_deref())).collect();
-    request(rng.pick(&[None, Some(1), Some(1), Some(1)]), items)
+    request(rng.pick(&[None, Some(1), Some(1), Some(1), Some(3)]), items)
 }
 
 /// An item about a name, about the key that has it or about the placeholder.
@@ -331,7 +374,7 @@ pub fn widest(rng: &mut Rng, table: &Table) -> Node {
     let widest = table.standing().max_by_key(width);
     let name = identifier(widest.map_or(1, |record| record.serial));
     let items = (0..16).map(|_| item(0x0B, Some(&rng.bytes(16)), target(Some(&name)))).collect();
-    request(Some(rng.pick(&[1, 2])), items)
+    request(Some(rng.pick(&[1, 2, 3])), items)
 }
 
 /// A request that is spoilt in one item of its tree.
@@ -471,7 +514,7 @@ fn edit_fields(rng: &mut Rng, nodes: &mut Vec<Node>) {
 pub fn wrong_numbers(rng: &mut Rng, table: &Table) -> Node {
     let number = rng.between(1, 16) as i32;
     let items: Vec<Node> = (0..number).map(|_| batch_item(rng, table)).collect();
-    let mut header = Header { version: (2, 1), option: rng.pick(&[None, Some(1), Some(2)]), count: number };
+    let mut header = Header { version: (2, 1), option: rng.pick(&[None, Some(1), Some(2), Some(3)]), count: number };
     let faults = rng.pick(&[1, 2, 4, 1, 2, 4, 3, 5, 6, 7]);
     let any = rng.next() as i32;
     if faults & 1 != 0 {
@@ -481,7 +524,7 @@ pub fn wrong_numbers(rng: &mut Rng, table: &Table) -> Node {
         header.count = rng.pick(&[0, -1, number - 1, number + 1, 17, 16, 256 + number, i32::MIN, i32::MAX]);
     }
     if faults & 4 != 0 {
-        header.option = Some(rng.pick(&[0, 3, 4, 257, 0x8000_0001, u32::MAX]));
+        header.option = Some(rng.pick(&[0, 4, 5, 257, 259, 0x8000_0001, 0x8000_0003, u32::MAX]));
     }
     request_with(header, items)
 }
