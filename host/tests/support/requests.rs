@@ -274,9 +274,12 @@ pub fn all_or_none(rng: &mut Rng, table: &Table) -> Node {
 
 /// An item that mostly succeeds, whatever was done before it.
 fn likely(rng: &mut Rng, table: &Table) -> Node {
-    let operation = rng.pick(&SUPPORTED);
+    let full = table.standing().count() == table.places.len();
+    let new = if full { 0x08 } else { 0x01 };
+    let other = rng.pick(&SUPPORTED);
+    let operation = rng.pick(&[new, new, 0x08, 0x0A, 0x0B, 0x0B, other, other]);
     let serial = fitting(rng, table, operation).or_else(|| table.standing().next().map(|record| record.serial));
-    let name = serial.map(identifier).filter(|_| !rng.one_in(12));
+    let name = serial.map(identifier).filter(|_| !rng.one_in(40));
     let name = name.as_deref();
     let payload = match operation {
         0x01 => create(128, 4, Some((100, 1))),

@@ -162,16 +162,15 @@ impl Watch {
             return events;
         }
         assert!(effect.undo == start.encode(), "the second buffer does not hold the table before the first item");
-        let due = Table::decode(&case.table).places != start.places;
         if statuses.contains(&1) {
             events.extend(of_undone(case, effect, &request, &statuses, start));
-            note(&mut events, "undone: due changes are kept", due);
             self.left = first_new(&request.items, &statuses).map(|operation| (effect.table.clone(), operation));
         } else {
             assert_eq!(statuses, vec![0; request.items.len()], "no item failed, and not all succeeded");
             events.push("Undo: no item fails");
             note(&mut events, "Undo: none of sixteen items fails", statuses.len() == 16);
             note(&mut events, "Undo: a response of 6,360 bytes", response.len() == 6360);
+            let due = Table::decode(&case.table).places != start.places;
             note(&mut events, "Undo: no item fails, and due changes were made", due);
         }
         events
@@ -221,6 +220,7 @@ fn of_undone(case: &Case, effect: &Effect, request: &Request, statuses: &[u32], 
     note(&mut events, "Undo: the last of sixteen items fails", answered == 16);
     if answered > 1 {
         note(&mut events, "undone: the clock is stored", case.clock > before.latest);
+        note(&mut events, "undone: due changes are kept", before.places != start.places);
         note(&mut events, "undone: a clock earlier than the latest", case.clock < before.latest);
         note(&mut events, "undone: a large table", case.table.len() == LARGE_SIZE);
         events.extend(of_items(&request.items[..answered - 1]));
