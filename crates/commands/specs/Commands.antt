@@ -13,9 +13,9 @@ use Rattle.script.specs.declared.Number.the-variants.{Is, NoNumber}
 use Rattle.script.specs.declared.Clock.{Clock}
 use Rattle.script.specs.declared.Clock.the-variants.{At, NoClock}
 use Rattle.commands.specs.declared.Verb.{Verb}
-use Rattle.commands.specs.declared.Verb.the-variants.{Blank, Put, Clock as ClockVerb, Room, Strip, Size, Request, Table, Output, Unknown}
+use Rattle.commands.specs.declared.Verb.the-variants.{Blank, Put, Clock as ClockVerb, Room, Strip, Size, Request, Table, Output, Undo, Second, Unknown}
 use Rattle.commands.specs.declared.Buffer.{Buffer}
-use Rattle.commands.specs.declared.Buffer.the-variants.{Table as TableBuffer, Strip as StripBuffer, Output as OutputBuffer}
+use Rattle.commands.specs.declared.Buffer.the-variants.{Table as TableBuffer, Strip as StripBuffer, Output as OutputBuffer, Second as SecondBuffer}
 use Rattle.commands.specs.declared.Setting.{Setting}
 use Rattle.commands.specs.declared.Done.{Done}
 
@@ -34,6 +34,8 @@ verbs = record { name = codes "blank"; verb = Blank }
     ∷ record { name = codes "request"; verb = Request }
     ∷ record { name = codes "table"; verb = Table }
     ∷ record { name = codes "output"; verb = Output }
+    ∷ record { name = codes "undo"; verb = Undo }
+    ∷ record { name = codes "second"; verb = Second }
     ∷ []
 
 -- the first command of a list with this name
@@ -64,13 +66,14 @@ placesIn (c ∷ s) = ifPlaces (numberIn (c ∷ s))
 -- another clock
 unfoldable pub withClock : Setting → Clock → Done
 withClock s NoClock = refused s
-withClock s (At z) = taken (record { clock = z; room = s .room; strip = s .strip; size = s .size })
+withClock s (At z) = taken (record { clock = z; room = s .room; strip = s .strip; size = s .size; undo = s .undo })
 
 -- so many bytes of a buffer
 abbrev pub lent : Buffer → Setting → ℕ → Setting
-lent TableBuffer s n = record { clock = s .clock; room = s .room; strip = s .strip; size = n }
-lent StripBuffer s n = record { clock = s .clock; room = s .room; strip = n; size = s .size }
-lent OutputBuffer s n = record { clock = s .clock; room = n; strip = s .strip; size = s .size }
+lent TableBuffer s n = record { clock = s .clock; room = s .room; strip = s .strip; size = n; undo = s .undo }
+lent StripBuffer s n = record { clock = s .clock; room = s .room; strip = n; size = s .size; undo = s .undo }
+lent OutputBuffer s n = record { clock = s .clock; room = n; strip = s .strip; size = s .size; undo = s .undo }
+lent SecondBuffer s n = record { clock = s .clock; room = s .room; strip = s .strip; size = s .size; undo = n }
 
 unfoldable pub lending : Buffer → Setting → Number → Done
 lending b s NoNumber = refused s

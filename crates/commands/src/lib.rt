@@ -16,6 +16,7 @@ pub enum Buffer {
     Table,
     Strip,
     Output,
+    Second,
 }
 
 // The command of a line.
@@ -29,15 +30,19 @@ pub enum Verb {
     Request,
     Table,
     Output,
+    Undo,
+    Second,
     Unknown,
 }
 
-// How a request is served: the clock, and how many bytes of output, strip and table are lent.
+// How a request is served: the clock, and how many bytes of output, strip, table and second buffer
+// are lent.
 pub struct Setting {
     pub clock: i64,
     pub room: usize,
     pub strip: usize,
     pub size: usize,
+    pub undo: usize,
 }
 
 // What a line comes to: whether it is one of a script, and the setting after it.
@@ -84,6 +89,12 @@ pub fn verb_of(word: &[u8]) -> Verb
     if lines::same(word, b"output") {
         return Verb::Output;
     }
+    if lines::same(word, b"undo") {
+        return Verb::Undo;
+    }
+    if lines::same(word, b"second") {
+        return Verb::Second;
+    }
     Verb::Unknown
 }
 
@@ -122,7 +133,8 @@ pub fn set_clock(rest: &[u8], setting: Setting) -> Done
     }
 }
 
-// `size NUMBER`, `strip NUMBER`, `room NUMBER`: how many bytes of a buffer are lent from here on.
+// `size NUMBER`, `strip NUMBER`, `room NUMBER`, `undo NUMBER`: how many bytes of a buffer are lent
+// from here on.
 pub fn lend(rest: &[u8], buffer: Buffer, setting: Setting) -> Done
     ensures { λ r. ⌜ r ≡ lending buffer setting (numberIn (now (rest .entry))) ⌝ }
 {
@@ -137,6 +149,7 @@ pub fn lend(rest: &[u8], buffer: Buffer, setting: Setting) -> Done
         Buffer::Table => s.size = n,
         Buffer::Strip => s.strip = n,
         Buffer::Output => s.room = n,
+        Buffer::Second => s.undo = n,
     }
     Done {
         good: true,

@@ -43,6 +43,9 @@ enum-told-3 c = search needs
 enum-told-4 : tie.Need-enum-told-4
 enum-told-4 c = search needs
 
+enum-told-5 : tie.Need-enum-told-5
+enum-told-5 c = search needs
+
 returns-2 : tie.Need-returns-2
 unfolding lending
 returns-2 c = lent-by (c .before .before .before) (c .enum-told2 .given .1)
@@ -55,6 +58,10 @@ returns-4 : tie.Need-returns-4
 unfolding lending
 returns-4 c = lent-by (c .before .before .before) (c .enum-told4 .given .1)
 
+returns-5 : tie.Need-returns-5
+unfolding lending
+returns-5 c = lent-by (c .before .before .before) (c .enum-told5 .given .1)
+
 pub lend-spec : {M : Type 1} → statement M
 lend-spec =
     tie.close
@@ -66,6 +73,8 @@ lend-spec =
     enum-told-2
     enum-told-3
     enum-told-4
+    enum-told-5
     returns-2
     returns-3
-    returns-4)
+    returns-4
+    returns-5)

@@ -66,6 +66,18 @@ W9 c = W8 (c .before .before .before)
 passed-9 : (c : tie.Else9) → verbOf (W9 c) ≡ named (W9 c) (drop 9 verbs)
 passed-9 c = passed-8 (c .before .before .before) ∙ ifb-false _ _ _ (sym (c .before .same9 .ensures) ∙ c .if9 .left)
 
+abbrev W10 : tie.Else10 → List ℕ
+W10 c = W9 (c .before .before .before)
+
+passed-10 : (c : tie.Else10) → verbOf (W10 c) ≡ named (W10 c) (drop 10 verbs)
+passed-10 c = passed-9 (c .before .before .before) ∙ ifb-false _ _ _ (sym (c .before .same10 .ensures) ∙ c .if10 .left)
+
+abbrev W11 : tie.Else11 → List ℕ
+W11 c = W10 (c .before .before .before)
+
+passed-11 : (c : tie.Else11) → verbOf (W11 c) ≡ named (W11 c) (drop 11 verbs)
+passed-11 c = passed-10 (c .before .before .before) ∙ ifb-false _ _ _ (sym (c .before .same11 .ensures) ∙ c .if11 .left)
+
 slice-aggregate-same : tie.Need-slice-aggregate-same
 slice-aggregate-same c = search needs
 
@@ -148,8 +160,26 @@ same-requires-9 c κs = search needs
 returns-9 : tie.Need-returns-9
 returns-9 c = sym (passed-8 (c .before .before .before) ∙ ifb-true _ _ _ (sym (c .before .same9 .ensures) ∙ c .if9 .taken))
 
+slice-aggregate-same-10 : tie.Need-slice-aggregate-same-10
+slice-aggregate-same-10 c = search needs
+
+same-requires-10 : tie.Need-same-requires-10
+same-requires-10 c κs = search needs
+
 returns-10 : tie.Need-returns-10
-returns-10 c = sym (passed-9 c)
+returns-10 c = sym (passed-9 (c .before .before .before) ∙ ifb-true _ _ _ (sym (c .before .same10 .ensures) ∙ c .if10 .taken))
+
+slice-aggregate-same-11 : tie.Need-slice-aggregate-same-11
+slice-aggregate-same-11 c = search needs
+
+same-requires-11 : tie.Need-same-requires-11
+same-requires-11 c κs = search needs
+
+returns-11 : tie.Need-returns-11
+returns-11 c = sym (passed-10 (c .before .before .before) ∙ ifb-true _ _ _ (sym (c .before .same11 .ensures) ∙ c .if11 .taken))
+
+returns-12 : tie.Need-returns-12
+returns-12 c = sym (passed-11 c)
 
 pub verb-of-spec : {M : Type 1} → statement M
 verb-of-spec =
@@ -182,4 +212,10 @@ verb-of-spec =
     slice-aggregate-same-9
     same-requires-9
     returns-9
-    returns-10)
+    slice-aggregate-same-10
+    same-requires-10
+    returns-10
+    slice-aggregate-same-11
+    same-requires-11
+    returns-11
+    returns-12)
