@@ -17,6 +17,14 @@ pub fn run(fd: i32) {
     let mut strip = [0u8; engine::STRIP_SIZE];
     lent::fill_strip(&mut strip);
     let mut out = [0u8; engine::ROOM_LEAST];
-    let served = engine::serve(&request[..n], &mut table, &strip, CLOCK, &mut out);
+    let mut undo = [0u8; Layout::SMALL_SIZE];
+    let served = engine::serve(
+        &request[..n],
+        &mut table,
+        &strip,
+        CLOCK,
+        &mut out,
+        &mut undo,
+    );
     printlib::answer(&out, served.number, served.length);
 }

@@ -1,6 +1,7 @@
 // Runs bench cards: a script of requests, one command a line, through the engine; each response or
-// refusal, and bytes of the table, as lines. Assumes nothing; every function is proved safe and
-// ends. What a line says is proved; what is printed is tested, and the call is the engine's.
+// refusal, and bytes of table, output and second buffer, as lines. Assumes nothing; every function
+// is proved safe and ends. What a line says is proved; what is printed is tested, and the call is
+// the engine's.
 ghost use mathlib.Core.Path.{_≡_};
 ghost use Rattle.cardslib.specs.Usual.{usualSetting};
 use commands::Buffer;
@@ -12,17 +13,23 @@ use script::Number;
 use script::Span;
 use table::Layout;
 
-// The most bytes of a request in a script, of the strip and of the output.
+// The most bytes of a request in a script, of the strip, of the output and of the second buffer.
 const REQUEST_ROOM: usize = 8192;
 
 const STRIP_ROOM: usize = 1024;
 
 const OUTPUT_ROOM: usize = 8192;
 
+const SECOND_ROOM: usize = 33792;
+
 // What the output is full of at first.
 const UNTOUCHED: u8 = 255;
 
-// The setting that a blank table of this size starts with: clock 1, and room and strip of theirs.
+// What the second buffer is full of at first.
+const SECOND_UNTOUCHED: u8 = 238;
+
+// The setting that a blank table of this size starts with: clock 1, room and strip of theirs, and
+// as much of the second buffer.
 fn usual(size: usize) -> Setting
     ensures { λ r. ⌜ r ≡ usualSetting size ⌝ }
 {
@@ -31,11 +38,19 @@ fn usual(size: usize) -> Setting
         room: engine::ROOM_LEAST,
         strip: engine::STRIP_SIZE,
         size,
+        undo: size,
     }
 }
 
-// `blank`, `blank COUNT`: the table, the output and the setting as they are at first.
-fn blank(rest: &[u8], table: &mut [u8], out: &mut [u8], setting: Setting) -> Done {
+// `blank`, `blank COUNT`: the table, the output, the second buffer and the setting as they are at
+// first.
+fn blank(
+    rest: &[u8],
+    table: &mut [u8],
+    out: &mut [u8],
+    second: &mut [u8],
+    setting: Setting,
+) -> Done {
     let refused = Done {
         good: false,
         setting,
@@ -50,6 +65,7 @@ fn blank(rest: &[u8], table: &mut [u8], out: &mut [u8], setting: Setting) -> Don
     lent::fill(table, 0);
     lent::blank_over(&mut table[..size], n);
     lent::fill(out, UNTOUCHED);
+    lent::fill(second, SECOND_UNTOUCHED);
     Done {
         good: true,
         setting: usual(size),
@@ -79,7 +95,8 @@ fn put(rest: &[u8], table: &mut [u8]) -> bool {
     true
 }
 
-// `table NAME: OFFSET LENGTH`, `output NAME: OFFSET LENGTH`: bytes of s as a line.
+// `table NAME: OFFSET LENGTH`, `output NAME: OFFSET LENGTH`, `second NAME: OFFSET LENGTH`: bytes of
+// s as a line.
 fn show(rest: &[u8], s: &[u8]) -> bool {
     let stop = lines::name_end(rest);
     let from = lines::past(rest, lines::past(rest, stop));
@@ -100,10 +117,18 @@ fn show(rest: &[u8], s: &[u8]) -> bool {
 
 // Serves a request by the setting, and prints what came of it, or of what more is lent than there
 // is.
-fn answer(request: &[u8], table: &mut [u8], strip: &[u8], out: &mut [u8], s: Setting) {
+fn answer(
+    request: &[u8],
+    table: &mut [u8],
+    strip: &[u8],
+    out: &mut [u8],
+    second: &mut [u8],
+    s: Setting,
+) {
     let size = s.size;
     let given = s.strip;
     let room = s.room;
+    let undo = s.undo;
     if table.len() < size {
         io::write_all(1, b"no such size\n");
         return;
@@ -116,18 +141,30 @@ fn answer(request: &[u8], table: &mut [u8], strip: &[u8], out: &mut [u8], s: Set
         io::write_all(1, b"no such room\n");
         return;
     }
+    if second.len() < undo {
+        io::write_all(1, b"no such undo\n");
+        return;
+    }
     let served = engine::serve(
         request,
         &mut table[..size],
         &strip[..given],
         s.clock,
         &mut out[..room],
+        &mut second[..undo],
     );
     printlib::answer(out, served.number, served.length);
 }
 
 // `request NAME: HEX`: serves these bytes.
-fn request(rest: &[u8], table: &mut [u8], strip: &[u8], out: &mut [u8], setting: Setting) -> bool {
+fn request(
+    rest: &[u8],
+    table: &mut [u8],
+    strip: &[u8],
+    out: &mut [u8],
+    second: &mut [u8],
+    setting: Setting,
+) -> bool {
     let stop = lines::name_end(rest);
     if stop == rest.len() {
         return false;
@@ -138,18 +175,25 @@ fn request(rest: &[u8], table: &mut [u8], strip: &[u8], out: &mut [u8], setting:
         return false;
     };
     printlib::name(&rest[..stop]);
-    answer(&bytes[..n], table, strip, out, setting);
+    answer(&bytes[..n], table, strip, out, second, setting);
     true
 }
 
 // One command carried out.
-fn carry_out(line: &[u8], table: &mut [u8], strip: &[u8], out: &mut [u8], s: Setting) -> Done {
+fn carry_out(
+    line: &[u8],
+    table: &mut [u8],
+    strip: &[u8],
+    out: &mut [u8],
+    second: &mut [u8],
+    s: Setting,
+) -> Done {
     let gap = lines::find(line, b' ');
     let verb = commands::verb_of(&line[..gap]);
     let from = lines::past(line, gap);
     let rest = &line[from..];
     match verb {
-        Verb::Blank => blank(rest, table, out, s),
+        Verb::Blank => blank(rest, table, out, second, s),
         Verb::Put => Done {
             good: put(rest, table),
             setting: s,
@@ -159,7 +203,7 @@ fn carry_out(line: &[u8], table: &mut [u8], strip: &[u8], out: &mut [u8], s: Set
         Verb::Strip => commands::lend(rest, Buffer::Strip, s),
         Verb::Room => commands::lend(rest, Buffer::Output, s),
         Verb::Request => Done {
-            good: request(rest, table, strip, out, s),
+            good: request(rest, table, strip, out, second, s),
             setting: s,
         },
         Verb::Table => Done {
@@ -170,6 +214,11 @@ fn carry_out(line: &[u8], table: &mut [u8], strip: &[u8], out: &mut [u8], s: Set
             good: show(rest, out),
             setting: s,
         },
+        Verb::Undo => commands::lend(rest, Buffer::Second, s),
+        Verb::Second => Done {
+            good: show(rest, second),
+            setting: s,
+        },
         Verb::Unknown => Done {
             good: false,
             setting: s,
@@ -178,11 +227,18 @@ fn carry_out(line: &[u8], table: &mut [u8], strip: &[u8], out: &mut [u8], s: Set
 }
 
 // One line: the setting after it.
-fn one_line(line: &[u8], table: &mut [u8], strip: &[u8], out: &mut [u8], s: Setting) -> Setting {
+fn one_line(
+    line: &[u8],
+    table: &mut [u8],
+    strip: &[u8],
+    out: &mut [u8],
+    second: &mut [u8],
+    s: Setting,
+) -> Setting {
     if lines::is_silent(line) {
         return s;
     }
-    let done = carry_out(line, table, strip, out, s);
+    let done = carry_out(line, table, strip, out, second, s);
     if !done.good {
         printlib::bad_line(line);
     }
@@ -190,12 +246,19 @@ fn one_line(line: &[u8], table: &mut [u8], strip: &[u8], out: &mut [u8], s: Sett
 }
 
 // All lines of a text, from this setting on.
-fn script(text: &[u8], table: &mut [u8], strip: &[u8], out: &mut [u8], first: Setting) {
+fn script(
+    text: &[u8],
+    table: &mut [u8],
+    strip: &[u8],
+    out: &mut [u8],
+    second: &mut [u8],
+    first: Setting,
+) {
     let mut s = first;
     let mut left = text;
     while 0 < left.len() {
         let end = lines::find(left, b'\n');
-        s = one_line(&left[..end], table, strip, out, s);
+        s = one_line(&left[..end], table, strip, out, second, s);
         let from = lines::past(left, end);
         left = &left[from..];
     }
@@ -214,7 +277,14 @@ pub fn run(fd: i32) {
     let mut strip = [0u8; STRIP_ROOM];
     lent::fill_strip(&mut strip);
     let mut out = [0u8; OUTPUT_ROOM];
-    let first = blank(b"", &mut table, &mut out, usual(Layout::SMALL_SIZE));
+    let mut second = [0u8; SECOND_ROOM];
+    let first = blank(
+        b"",
+        &mut table,
+        &mut out,
+        &mut second,
+        usual(Layout::SMALL_SIZE),
+    );
     let s = first.setting;
-    script(&text[..n], &mut table, &strip, &mut out, s);
+    script(&text[..n], &mut table, &strip, &mut out, &mut second, s);
 }

@@ -1,4 +1,4 @@
--- What stands in front of a call: four lengths of four bytes each, and the clock in two's complement. Numbers are big-endian.
+-- What stands in front of a call: four lengths of four bytes each, the clock in two's complement, and the length of the second buffer. Numbers are big-endian.
 -- Assumes nothing.
 use Prim.Native.Nat.{ℕ}
 use mathlib.Core.List.{List}
@@ -14,4 +14,5 @@ headOf s = record {
   strip = fromBe (part s 8 4);
   room = fromBe (part s 12 4);
   clock = toZ w64 (fromBe (part s 16 8));
+  undo = fromBe (part s 24 4);
 }

@@ -8,7 +8,7 @@ ghost use Rattle.octets.specs.Octets.{fromBe, part};
 ghost use Rattle.feedlib.specs.Head.{headOf};
 
 // The bytes of a head.
-const HEAD: usize = 24;
+const HEAD: usize = 28;
 
 // The most that each buffer holds: more than a call takes, so that wrong sizes can be sent.
 const REQUEST_MOST: usize = 9216;
@@ -19,6 +19,8 @@ const STRIP_MOST: usize = 1024;
 
 const OUTPUT_MOST: usize = 9216;
 
+const UNDO_MOST: usize = 33792;
+
 // What stands in front of a call: the lengths of its buffers, and the clock.
 struct Head {
     request: usize,
@@ -26,12 +28,13 @@ struct Head {
     strip: usize,
     room: usize,
     clock: i64,
+    undo: usize,
 }
 
 // The length that stands at this place of a head. `read_head` shows what it asks.
 fn length_at(s: &[u8], at: usize) -> usize
-    requires { ⌜ at ≤ 12 ⌝ }
-    requires { ⌜ length (now s) ≡ 24 ⌝ }
+    requires { ⌜ at ≤ 24 ⌝ }
+    requires { ⌜ length (now s) ≡ 28 ⌝ }
     ensures { λ r. ⌜ r ≡ fromBe (part (now (s .entry)) at 4) ⌝ }
 {
     octets::number_at(s, at, 4) as usize
@@ -39,7 +42,7 @@ fn length_at(s: &[u8], at: usize) -> usize
 
 // A head's parts. `next` shows its size.
 fn read_head(s: &[u8]) -> Head
-    requires { ⌜ length (now s) ≡ 24 ⌝ }
+    requires { ⌜ length (now s) ≡ 28 ⌝ }
     ensures { λ r. ⌜ r ≡ headOf (now (s .entry)) ⌝ }
 {
     Head {
@@ -48,6 +51,7 @@ fn read_head(s: &[u8]) -> Head
         strip: length_at(s, 8),
         room: length_at(s, 12),
         clock: clock::clock_of(octets::number_at(s, 16, 8)),
+        undo: length_at(s, 24),
     }
 }
 
@@ -55,7 +59,7 @@ fn read_head(s: &[u8]) -> Head
 fn too_large() -> bool {
     io::write_all(
         2,
-        b"feed: a length is above what is held: 9216 for request and output, 33792 for the table, 1024 for the strip\n",
+        b"feed: a length is above what is held: 9216 for request and output, 33792 for table and second buffer, 1024 for the strip\n",
     );
     false
 }
@@ -70,27 +74,26 @@ fn take(from: i32, s: &mut [u8]) -> bool {
 }
 
 // Writes what a call left; if the output takes no more, says so.
-fn give(to: i32, number: u32, used: usize, table: &[u8], out: &[u8]) -> bool {
+fn give(to: i32, number: u32, used: usize, table: &[u8], out: &[u8], undo: &[u8]) -> bool {
     let mut front = [0u8; 12];
     octets::put(&mut front, 0, 4, number as u64);
     octets::put(&mut front, 4, 8, used as u64);
-    if io::write_all(to, &front) && io::write_all(to, table) && io::write_all(to, out) {
+    let first = io::write_all(to, &front) && io::write_all(to, table);
+    if first && io::write_all(to, out) && io::write_all(to, undo) {
         return true;
     }
     io::write_all(2, b"feed: the output takes no more\n");
     false
 }
 
-// One call in buffers of its sizes: the bytes read, the engine called, what it left written.
-// Answers whether to go on.
-fn call(
+// Reads a call's bytes, buffer by buffer. Answers whether they were all there.
+fn take_all(
     from: i32,
-    to: i32,
-    head: Head,
     request: &mut [u8],
     table: &mut [u8],
     strip: &mut [u8],
     out: &mut [u8],
+    undo: &mut [u8],
 ) -> bool {
     if !take(from, request) {
         return false;
@@ -104,8 +107,26 @@ fn call(
     if !take(from, out) {
         return false;
     }
-    let served = engine::serve(request, table, strip, head.clock, out);
-    give(to, served.number, served.length, table, out)
+    take(from, undo)
+}
+
+// One call in buffers of its sizes: the bytes read, the engine called, what it left written.
+// Answers whether to go on.
+fn call(
+    from: i32,
+    to: i32,
+    head: Head,
+    request: &mut [u8],
+    table: &mut [u8],
+    strip: &mut [u8],
+    out: &mut [u8],
+    undo: &mut [u8],
+) -> bool {
+    if !take_all(from, request, table, strip, out, undo) {
+        return false;
+    }
+    let served = engine::serve(request, table, strip, head.clock, out, undo);
+    give(to, served.number, served.length, table, out, undo)
 }
 
 // The call that a head stands in front of. Answers whether to go on.
@@ -114,6 +135,7 @@ fn headed(from: i32, to: i32, head: Head) -> bool {
     let t = head.table;
     let s = head.strip;
     let o = head.room;
+    let u = head.undo;
     if REQUEST_MOST < r {
         return too_large();
     }
@@ -126,10 +148,14 @@ fn headed(from: i32, to: i32, head: Head) -> bool {
     if OUTPUT_MOST < o {
         return too_large();
     }
+    if UNDO_MOST < u {
+        return too_large();
+    }
     let mut request = [0u8; REQUEST_MOST];
     let mut table = [0u8; TABLE_MOST];
     let mut strip = [0u8; STRIP_MOST];
     let mut out = [0u8; OUTPUT_MOST];
+    let mut undo = [0u8; UNDO_MOST];
     call(
         from,
         to,
@@ -138,6 +164,7 @@ fn headed(from: i32, to: i32, head: Head) -> bool {
         &mut table[..t],
         &mut strip[..s],
         &mut out[..o],
+        &mut undo[..u],
     )
 }
 

@@ -34,6 +34,15 @@ write-all-requires-3 c κs = search needs
 returns-3 : tie.Need-returns-3
 returns-3 c = search needs
 
+slice-aggregate-write-all-4 : tie.Need-slice-aggregate-write-all-4
+slice-aggregate-write-all-4 c = search needs
+
+write-all-requires-4 : tie.Need-write-all-requires-4
+write-all-requires-4 c κs = search needs
+
+returns-4 : tie.Need-returns-4
+returns-4 c = search needs
+
 slice-relend-prefix-serve : tie.Need-slice-relend-prefix-serve
 slice-relend-prefix-serve c = search needs
 
@@ -49,6 +58,12 @@ slice-relend-prefix-serve-2 c = search needs
 slice-aggregate-serve-3 : tie.Need-slice-aggregate-serve-3
 slice-aggregate-serve-3 c = sym (length-take-le _ _ (omega arith))
 
+slice-relend-prefix-serve-3 : tie.Need-slice-relend-prefix-serve-3
+slice-relend-prefix-serve-3 c = search needs
+
+slice-aggregate-serve-4 : tie.Need-slice-aggregate-serve-4
+slice-aggregate-serve-4 c = sym (length-take-le _ _ (omega arith))
+
 serve-requires : tie.Need-serve-requires
 serve-requires c κs = search needs
 
@@ -61,8 +76,11 @@ same-length c = search needs
 same-length-2 : tie.Need-same-length-2
 same-length-2 c = search needs
 
-returns-4 : tie.Need-returns-4
-returns-4 c = search needs
+same-length-3 : tie.Need-same-length-3
+same-length-3 c = search needs
+
+returns-5 : tie.Need-returns-5
+returns-5 c = search needs
 
 pub answer-spec : {M : Type 1} → statement M
 answer-spec =
@@ -77,13 +95,19 @@ answer-spec =
     slice-aggregate-write-all-3
     write-all-requires-3
     returns-3
+    slice-aggregate-write-all-4
+    write-all-requires-4
+    returns-4
     slice-relend-prefix-serve
     slice-aggregate-serve
     slice-aggregate-serve-2
     slice-relend-prefix-serve-2
     slice-aggregate-serve-3
+    slice-relend-prefix-serve-3
+    slice-aggregate-serve-4
     serve-requires
     answer-requires
     same-length
     same-length-2
-    returns-4)
+    same-length-3
+    returns-5)

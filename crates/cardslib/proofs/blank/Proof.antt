@@ -47,6 +47,9 @@ blank-over-requires c κs =
 fill-requires-2 : tie.Need-fill-requires-2
 fill-requires-2 c κs = search needs
 
+fill-requires-3 : tie.Need-fill-requires-3
+fill-requires-3 c κs = search needs
+
 usual-requires : tie.Need-usual-requires
 usual-requires c κs = search needs
 
@@ -55,6 +58,9 @@ same-length c = search needs
 
 same-length-2 : tie.Need-same-length-2
 same-length-2 c = search needs
+
+same-length-3 : tie.Need-same-length-3
+same-length-3 c = search needs
 
 returns-3 : tie.Need-returns-3
 returns-3 c = search needs
@@ -74,7 +80,9 @@ blank-spec =
     slice-aggregate-blank-over
     blank-over-requires
     fill-requires-2
+    fill-requires-3
     usual-requires
     same-length
     same-length-2
+    same-length-3
     returns-3)

@@ -85,17 +85,32 @@ show-requires-2 c κs = search needs
 enum-told-10 : tie.Need-enum-told-10
 enum-told-10 c = search needs
 
+lend-requires-4 : tie.Need-lend-requires-4
+lend-requires-4 c κs = search needs
+
+enum-told-11 : tie.Need-enum-told-11
+enum-told-11 c = search needs
+
+show-requires-3 : tie.Need-show-requires-3
+show-requires-3 c κs = search needs
+
+enum-told-12 : tie.Need-enum-told-12
+enum-told-12 c = search needs
+
 same-length : tie.Need-same-length
 same-length c = search needs
 
 same-length-2 : tie.Need-same-length-2
 same-length-2 c = search needs
 
+same-length-3 : tie.Need-same-length-3
+same-length-3 c = search needs
+
 returns : tie.Need-returns
 returns c = search needs
 
-same-length-3 : tie.Need-same-length-3
-same-length-3 c = search needs
+same-length-4 : tie.Need-same-length-4
+same-length-4 c = search needs
 
 returns-2 : tie.Need-returns-2
 returns-2 c = search needs
@@ -112,29 +127,41 @@ returns-5 c = search needs
 returns-6 : tie.Need-returns-6
 returns-6 c = search needs
 
-same-length-4 : tie.Need-same-length-4
-same-length-4 c = search needs
-
 same-length-5 : tie.Need-same-length-5
 same-length-5 c = search needs
-
-returns-7 : tie.Need-returns-7
-returns-7 c = search needs
 
 same-length-6 : tie.Need-same-length-6
 same-length-6 c = search needs
 
+same-length-7 : tie.Need-same-length-7
+same-length-7 c = search needs
+
+returns-7 : tie.Need-returns-7
+returns-7 c = search needs
+
+same-length-8 : tie.Need-same-length-8
+same-length-8 c = search needs
+
 returns-8 : tie.Need-returns-8
 returns-8 c = search needs
 
-same-length-7 : tie.Need-same-length-7
-same-length-7 c = search needs
+same-length-9 : tie.Need-same-length-9
+same-length-9 c = search needs
 
 returns-9 : tie.Need-returns-9
 returns-9 c = search needs
 
 returns-10 : tie.Need-returns-10
 returns-10 c = search needs
+
+same-length-10 : tie.Need-same-length-10
+same-length-10 c = search needs
+
+returns-11 : tie.Need-returns-11
+returns-11 c = search needs
+
+returns-12 : tie.Need-returns-12
+returns-12 c = search needs
 
 pub carry-out-spec : {M : Type 1} → statement M
 carry-out-spec =
@@ -166,20 +193,29 @@ carry-out-spec =
     enum-told-9
     show-requires-2
     enum-told-10
+    lend-requires-4
+    enum-told-11
+    show-requires-3
+    enum-told-12
     same-length
     same-length-2
-    returns
     same-length-3
+    returns
+    same-length-4
     returns-2
     returns-3
     returns-4
     returns-5
     returns-6
-    same-length-4
     same-length-5
-    returns-7
     same-length-6
-    returns-8
     same-length-7
+    returns-7
+    same-length-8
+    returns-8
+    same-length-9
     returns-9
-    returns-10)
+    returns-10
+    same-length-10
+    returns-11
+    returns-12)

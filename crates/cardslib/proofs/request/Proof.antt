@@ -69,6 +69,9 @@ same-length c = search needs
 same-length-2 : tie.Need-same-length-2
 same-length-2 c = search needs
 
+same-length-3 : tie.Need-same-length-3
+same-length-3 c = search needs
+
 returns-3 : tie.Need-returns-3
 returns-3 c = search needs
 
@@ -94,4 +97,5 @@ request-spec =
     answer-requires
     same-length
     same-length-2
+    same-length-3
     returns-3)

@@ -9,10 +9,11 @@ use Rattle.cardslib.proofs.script.Statement.{statement}
 use Rattle.cardslib.proofs.script.Tie as tie
 
 abbrev Inv-loop : tie.InvT-loop
-Inv-loop text table₀ strip out₀ first left₀ table out s left = (length table ≡ length table₀) × (length out ≡ length out₀)
+Inv-loop text table₀ strip out₀ second₀ first left₀ table out second s left =
+    (length table ≡ length table₀) × (length out ≡ length out₀) × (length second ≡ length second₀)
 
 abbrev μ-loop : tie.MeasureT-loop
-μ-loop text table₀ strip out₀ first left₀ table out s left = length left
+μ-loop text table₀ strip out₀ second₀ first left₀ table out second s left = length left
 
 loop-holds : tie.Need-loop-holds Inv-loop μ-loop
 loop-holds c = search needs
@@ -50,6 +51,9 @@ same-length c = search needs
 same-length-2 : tie.Need-same-length-2 Inv-loop μ-loop
 same-length-2 c = search needs
 
+same-length-3 : tie.Need-same-length-3 Inv-loop μ-loop
+same-length-3 c = search needs
+
 returns : tie.Need-returns Inv-loop μ-loop
 returns c = search needs
 
@@ -71,4 +75,5 @@ script-spec =
     loop-again
     same-length
     same-length-2
+    same-length-3
     returns)

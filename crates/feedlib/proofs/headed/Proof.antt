@@ -31,6 +31,12 @@ too-large-requires-4 c κs = search needs
 returns-4 : tie.Need-returns-4
 returns-4 c = search needs
 
+too-large-requires-5 : tie.Need-too-large-requires-5
+too-large-requires-5 c κs = search needs
+
+returns-5 : tie.Need-returns-5
+returns-5 c = search needs
+
 array-borrow-prefix-request : tie.Need-array-borrow-prefix-request
 array-borrow-prefix-request c = search needs
 
@@ -55,11 +61,17 @@ array-borrow-prefix-out c = search needs
 slice-aggregate-call-4 : tie.Need-slice-aggregate-call-4
 slice-aggregate-call-4 c = sym (length-take-le _ _ (omega arith))
 
+array-borrow-prefix-undo : tie.Need-array-borrow-prefix-undo
+array-borrow-prefix-undo c = search needs
+
+slice-aggregate-call-5 : tie.Need-slice-aggregate-call-5
+slice-aggregate-call-5 c = sym (length-take-le _ _ (omega arith))
+
 call-requires : tie.Need-call-requires
 call-requires c κs = search needs
 
-returns-5 : tie.Need-returns-5
-returns-5 c = search needs
+returns-6 : tie.Need-returns-6
+returns-6 c = search needs
 
 pub headed-spec : {M : Type 1} → statement M
 headed-spec =
@@ -73,6 +85,8 @@ headed-spec =
     returns-3
     too-large-requires-4
     returns-4
+    too-large-requires-5
+    returns-5
     array-borrow-prefix-request
     slice-aggregate-call
     array-borrow-prefix-table
@@ -81,5 +95,7 @@ headed-spec =
     slice-aggregate-call-3
     array-borrow-prefix-out
     slice-aggregate-call-4
+    array-borrow-prefix-undo
+    slice-aggregate-call-5
     call-requires
-    returns-5)
+    returns-6)

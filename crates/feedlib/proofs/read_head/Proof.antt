@@ -30,17 +30,21 @@ number-at-requires c κs = search needs
 clock-of-requires : tie.Need-clock-of-requires
 clock-of-requires c κs = search needs
 
+length-at-requires-5 : tie.Need-length-at-requires-5
+length-at-requires-5 c κs = search needs
+
 returns : tie.Need-returns
 unfolding headOf
 returns c =
-    let at-bits = c .before in
+    let at-clock = c .before in
+    let at-bits = at-clock .before in
     let at-room = at-bits .before in
     let at-strip = at-room .before in
     let s = at-strip .before .before .before .before .args .s .now in
     let bits = at-bits .number-at .ensures in
     let kept = ofZ-toZ {w = w64} {n = at-bits .number-at .result} (record { fits = omega (arith, bits .1) }) in
-    let clock : toZ w64 (ofZ w64 (c .clock-of .result)) ≡ toZ w64 (fromBe (part s 16 8)) = ap (λ (z : ℤ). toZ w64 (ofZ w64 z)) (c .clock-of .ensures) ∙ ap (toZ w64) (kept ∙ bits .0) in
-    simp (at-strip .before .before .length-at .ensures, at-strip .before .length-at2 .ensures, at-strip .length-at3 .ensures, at-room .length-at4 .ensures, clock)
+    let clock : toZ w64 (ofZ w64 (at-clock .clock-of .result)) ≡ toZ w64 (fromBe (part s 16 8)) = ap (λ (z : ℤ). toZ w64 (ofZ w64 z)) (at-clock .clock-of .ensures) ∙ ap (toZ w64) (kept ∙ bits .0) in
+    simp (at-strip .before .before .length-at .ensures, at-strip .before .length-at2 .ensures, at-strip .length-at3 .ensures, at-room .length-at4 .ensures, clock, c .length-at5 .ensures)
 
 pub read-head-spec : {M : Type 1} → statement M
 read-head-spec =
@@ -52,4 +56,5 @@ read-head-spec =
     length-at-requires-4
     number-at-requires
     clock-of-requires
+    length-at-requires-5
     returns)
