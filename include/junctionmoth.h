@@ -41,8 +41,9 @@ enum junctionmoth_refusal {
     JUNCTIONMOTH_REFUSED_FRAME = 6,     /* message frame wrong */
     JUNCTIONMOTH_REFUSED_VERSION = 7,   /* protocol version not 2.1 */
     JUNCTIONMOTH_REFUSED_COUNT = 8,     /* Batch Count not 1 to 16, or not the number of items */
-    JUNCTIONMOTH_REFUSED_OPTION = 9,    /* Batch Error Continuation Option neither 1 nor 2 */
-    JUNCTIONMOTH_REFUSED_CLOCK = 10     /* clock below 1 */
+    JUNCTIONMOTH_REFUSED_OPTION = 9,    /* Batch Error Continuation Option none of 1, 2 and 3 */
+    JUNCTIONMOTH_REFUSED_CLOCK = 10,    /* clock below 1 */
+    JUNCTIONMOTH_REFUSED_UNDO = 11      /* second buffer not of the table's size */
 };
 
 /* C99's restrict; C++ has none. */
@@ -109,16 +110,33 @@ static inline void junctionmoth_blank(uint8_t *table, uint32_t count)
  *     the host sends it over a channel that keeps them, and wipes out and its own copies afterwards.
  * response_len
  *     Set to the length of the response, or to 0. Never NULL.
+ * undo, undo_len
+ *     The second buffer. It has the table's size, table_len, and has to be lent with every request,
+ *     whatever its Batch Error Continuation Option: a wrong size is refused. What it holds before the
+ *     call plays no part. An accepted request with option 3 leaves the table in it that the first item
+ *     met, the clock stored and what is due by it done, whether an item failed or not. No other call
+ *     touches it. It is then a copy of the whole table, with the bytes of every key: the host guards
+ *     and wipes it as it does the table.
+ *
+ * The Batch Error Continuation Option of a request says what comes of a batch of which an item fails.
+ * Option 1 (Continue) goes on with the next item. Option 2 (Stop), which also holds where there is no
+ * option, ends the batch there, and what was done before it stays. Option 3 (Undo) ends it there too,
+ * and the table is as the first item met it, the last serial issued among the rest: the items before
+ * the one that failed are answered with status 3 (Operation Undone) and no payload, also those that
+ * only look, and a serial that one of them had issued goes to the next new key. The latest clock and
+ * the states that dates change stay. If no item fails, 3 does what 2 does.
  *
  * Returns JUNCTIONMOTH_ANSWERED if the request was answered: the response is the first *response_len
  * bytes of out, the bytes past it are as they were, and the table is changed as the answers say and by
  * the clock: the latest clock, and the states that dates change. Store the table before the response
- * is sent, also when every item failed. Otherwise returns a refusal: *response_len is 0, and table
- * and out are as they were, byte for byte.
+ * is sent, also when every item failed or the batch was undone, since the clock is in it. It is table
+ * that is stored, and never undo: that is the table before the items, and who stores it takes back
+ * what was answered. Otherwise returns a refusal: *response_len is 0, and table, out and undo are as
+ * they were, byte for byte.
  *
  * Any lengths may be given; each has to be that of its buffer. A buffer of length 0 may be NULL: the
  * call looks at no byte of it. The buffers are lent for the time of the call and must be apart: no two
- * of request, table, strip, out and response_len may overlap.
+ * of request, table, strip, out, response_len and undo may overlap.
  *
  * It always returns. It allocates nothing, needs memcpy and memset and nothing else of the C library,
  * and keeps nothing between calls, so threads may call it at the same time on different tables. It
@@ -130,7 +148,8 @@ uint32_t junctionmoth_serve(const uint8_t *JUNCTIONMOTH_RESTRICT request, size_t
                             const uint8_t *JUNCTIONMOTH_RESTRICT strip, size_t strip_len,
                             int64_t clock,
                             uint8_t *JUNCTIONMOTH_RESTRICT out, size_t out_len,
-                            size_t *JUNCTIONMOTH_RESTRICT response_len);
+                            size_t *JUNCTIONMOTH_RESTRICT response_len,
+                            uint8_t *JUNCTIONMOTH_RESTRICT undo, size_t undo_len);
 
 #ifdef __cplusplus
 }

@@ -18,34 +18,41 @@ const TTLV_ANSWERS: &str = include_str!("../../crates/cards_ttlv/stdout");
 const ROOM_MOST: usize = 8192;
 /// Bytes of strip that there are to lend.
 const STRIP_MOST: usize = 1024;
+/// Bytes of second buffer that there are to lend.
+const SECOND_MOST: usize = 33792;
 /// Bytes of the longest request that a line has.
 const REQUEST_MOST: usize = 8192;
 
-/// How a request is served: the clock, and how many bytes of output, strip and table are lent, of all that there are.
+/// How a request is served: the clock, and how many bytes of output, strip, table and second buffer are lent, of all that
+/// there are.
 struct Setting {
     clock: i64,
     room: usize,
     strip: usize,
     size: usize,
+    undo: usize,
 }
 
-/// The bench: an engine, the table, the output, the setting, and what occurred so far.
+/// The bench: an engine, the table, the output, the second buffer, the setting, and what occurred so far.
 struct Bench {
     engine: Engine,
     table: Vec<u8>,
     out: Vec<u8>,
+    second: Vec<u8>,
     setting: Setting,
     coverage: Coverage,
 }
 
 fn usual(count: usize) -> Setting {
-    Setting { clock: 1, room: ROOM, strip: STRIP, size: table_size(count) }
+    let size = table_size(count);
+    Setting { clock: 1, room: ROOM, strip: STRIP, size, undo: size }
 }
 
 impl Bench {
     fn new(engine: Engine) -> Bench {
-        let (table, out) = (Vec::new(), vec![0xFF; ROOM_MOST]);
-        let mut bench = Bench { engine, table, out, setting: usual(SMALL_COUNT), coverage: Coverage::default() };
+        let (table, out, second) = (Vec::new(), vec![0xFF; ROOM_MOST], vec![0xEE; SECOND_MOST]);
+        let (setting, coverage) = (usual(SMALL_COUNT), Coverage::default());
+        let mut bench = Bench { engine, table, out, second, setting, coverage };
         bench.blank(SMALL_COUNT);
         bench
     }
@@ -69,9 +76,11 @@ impl Bench {
             "room" => self.setting.room = number(rest)?,
             "strip" => self.setting.strip = number(rest)?,
             "size" => self.setting.size = number(rest)?,
+            "undo" => self.setting.undo = number(rest)?,
             "request" => return self.request(rest),
             "table" => return show(rest, &self.table),
             "output" => return show(rest, &self.out),
+            "second" => return show(rest, &self.second),
             _ => return None,
         }
         Some(String::new())
@@ -82,6 +91,7 @@ impl Bench {
         self.table = blank_table(count);
         self.table.resize(LARGE_SIZE, 0);
         self.out.fill(0xFF);
+        self.second.fill(0xEE);
         self.setting = usual(count);
     }
 
@@ -101,18 +111,23 @@ impl Bench {
 
     /// Serves a request by the setting: the response, or the refusal, or what there is too little of.
     fn serve(&mut self, request: Vec<u8>) -> String {
-        let Setting { clock, room, strip, size } = self.setting;
-        for (name, lent, most) in [("size", size, LARGE_SIZE), ("strip", strip, STRIP_MOST), ("room", room, ROOM_MOST)]
-        {
+        let Setting { clock, room, strip, size, undo } = self.setting;
+        for (name, lent, most) in [
+            ("size", size, LARGE_SIZE),
+            ("strip", strip, STRIP_MOST),
+            ("room", room, ROOM_MOST),
+            ("undo", undo, SECOND_MOST),
+        ] {
             if lent > most {
                 return format!("no such {name}");
             }
         }
         let fresh: Vec<u8> = (0..strip).map(|at| at as u8).collect();
-        let case = Case { request, table: self.table[..size].to_vec(), fresh, clock, room };
-        let (table, out) = (&mut self.table[..size], &mut self.out[..room]);
-        let served = (self.engine)(&case.request, table, &case.fresh, clock, out);
-        let effect = Effect { served, table: table.to_vec(), out: out.to_vec() };
+        let second = self.second[..undo].to_vec();
+        let case = Case { request, table: self.table[..size].to_vec(), fresh, clock, room, second };
+        let (table, out, second) = (&mut self.table[..size], &mut self.out[..room], &mut self.second[..undo]);
+        let served = (self.engine)(&case.request, table, &case.fresh, clock, out, second);
+        let effect = Effect { served, table: table.to_vec(), out: out.to_vec(), undo: second.to_vec() };
         self.coverage.count(&case, &effect);
         match served {
             Ok(length) => hex(&effect.out[..length]),

@@ -53,6 +53,7 @@ fn name(refusal: Refusal) -> &'static str {
         Refusal::Count => "JUNCTIONMOTH_REFUSED_COUNT",
         Refusal::Continuation => "JUNCTIONMOTH_REFUSED_OPTION",
         Refusal::Clock => "JUNCTIONMOTH_REFUSED_CLOCK",
+        Refusal::Undo => "JUNCTIONMOTH_REFUSED_UNDO",
     }
 }
 

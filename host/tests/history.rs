@@ -1,5 +1,6 @@
 //! Runs of requests on one table from blank on: the third demand, the clock, and names, kept by a ledger beside the box.
-//! The ledger reads requests and responses only; the table is looked at to compare.
+//! The ledger reads requests and responses only; the table is looked at to compare. What an undone batch did counts as
+//! never made, and a serial that it had issued may be issued again.
 
 mod support;
 
@@ -16,7 +17,7 @@ use std::collections::{BTreeMap, BTreeSet};
 use support::holders::Holders;
 use support::names::near;
 use support::rng::Rng;
-use support::{engines, requests, Case, Effect};
+use support::{engines, requests, undo, Case, Effect};
 
 /// What the ledger knows of an identifier; a date of 0 is not set.
 #[derive(Clone, Copy)]
@@ -61,12 +62,20 @@ struct Ledger {
     moved: u64,
     begun: u64,
     ended: u64,
+    /// Items by their operation that succeeded and were undone.
+    undone: BTreeMap<u32, u64>,
+    /// Serials that an undone item had issued, and how many of them were issued again.
+    taken_back: BTreeSet<u32>,
+    again: u64,
 }
 
 impl Ledger {
-    /// Enters the clock and the successful items of an answered request.
+    /// Enters the clock and the successful items of an answered request; of an undone one the clock alone.
     fn enter(&mut self, clock: i64, request: &[u8], response: &[u8]) {
         self.largest_clock = self.largest_clock.max(clock);
+        if undo::is_undone(request, response) {
+            return self.enter_undone(request, response);
+        }
         for event in self.holders.follow(request, response).events {
             *self.events.entry(event).or_default() += 1;
         }
@@ -87,6 +96,21 @@ impl Ledger {
                 continue;
             }
             self.enter_success(&order, named(payload).expect("an identifier"), &mut placeholder);
+        }
+    }
+
+    /// Counts the items of an undone batch that had succeeded. Each new key had the serial behind the last that stands.
+    fn enter_undone(&mut self, request: &[u8], response: &[u8]) {
+        let asked = frame::read(&ttlv::read(request).expect("read")).expect("framed");
+        let mut last = self.issued.last_key_value().map_or(0, |(&serial, _)| serial);
+        for (item, status) in asked.items.iter().zip(undo::statuses(response)) {
+            if status == 3 {
+                *self.undone.entry(item.operation).or_default() += 1;
+            }
+            if status == 3 && [CREATE, REKEY].contains(&item.operation) {
+                last += 1;
+                self.taken_back.insert(last);
+            }
         }
     }
 
@@ -168,6 +192,7 @@ impl Ledger {
 
     fn issue(&mut self, serial: u32, new: Issued) {
         assert!(self.issued.insert(serial, new).is_none(), "issued twice");
+        self.again += u64::from(self.taken_back.remove(&serial));
     }
 
     /// For every record that stands, granted and left make the total, and the dates are those that were set; one that
@@ -259,7 +284,8 @@ fn next_request(rng: &mut Rng, table: &Table, names: &BTreeSet<String>) -> Vec<u
     let mut bytes = match rng.below(24) {
         0..=1 => requests::edited(rng, table).encode(),
         2..=3 => requests::wrong_numbers(rng, table).encode(),
-        4..=5 => requests::creations(rng, table).encode(),
+        4 => requests::creations(rng, table).encode(),
+        5 => requests::all_or_none(rng, table).encode(),
         6 => requests::renewals(rng, table).encode(),
         7 => gets_of_destroyed(table).encode(),
         8..=9 => locates(rng, names).encode(),
@@ -347,6 +373,8 @@ fn grants_are_counted_destroyed_keys_stay_so_and_names_stand_once() {
     let (mut moved, mut begun, mut ended) = (0, 0, 0);
     let mut events: BTreeMap<&str, u64> = BTreeMap::new();
     let (mut given, mut gone) = (0, 0);
+    let mut undone: BTreeMap<u32, u64> = BTreeMap::new();
+    let mut again = 0;
     for seed in 0..200 {
         let (ledger, table) = run(seed, SMALL_COUNT, 100);
         grants += ledger.grants;
@@ -358,6 +386,10 @@ fn grants_are_counted_destroyed_keys_stay_so_and_names_stand_once() {
         for (event, times) in ledger.events {
             *events.entry(event).or_default() += times;
         }
+        for (operation, times) in ledger.undone {
+            *undone.entry(operation).or_default() += times;
+        }
+        again += ledger.again;
         given += ledger.names.len();
         gone += ledger.names.iter().filter(|name| ledger.holders.holder(name.as_bytes()).is_none()).count();
         full += u32::from(table.standing().count() == SMALL_COUNT);
@@ -373,6 +405,8 @@ fn grants_are_counted_destroyed_keys_stay_so_and_names_stand_once() {
     assert!(moved > 100 && begun > 100 && ended > 100);
     println!("{given} names were given, of which {gone} were free again at the end");
     assert!(given > 100 && gone > 100);
+    println!("items undone, by operation: {undone:?}; {again} serials of undone items were issued again");
+    assert!(undone.len() == 9 && undone.values().all(|&times| times > 20) && again > 100);
     for (event, least) in NAMES {
         let times = events.get(event).copied().unwrap_or(0);
         println!("{times:>10}  {event}");

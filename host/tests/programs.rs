@@ -133,7 +133,8 @@ fn bench_prints_every_refusal_that_a_request_can_have() {
         ("version 3.1", 7, header_of((3, 1), None, 1)),
         ("count 2 for one item", 8, header_of((2, 1), None, 2)),
         ("17 items", 8, request(None, vec![create_item(); 17]).encode()),
-        ("option 3", 9, header_of((2, 1), Some(3), 1)),
+        ("option 0", 9, header_of((2, 1), Some(0), 1)),
+        ("option 4", 9, header_of((2, 1), Some(4), 1)),
     ];
     for (case, refusal, input) in cases {
         let taken = input.len().min(REQUEST + 1) as u64;
@@ -150,9 +151,14 @@ fn bench_prints_responses_in_hex() {
     let named = || item(0x01, None, create_with(create(128, 4, None), name("Förderband")));
     let named =
         request(Some(1), vec![named(), named(), item(0x08, None, location("Förderband")), item(0x0B, None, vec![])]);
-    for (case, message) in
-        [("16 items", longest), ("16 items that fail", failed), ("other letters", foreign), ("a name", named)]
-    {
+    let undone = request(Some(3), vec![create_item(), item(0x12, None, vec![]), item(0x14, None, target(Some("")))]);
+    for (case, message) in [
+        ("16 items", longest),
+        ("16 items that fail", failed),
+        ("other letters", foreign),
+        ("a name", named),
+        ("an undone batch", undone),
+    ] {
         let input = message.encode();
         let effect = Case::new(input.clone(), blank_table(SMALL_COUNT)).run(model::serve);
         let response = hex(&effect.out[..effect.served.expect("an answer")]);

@@ -23,7 +23,7 @@ returns c = search needs
 size-requires : tie.Need-size-requires
 size-requires c κs =
     let at-count = c .before .before .before in
-    let rest = at-count .before .before .before .before .args .rest .now in
+    let rest = at-count .before .before .before .before .before .args .rest .now in
     let most = places-most rest (sym (at-count .places-in .ensures) ∙ c .before .n .given .1) in
     omega arith
 
