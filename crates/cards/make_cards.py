@@ -122,6 +122,7 @@ DESTROY = 0x14
 
 CONTINUE = 1
 STOP = 2
+UNDO = 3
 
 NOT_SUPPORTED = 0x05
 INVALID_FIELD = 0x07
@@ -258,6 +259,11 @@ def done(operation, *payload, id=None):
 
 def failed(operation, reason, id=None):
     return item_of(operation, id, enumeration(RESULT_STATUS, 1), enumeration(RESULT_REASON, reason))
+
+
+def undone(operation, id=None):
+    """An item that had succeeded in a batch of which a later one failed."""
+    return item_of(operation, id, enumeration(RESULT_STATUS, 3))
 
 
 def created(name, id=None):
@@ -417,6 +423,8 @@ PRINTED_KEY = unhex(
     "42002805 00000004 00000003 00000000 42002A02 00000004 00000080 00000000"
 )
 PRINTED_NAME = unhex("42005301 00000020 42005507 00000004 70756D70 00000000 42005405 00000004 00000001 00000000")
+# an undone Activate without ID: the whole item
+PRINTED_UNDONE = unhex("42000F01 00000020 42005C05 00000004 00000012 00000000 42007F05 00000004 00000003 00000000")
 PRINTED_OFFSET = unhex("4200580A 00000004 000D2F00 00000000")
 
 
@@ -427,6 +435,7 @@ def check_builders():
     assert response(failed(CREATE, INVALID_FIELD), failed(ACTIVATE, OBJECT_NOT_FOUND)) == PRINTED_BAD_CREATE
     assert called("pump") == PRINTED_NAME
     assert offset(864000) == PRINTED_OFFSET
+    assert undone(ACTIVATE) == PRINTED_UNDONE and len(PRINTED_UNDONE) == 40 and len(undone(ACTIVATE, id=bytes(16))) == 64
     # sizes of answers with an ID of 16 bytes
     id = bytes(16)
     full = shown("00000002", 1, limit=(5, 5, 1), replaced="00000001", replacement="00000003", id=id)
@@ -505,6 +514,12 @@ class Script:
         """These bytes have to stand in the output."""
         self.name(name)
         self.say(f"output {name}: {at} {len(octets)}")
+        self.expect(name, octets)
+
+    def second(self, name, at, octets):
+        """These bytes have to stand in the second buffer."""
+        self.name(name)
+        self.say(f"second {name}: {at} {len(octets)}")
         self.expect(name, octets)
 
     def refused(self, name, octets, number):
@@ -1294,7 +1309,7 @@ def cards_of_clocks_that_are_not_stored(s):
     s.about("L3: a refused request stores no clock and makes no due change; an accepted one of which every item fails does both.")
     dated_keys(s, 100, (1, 500), (2, 50, 500))
     s.say("clock 500")
-    s.refused("refusal 9 at clock 500", request(attributes(), option=3), 9)
+    s.refused("refusal 9 at clock 500", request(attributes(), option=4), 9)
     s.table("lead and lines after refusal 9 at clock 500", 0, lead(2, latest=100) + in_states(1, 2))
     failures = [(attributes(), failed(GET_ATTRIBUTES, OBJECT_NOT_FOUND)), (create(bits=129), failed(CREATE, INVALID_FIELD))]
     s.card("every item fails at clock 500", *failures, option=CONTINUE, clock=500)
@@ -2413,6 +2428,7 @@ def cards_of_place_counts(s):
     for count in (SMALL, LARGE):
         s.put(PLACE_COUNT, count.to_bytes(4, "big"))
         s.say(f"size {size_of(count)}")
+        s.say(f"undo {size_of(count)}")
         s.card(f"L7 {count} places in {size_of(count)} bytes", nothing)
 
 
@@ -2508,6 +2524,368 @@ def cards_of_due_changes_in_a_large_table(s):
     s.say("blank 64")
     s.table("L7 lead of a blank table of 64 places", 0, lead(0, latest=0))
     s.table("L7 bytes behind it, where the body of place 64 was", s.body_at(64), bytes(BODY_SIZE))
+
+
+# ---- L8: undo
+
+LOST = (activate("00000000"), failed(ACTIVATE, OBJECT_NOT_FOUND))  # an item that fails on every table
+FRESH = b"\xEE"  # what the second buffer is full of at first
+FRESH_OUTPUT = b"\xFF" * 64
+
+# key 1 Pre-Active; key 2 Active, with a total of 100 and a name; keys 3, 4 and 5 Deactivated, Compromised and Destroyed; a free place
+UNDO_LINES = line(1, 1) + line(2, 2, 1) + line(3, 3) + line(4, 4) + line(5, 5) + bytes(16)
+UNDO_BODIES = (
+    body(material=material(1)) + body(100, 100, material=material(2), letters="pump") + body(material=material(3)) + body(material=material(4)) + body() + bytes(BODY_SIZE)
+)
+
+
+def keys_to_undo(s, places=SMALL):
+    s.blank(places)
+    s.put(0, lead(5, places=places)[:4])
+    s.put(line_at(0), UNDO_LINES)
+    s.put(s.body_at(0), UNDO_BODIES)
+
+
+def as_before(s, name, latest=1):
+    """Table and second buffer are both those that the first item met."""
+    for view, where in [(s.table, "table"), (s.second, "second buffer")]:
+        view(f"{name}, lead and lines of the {where}", 0, lead(5, latest, s.places) + UNDO_LINES)
+        view(f"{name}, bodies of the {where}", s.body_at(0), UNDO_BODIES)
+
+
+def cards_of_undone_items(s):
+    s.about(
+        "L8: option 3: if any item fails, the table after the request is the table before it. What had succeeded carries status 3 and no payload, whatever its",
+        "operation, and the second buffer holds the table before the first item. Each operation, and then an item that fails.",
+    )
+    for words, item, operation in [
+        ("Create", create(limit(9, 1), called("tap")), CREATE),
+        ("Re-key", rekey(TWO), REKEY),
+        ("Re-key with Offset", rekey(ONE, offset(5)), REKEY),
+        ("Locate of a key", locate("pump"), LOCATE),
+        ("Locate of none", locate("tap"), LOCATE),
+        ("Get", get(TWO), GET),
+        ("Get Attributes", attributes(TWO), GET_ATTRIBUTES),
+        ("Get Usage Allocation", allocate(TWO, 60), ALLOCATE),
+        ("Activate", activate(ONE), ACTIVATE),
+        ("Revoke", revoke(TWO, 1), REVOKE),
+        ("Revoke as compromised", revoke(ONE, 2), REVOKE),
+        ("Revoke of a destroyed key", revoke(FIVE, 3), REVOKE),
+        ("Destroy", destroy(THREE), DESTROY),
+        ("Destroy of a compromised key", destroy(FOUR), DESTROY),
+    ]:
+        keys_to_undo(s)
+        s.card(f"L8 {words}, undone", (item, undone(operation)), LOST, option=UNDO)
+        as_before(s, f"L8 after {words}, undone")
+    s.about("L8: all of them in one batch, and one that fails.")
+    keys_to_undo(s)
+    s.card(
+        "L8 every operation, undone",
+        (create(limit(9, 1), called("tap")), undone(CREATE)),
+        (activate(), undone(ACTIVATE)),
+        (allocate(None, 9), undone(ALLOCATE)),
+        (revoke(None, 1), undone(REVOKE)),
+        (destroy(), undone(DESTROY)),
+        (rekey(TWO), undone(REKEY)),
+        (locate("pump"), undone(LOCATE)),
+        (get(), undone(GET)),
+        (attributes(), undone(GET_ATTRIBUTES)),
+        (destroy(THREE), undone(DESTROY)),
+        (get(THREE), failed(GET, OBJECT_DESTROYED)),
+        option=UNDO,
+    )
+    as_before(s, "L8 after every operation, undone")
+
+
+def cards_of_the_failed_item(s):
+    s.about("L8: the failed one carries its reason, whichever it is, also one that what was done before it in the batch gives.")
+    for words, item, operation, reason in [
+        ("Operation Not Supported", ask(0x3B), 0x3B, NOT_SUPPORTED),
+        ("Invalid Field", create(bits=129), CREATE, INVALID_FIELD),
+        ("Usage Limit Exceeded", allocate(TWO, 101), ALLOCATE, USAGE_LIMIT_EXCEEDED),
+        ("Non Unique Name", create(called("pump")), CREATE, NON_UNIQUE_NAME),
+        ("Object Destroyed", get(FIVE), GET, OBJECT_DESTROYED),
+        ("Object Not Found", attributes(SIX), GET_ATTRIBUTES, OBJECT_NOT_FOUND),
+        ("Wrong Key Lifecycle State", destroy(TWO), DESTROY, WRONG),
+    ]:
+        keys_to_undo(s)
+        s.card(f"L8 undone by {words}", (destroy(FOUR), undone(DESTROY)), (item, failed(operation, reason)), option=UNDO)
+        as_before(s, f"L8 after {words}")
+    for words, first, operation, second, other, reason in [
+        ("Activate twice", activate(ONE), ACTIVATE, activate(ONE), ACTIVATE, WRONG),
+        ("Re-key twice", rekey(TWO), REKEY, rekey(TWO), REKEY, PERMISSION_DENIED),
+        ("60 units and 41", allocate(TWO, 60), ALLOCATE, allocate(TWO, 41), ALLOCATE, USAGE_LIMIT_EXCEEDED),
+        ("a name twice", create(called("tap")), CREATE, create(called("tap")), CREATE, NON_UNIQUE_NAME),
+        ("Destroy twice", destroy(THREE), DESTROY, destroy(THREE), DESTROY, OBJECT_DESTROYED),
+        ("Locate of none and the placeholder", locate("tap"), LOCATE, get(), GET, OBJECT_NOT_FOUND),
+    ]:
+        keys_to_undo(s)
+        s.card(f"L8 undone, {words}", (first, undone(operation)), (second, failed(other, reason)), option=UNDO)
+        as_before(s, f"L8 after {words}")
+    s.about("L8: the last serial, twice: Server Limit Exceeded. The last serial issued goes back too.")
+    s.blank()
+    s.put(0, unhex("FFFFFFFE"))
+    s.card("L8 undone, the last serial", (create(), undone(CREATE)), (create(), failed(CREATE, SERVER_LIMIT_EXCEEDED)), option=UNDO)
+    s.table("L8 lead and line after the last serial", 0, lead(0xFFFFFFFE) + bytes(16))
+    s.card("L8 the last serial, still there", (create(), created("FFFFFFFF")), option=UNDO)
+    s.table("L8 lead and line with the last serial", 0, lead(0xFFFFFFFF) + line(0xFFFFFFFF, 1))
+    s.second("L8 second buffer before the last serial", 0, lead(0xFFFFFFFE) + bytes(16))
+
+
+def cards_of_where_it_fails(s):
+    s.about("L8: items up to and including the failed one are answered, and no later one: the only item, the first, one in the middle, the last.")
+    items = [(activate(ONE), ACTIVATE), (destroy(THREE), DESTROY), (create(), CREATE)]
+    gone = [(item, undone(operation)) for item, operation in items]
+    never = [(item, None) for item, _ in items]
+    for words, pairs in [
+        ("alone", [LOST]),
+        ("first of four", [LOST, *never]),
+        ("second of four", [gone[0], LOST, *never[1:]]),
+        ("third of four", [*gone[:2], LOST, never[2]]),
+        ("last of four", [*gone, LOST]),
+        ("second and fourth of four", [gone[0], LOST, never[1], (LOST[0], None)]),
+    ]:
+        keys_to_undo(s)
+        s.card(f"L8 the failed item {words}", *pairs, option=UNDO)
+        as_before(s, f"L8 after the failed item {words}")
+    s.about("L8: the same under Stop and without option, where what had succeeded stays, and under Continue, where the rest is done too. Nothing is undone.")
+    for words, option in [("without option", None), ("Stop", STOP)]:
+        keys_to_undo(s)
+        s.card(f"L8 {words}, second of four fails", (activate(ONE), named(ACTIVATE, ONE)), LOST, *never[1:], option=option)
+        s.table(f"L8 {words}, lines", line_at(0), line(1, 2) + UNDO_LINES[16:])
+        s.second(f"L8 {words}, second buffer as it was", 0, FRESH * 128)
+    keys_to_undo(s)
+    rest = [(destroy(THREE), named(DESTROY, THREE)), (create(), created(SIX))]
+    s.card("L8 Continue, second of four fails", (activate(ONE), named(ACTIVATE, ONE)), LOST, *rest, option=CONTINUE)
+    s.table("L8 Continue, lines", line_at(0), line(1, 2) + line(2, 2, 1) + line(3, 5) + line(4, 4) + line(5, 5) + line(6, 1))
+    s.second("L8 Continue, second buffer as it was", 0, FRESH * 128)
+
+
+def cards_of_a_batch_that_passes(s):
+    s.about("L8: no item fails: answers and table as under Stop. The second buffer holds the table before the first item then too, due changes and clock stored.")
+    pairs = [
+        (create(limit(9, 1), called("tap")), created(SIX)),
+        (activate(), named(ACTIVATE, SIX)),
+        (allocate(None, 4), named(ALLOCATE, SIX)),
+        (get(), handed(SIX, fresh(0, 16))),
+        (locate("pump"), found(TWO)),
+        (rekey(), named(REKEY, "00000007")),
+        (attributes(TWO), shown(TWO, 2, limit=(100, 100, 1), replacement="00000007")),
+        (destroy(FOUR), named(DESTROY, FOUR)),
+    ]
+    lines = line(1, 1) + line(2, 2, 1, replacement=7) + line(3, 3) + line(4, 6) + line(5, 5) + line(6, 2, 1) + line(7, 1, 1, replaced=2)
+    bodies = body(material=material(1)) + body(100, 100, material=material(2)) + body(material=material(3)) + body() + body()
+    bodies += body(9, 5, material=fresh(0, 16), activation=1, letters="tap") + body(100, 100, material=fresh(5, 16), letters="pump")
+    for words, option in [("Stop", STOP), ("Undo", UNDO)]:
+        keys_to_undo(s)
+        s.card(f"L8 eight items pass, {words}", *pairs, option=option)
+        s.table(f"L8 eight items pass, {words}, lead and lines", 0, lead(7) + lines + bytes(16))
+        s.table(f"L8 eight items pass, {words}, bodies", body_at(0), bodies + bytes(BODY_SIZE))
+    s.second("L8 eight items pass, lead and lines of the second buffer", 0, lead(5) + UNDO_LINES)
+    s.second("L8 eight items pass, bodies of the second buffer", body_at(0), UNDO_BODIES)
+    s.second("L8 nothing past the lent bytes of the second buffer", size_of(SMALL) - 1, b"\0" + FRESH * 7)
+
+
+def cards_of_never_made(s):
+    s.about("L8: grants, names and changes of state in undone items count as never made: the units are still there, the name is free, the key is not destroyed.")
+    keys_to_undo(s)
+    s.card("L8 100 units undone", (allocate(TWO, 100), undone(ALLOCATE)), (allocate(TWO, 1), failed(ALLOCATE, USAGE_LIMIT_EXCEEDED)), option=UNDO)
+    s.card("L8 100 units granted then", (allocate(TWO, 60), named(ALLOCATE, TWO)), (allocate(TWO, 40), named(ALLOCATE, TWO)), option=UNDO)
+    s.table("L8 count after 100 units", body_at(1) + 8, numbers(0))
+    s.second("L8 count in the second buffer", body_at(1) + 8, numbers(100))
+    s.card("L8 a unit too many, alone", (allocate(TWO, 1), failed(ALLOCATE, USAGE_LIMIT_EXCEEDED)), option=UNDO)
+    s.second("L8 count in the second buffer after that", body_at(1) + 8, numbers(0))
+    keys_to_undo(s)
+    s.card("L8 Destroy undone by a Get", (destroy(THREE), undone(DESTROY)), (get(THREE), failed(GET, OBJECT_DESTROYED)), option=UNDO)
+    s.card("L8 the key is handed out then", (get(THREE), handed(THREE, material(3))))
+    s.card("L8 a name undone", (create(called("tap")), undone(CREATE)), (locate("tap"), undone(LOCATE)), LOST, option=UNDO)
+    s.card("L8 the name is free then", (locate("tap"), found_none()), (create(called("tap")), created(SIX)), (locate("tap"), found(SIX)), option=UNDO)
+    s.about("L8: a Re-key undone: the old key has its name and no link, and can be replaced.")
+    keys_to_undo(s)
+    s.card("L8 Re-key undone", (rekey(TWO), undone(REKEY)), (locate("pump"), undone(LOCATE)), LOST, option=UNDO)
+    s.card("L8 Re-key then", (locate("pump"), found(TWO)), (rekey(), named(REKEY, SIX)), (locate("pump"), found(SIX)), option=UNDO)
+
+
+def cards_of_serials_issued_again(s):
+    s.about("L8: a serial from an undone item may be issued again, and names another key, with other material: the second item of its batch takes other bytes.")
+    keys_to_undo(s)
+    s.card("L8 serial 6 undone", (create(), undone(CREATE)), (get(), undone(GET)), LOST, option=UNDO)
+    s.table("L8 last serial after serial 6 was undone", 0, lead(5))
+    s.card("L8 serial 6 issued again", (attributes(ONE), shown(ONE, 1)), (create(bits=256), created(SIX)), (get(), handed(SIX, fresh(1, 32))))
+    s.table("L8 lead and line 6 with serial 6", 0, lead(6) + UNDO_LINES[:80] + line(6, 1, bits=256))
+    s.table("L8 body of serial 6", body_at(5), body(material=fresh(1, 32)))
+    keys_to_undo(s)
+    s.card("L8 serial 6 of a Re-key undone", (rekey(TWO), undone(REKEY)), LOST, option=UNDO)
+    s.card("L8 serial 6 issued again by Create", (create(), created(SIX)), option=UNDO)
+    s.card("L8 serials 7 and 8 undone", (create(), undone(CREATE)), (rekey(), undone(REKEY)), LOST, option=UNDO)
+    s.card("L8 serial 7 issued again by Re-key", (rekey(SIX), named(REKEY, "00000007")))
+    s.about("L8: a destroyed place that an undone Create had taken still holds its record.")
+    s.blank()
+    s.put(0, lead(64)[:4])
+    s.put(line_at(0), b"".join(line(serial, 5 if serial == 10 else 2) for serial in range(1, 65)))
+    s.card("L8 place 9 taken and given back", (create(), undone(CREATE)), (create(), failed(CREATE, SERVER_LIMIT_EXCEEDED)), option=UNDO)
+    s.table("L8 lines of places 8 to 10", line_at(8), line(9, 2) + line(10, 5) + line(11, 2))
+    s.card("L8 the old key is found", (attributes("0000000A"), shown("0000000A", 5, mask=0)), option=UNDO)
+
+
+def cards_of_clock_and_dates_kept(s):
+    s.about("L8: the latest clock and the due changes stay. Keys 1 and 2 start and stop at 7; they do before the first item, in the second buffer too.")
+    s.blank()
+    s.put(0, lead(3)[:4])
+    s.key(0, line(1, 1), body(material=material(1), activation=7))
+    s.key(1, line(2, 2), body(material=material(2), deactivation=7))
+    s.key(2, line(3, 1), body(material=material(3), activation=8))
+    s.say("clock 6")
+    waits = [(destroy(THREE), undone(DESTROY)), (revoke(ONE, 1), failed(REVOKE, WRONG))]
+    s.card("L8 clock 6, undone", *waits, option=UNDO, clock=6)
+    s.table("L8 clock 6, lead and lines", 0, lead(3, 6) + line(1, 1) + line(2, 2) + line(3, 1))
+    s.say("clock 7")
+    s.card("L8 clock 7, undone", (revoke(ONE, 1), undone(REVOKE)), (destroy(TWO), undone(DESTROY)), LOST, option=UNDO, clock=7)
+    for view, where in [(s.table, "table"), (s.second, "second buffer")]:
+        view(f"L8 clock 7, lead and lines of the {where}", 0, lead(3, 7) + line(1, 2) + line(2, 3) + line(3, 1))
+        view(f"L8 clock 7, bodies of the {where}", body_at(0), body(material=material(1), activation=7) + body(material=material(2), deactivation=7))
+    s.about("L8: a clock that goes back counts as the latest, in an undone batch too; and the due change of key 3 when every item passes.")
+    s.say("clock 3")
+    s.card("L8 clock 3 after 7, undone", (destroy(THREE), undone(DESTROY)), LOST, option=UNDO, clock=7)
+    s.table("L8 clock 3 after 7, lead", 0, lead(3, 7))
+    s.say("clock 8")
+    s.card("L8 clock 8, no item fails", (revoke(THREE, 1), named(REVOKE, THREE)), option=UNDO, clock=8)
+    s.table("L8 clock 8, lead and line 3 of the table", 0, lead(3, 8) + line(1, 2) + line(2, 3) + line(3, 3))
+    s.second("L8 clock 8, lead and line 3 of the second buffer", 0, lead(3, 8) + line(1, 2) + line(2, 3) + line(3, 2))
+    s.table("L8 clock 8, dates of key 3 in the table", body_at(2) + ACTIVATION_IN, numbers(8, 8))
+    s.second("L8 clock 8, dates of key 3 in the second buffer", body_at(2) + ACTIVATION_IN, numbers(8, 0))
+    s.say("clock 9")
+    s.card("L8 clock 9, every item fails", LOST, option=UNDO, clock=9)
+    s.table("L8 clock 9, lead of the table", 0, lead(3, 9))
+    s.second("L8 clock 9, lead of the second buffer", 0, lead(3, 9))
+
+
+def cards_of_the_second_buffer(s):
+    s.about("L8: it is untouched by any other request: with options 1 and 2 and without, whether items fail or not, and by what is refused.")
+    for words, option in [("without option", None), ("option 1", CONTINUE), ("option 2", STOP)]:
+        for end, pairs in [("passes", [(activate(ONE), named(ACTIVATE, ONE))]), ("fails", [LOST])]:
+            keys_to_undo(s)
+            s.card(f"L8 {words}, {end}", *pairs, option=option)
+            s.second(f"L8 {words}, {end}, second buffer", 0, FRESH * 64)
+            s.second(f"L8 {words}, {end}, end of the second buffer", size_of(SMALL) - 8, FRESH * 16)
+    s.about("L8: refused with option 3, for version, count, option and clock.")
+    keys_to_undo(s)
+    item = activate(ONE)
+    s.refused("L8 option 3, version 2.0", request(item, option=UNDO, version=(2, 0)), 7)
+    s.refused("L8 option 3, Batch Count 2", request(item, option=UNDO, count=2), 8)
+    for option in (0, 4, 0x103, 0x80000003):
+        s.refused(f"L8 option {option}", request(item, option=option), 9)
+    s.say("clock 0")
+    s.refused("L8 option 3, clock 0", request(item, option=UNDO), 10)
+    s.say("clock 1")
+    s.second("L8 second buffer after refusals", 0, FRESH * 64)
+    s.table("L8 lead and lines after refusals", 0, lead(5, 0) + UNDO_LINES)
+    s.about("L8: what it held before plays no part: after one request with option 3, the next finds the table before there.")
+    s.card("L8 option 3, the first", (activate(ONE), named(ACTIVATE, ONE)), option=UNDO)
+    as_lines = lead(5) + line(1, 2) + UNDO_LINES[16:]
+    s.second("L8 second buffer of the first", 0, lead(5) + UNDO_LINES)
+    s.card("L8 option 2 after it", (destroy(THREE), named(DESTROY, THREE)), option=STOP)
+    s.second("L8 second buffer of the first, still", 0, lead(5) + UNDO_LINES)
+    s.put(line_at(2), line(3, 3))
+    s.put(body_at(2) + MATERIAL_IN, material(3))
+    s.card("L8 option 3, the second", (destroy(THREE), undone(DESTROY)), LOST, option=UNDO)
+    s.second("L8 second buffer of the second", 0, as_lines)
+    s.table("L8 table of the second", 0, as_lines)
+
+
+def cards_of_sizes_of_the_second_buffer(s):
+    s.about("L8: a wrong size is refusal 11, tested after 10, for every option; a host that never uses option 3 lends one too.")
+    for places in (SMALL, LARGE):
+        keys_to_undo(s, places)
+        size, other = size_of(places), size_of(SMALL + LARGE - places)
+        for length in (0, 16, size - 1, size + 1, other):
+            s.say(f"undo {length}")
+            for words, option in [("no option", None), ("option 1", CONTINUE), ("option 2", STOP), ("option 3", UNDO)]:
+                s.refused(f"L8 refusal 11, {places} places, second buffer of {length}, {words}", request(activate(ONE), option=option), 11)
+            s.say("clock 0")
+            s.refused(f"L8 refusal 10 before 11, {places} places, second buffer of {length}", request(activate(ONE), option=UNDO), 10)
+            s.refused(f"L8 refusal 9 before 11, {places} places, second buffer of {length}", request(activate(ONE), option=4), 9)
+            s.say("clock 1")
+        s.table(f"L8 {places} places, lead and lines after refusal 11", 0, lead(5, 0, places) + UNDO_LINES)
+        s.second(f"L8 {places} places, second buffer after refusal 11", 0, FRESH * 64)
+        s.output(f"L8 {places} places, output after refusal 11", 0, FRESH_OUTPUT)
+        s.say(f"undo {size}")
+        s.card(f"L8 {places} places, second buffer of {size}", (activate(ONE), named(ACTIVATE, ONE)), option=UNDO)
+        s.second(f"L8 {places} places, lead and lines of the second buffer", 0, lead(5, 1, places) + UNDO_LINES)
+        s.second(f"L8 {places} places, past the second buffer", size, FRESH * 8)
+
+
+def cards_of_sixteen_items(s):
+    s.about("L8: sixteen items under Undo: none fails, the first fails, the last fails.")
+    names = [name_of(serial) for serial in range(6, 22)]
+    made = [(create(), created(name)) for name in names]
+    keys_to_undo(s)
+    s.card("L8 sixteen Creates pass", *made, option=UNDO)
+    s.table("L8 lead and lines after sixteen Creates", 0, lead(21) + UNDO_LINES[:80] + b"".join(line(serial, 1) for serial in range(6, 22)))
+    s.second("L8 second buffer after sixteen Creates", 0, lead(5) + UNDO_LINES + bytes(240))
+    keys_to_undo(s)
+    s.card("L8 the first of sixteen fails", LOST, *[(create(), None)] * 15, option=UNDO)
+    as_before(s, "L8 after the first of sixteen fails")
+    s.card("L8 the last of sixteen fails", *[(create(), undone(CREATE))] * 15, LOST, option=UNDO)
+    as_before(s, "L8 after the last of sixteen fails")
+    s.about("L8: the longest response under Undo: sixteen times 392 bytes. With a seventeenth part of that undone, nothing past the shorter response is written.")
+    s.blank()
+    s.put(0, lead(3)[:4])
+    dates = dict(activation=1, deactivation=9)
+    letters = 32 * "x"
+    s.key(0, line(2, 2, 1, replaced=1, replacement=3), body(100, 40, material=material(2), letters=letters, **dates))
+    ids = [bytes([index + 1] * 16) for index in range(16)]
+    asked = [attributes(TWO, id=id) for id in ids]
+    answer = dict(limit=(100, 40, 1), replaced=ONE, replacement=THREE, letters=letters, **dates)
+    pairs = [(item, shown(TWO, 2, id=id, **answer)) for item, id in zip(asked, ids)]
+    assert len(response(*[answer for _, answer in pairs])) == 6360
+    gone = [(item, undone(GET_ATTRIBUTES, id=id)) for item, id in zip(asked, ids)]
+    s.put(LATEST_CLOCK, numbers(1))
+    s.card("L8 fifteen long answers undone", *gone[:15], LOST, option=UNDO)
+    length = 88 + 15 * 64 + 56
+    assert len(response(*[answer for _, answer in gone[:15]], LOST[1])) == length
+    s.output("L8 output past the undone answers as it was", length, b"\xFF" * (6368 - length))
+    s.card("L8 sixteen long answers pass", *pairs, option=UNDO)
+    s.output("L8 output past the long answers as it was", 6360, b"\xFF" * 8)
+
+
+def cards_of_an_undone_response(s):
+    s.about("L8: a whole response of an undone batch: IDs of 1, 8, 9 and 16 bytes are echoed, an undone item without one has 40 bytes, and the output past it is full of FF.")
+    keys_to_undo(s)
+    ids = [bytes(range(0xF0, 0xF0 + length)) for length in (1, 8, 9, 16)]
+    pairs = [
+        (activate(ONE), PRINTED_UNDONE),
+        (get(TWO, id=ids[0]), undone(GET, id=ids[0])),
+        (attributes(TWO, id=ids[1]), undone(GET_ATTRIBUTES, id=ids[1])),
+        (create(called("tap"), id=ids[2]), undone(CREATE, id=ids[2])),
+        (locate("tap", id=ids[3]), undone(LOCATE, id=ids[3])),
+        (destroy(TWO, id=ids[3]), failed(DESTROY, WRONG, id=ids[3])),
+    ]
+    answer = response(*[given for _, given in pairs])
+    assert [len(given) for _, given in pairs] == [40, 56, 56, 64, 64, 80]
+    s.card("L8 undone batch with IDs", *pairs, (create(id=b"never"), None), option=UNDO)
+    s.output("L8 output after the undone batch", 0, answer + b"\xFF" * (6360 - len(answer)))
+    as_before(s, "L8 after the undone batch with IDs")
+
+
+def cards_of_undo_in_a_large_table(s):
+    s.about("L8: 256 places, all of them taken but the last: the key that an undone Create had put there, and the last byte of both buffers.")
+    s.blank(LARGE)
+    s.put(0, lead(255, places=LARGE)[:4])
+    s.put(line_at(0), b"".join(line(serial, 2) for serial in range(1, 256)))
+    last = name_of(256)
+    full = [(create(bits=256), undone(CREATE)), (activate(), undone(ACTIVATE)), (revoke(name_of(255), 1), undone(REVOKE))]
+    s.card("L8 256 places, undone", *full, (create(), failed(CREATE, SERVER_LIMIT_EXCEEDED)), option=UNDO)
+    for view, where in [(s.table, "table"), (s.second, "second buffer")]:
+        view(f"L8 256 places, lead of the {where}", 0, lead(255, places=LARGE))
+        view(f"L8 256 places, lines 254 and 255 of the {where}", line_at(254), line(255, 2) + bytes(16))
+        view(f"L8 256 places, bodies 254 and 255 of the {where}", s.body_at(254), bytes(2 * BODY_SIZE))
+    s.second("L8 256 places undone, past the second buffer", size_of(LARGE), FRESH * 8)
+    made = [(create(bits=256, mask=12), created(last)), (activate(), named(ACTIVATE, last)), (get(), handed(last, fresh(0, 32)))]
+    s.card("L8 256 places, the 256th key", *made, option=UNDO)
+    s.table("L8 256 places, line 255 then", line_at(255), line(256, 2, bits=256))
+    s.table("L8 256 places, body 255 then", s.body_at(255), body(mask=12, material=fresh(0, 32), activation=1))
+    s.second("L8 256 places, the place before", s.body_at(255), bytes(BODY_SIZE))
 
 
 # ---- refusals
@@ -2779,8 +3157,8 @@ def cards_of_refusals_7_to_9(s):
     s.refused("refusal 8, Batch Count 1 with two items", request(item, item, count=1), 8)
     s.refused("refusal 8, 125 items", request(*[ask(0x3B)] * 125), 8)
     s.table("line after refusal 8", line_at(0), line(1, 1))
-    s.about("Refusal 9: option not 1 or 2.")
-    for option in (0, 3, 0xFFFFFFFF):
+    s.about("Refusal 9: option not 1, 2 or 3 (L8).")
+    for option in (0, 4, 0x103, 0x80000003, 0xFFFFFFFF):
         s.refused(f"refusal 9, option {option}", request(item, option=option), 9)
     s.table("line after refusal 9", line_at(0), line(1, 1))
     s.output("output after refusals as it was", 0, b"\xFF" * 8)
@@ -2794,23 +3172,31 @@ def cards_of_the_lowest_number(s):
     s.say("clock 0")
     s.say("room 6359")
     s.say("strip 511")
-    s.refused("lowest of 1, 2, 3, 4 and 10", b"", 1)
+    s.say("undo 8207")
+    s.refused("lowest of 1, 2, 3, 4, 10 and 11", b"", 1)
     s.say("room 6360")
-    s.refused("lowest of 2, 3, 4 and 10", b"", 2)
+    s.refused("lowest of 2, 3, 4, 10 and 11", b"", 2)
     s.say("strip 512")
-    s.refused("lowest of 3, 4 and 10", b"", 3)
+    s.refused("lowest of 3, 4, 10 and 11", b"", 3)
     s.put(7, b"\x40")
-    wrong = dict(option=3, version=(2, 0), count=2)
-    s.refused("lowest of 4, 5 and 10", bytes(4097), 4)
+    wrong = dict(option=4, version=(2, 0), count=2)
+    s.refused("lowest of 4, 5, 10 and 11", bytes(4097), 4)
     no_frame = structure(BATCH_ITEM, boolean(OTHER, 2))
-    s.refused("lowest of 5, 6, 7, 8, 9 and 10", request(no_frame, **wrong), 5)
+    s.refused("lowest of 5 to 11", request(no_frame, **wrong), 5)
     no_frame = structure(BATCH_ITEM, boolean(OTHER, 1))
-    s.refused("lowest of 6, 7, 8, 9 and 10", request(no_frame, **wrong), 6)
-    s.refused("lowest of 7, 8, 9 and 10", request(item, **wrong), 7)
-    s.refused("lowest of 8, 9 and 10", request(item, option=3, count=2), 8)
-    s.refused("lowest of 9 and 10", request(item, option=3), 9)
+    s.refused("lowest of 6 to 11", request(no_frame, **wrong), 6)
+    s.refused("lowest of 7 to 11", request(item, **wrong), 7)
+    s.refused("lowest of 8 to 11", request(item, option=4, count=2), 8)
+    s.refused("lowest of 9, 10 and 11", request(item, option=4), 9)
+    for option in (CONTINUE, STOP, UNDO):
+        s.refused(f"lowest of 10 and 11, option {option}", request(item, option=option), 10)
+    s.say("clock 1")
+    s.refused("11 alone", request(item, option=CONTINUE), 11)
+    s.say("clock 0")
+    s.say("undo 8208")
     s.refused("10 alone", request(item, option=CONTINUE), 10)
     s.table("lead and line after refusals at clock 0", 0, lead(1, latest=0) + line(1, 1))
+    s.second("second buffer after refusals", 0, b"\xEE" * 16)
     s.say("clock 1")
     s.card("none", (item, named(ACTIVATE, ONE)), option=CONTINUE)
 
@@ -2867,11 +3253,20 @@ def cards_of_bad_lines(s):
         "table beyond: 32780 5",
         "table far beyond: 18446744073709551609 18446744073709551609",
         "output beyond: 8192 1",
+        "undo",
+        "undo -1",
+        "undo 8208 ",
+        "undo x",
+        "Undo 8208",
+        "second",
+        "second one number: 4",
+        "second beyond: 33792 1",
+        "second far beyond: 18446744073709551609 18446744073709551609",
     ]:
         s.bad(line)
     s.table("table after bad lines", 0, lead(0, latest=0))
     s.about("More lent than there is.")
-    for verb, most in [("room", 8192), ("strip", 1024), ("size", 32784)]:
+    for verb, most in [("room", 8192), ("strip", 1024), ("size", 32784), ("undo", 33792)]:
         s.blank()
         s.say(f"{verb} {most + 1}")
         s.name(f"{verb} {most + 1}")
@@ -2884,16 +3279,18 @@ def all_cards():
     s.say("# The bench cards of document 01, and one success and each failure of each operation, each refusal, and what the table holds after some of them.")
     s.say("# Written by make_cards.py, together with what is expected of it. The commands, one a line; numbers are decimal, and blanks between bytes are skipped:")
     for command in [
-        "blank                       a blank table of 64 places, an output full of FF, clock 1, room 6360, strip 512 (the bytes 0 to 255 twice), size 8208",
+        "blank                       a blank table of 64 places, an output full of FF, a second buffer full of EE, clock 1, room 6360, strip 512 (the bytes 0 to 255 twice), size and undo 8208",
         "blank COUNT                 the same with a table of 64 or 256 places, and its size: 8208 or 32784",
         "put OFFSET HEX              lays bytes over the table",
         "clock NUMBER                the clock from here on, from -2^63 to 2^63 - 1",
         "room NUMBER                 how many bytes of output are lent from here on, at most 8192",
         "strip NUMBER                how many bytes of the strip, at most 1024",
         "size NUMBER                 how many bytes of the table, at most 32784",
+        "undo NUMBER                 how many bytes of the second buffer, at most 33792",
         "request NAME: HEX           serves a request of at most 8192 bytes, and prints NAME and the response, or the refusal",
         "table NAME: OFFSET LENGTH   prints NAME and bytes of the table",
         "output NAME: OFFSET LENGTH  prints NAME and bytes of the output",
+        "second NAME: OFFSET LENGTH  prints NAME and bytes of the second buffer",
     ]:
         s.say("#   " + command)
     for cards in [
@@ -2955,6 +3352,18 @@ def all_cards():
         cards_of_a_large_table,
         cards_of_256_keys,
         cards_of_due_changes_in_a_large_table,
+        cards_of_undone_items,
+        cards_of_the_failed_item,
+        cards_of_where_it_fails,
+        cards_of_a_batch_that_passes,
+        cards_of_never_made,
+        cards_of_serials_issued_again,
+        cards_of_clock_and_dates_kept,
+        cards_of_the_second_buffer,
+        cards_of_sizes_of_the_second_buffer,
+        cards_of_sixteen_items,
+        cards_of_an_undone_response,
+        cards_of_undo_in_a_large_table,
         cards_of_refusals_1_to_4,
         cards_of_unsound_tables,
         cards_of_sound_dates,
@@ -2978,8 +3387,8 @@ def main():
     (here / "stdin").write_text(script)
     (here / "stdout").write_text("\n".join(s.expected) + "\n")
     requests = sum(line.startswith("request ") for line in s.lines)
-    views = sum(line.startswith(("table ", "output ")) for line in s.lines)
-    print(f"{requests} requests, {views} views of table or output, {len(s.expected)} lines expected")
+    views = sum(line.startswith(("table ", "output ", "second ")) for line in s.lines)
+    print(f"{requests} requests, {views} views of table, output or second buffer, {len(s.expected)} lines expected")
 
 
 if __name__ == "__main__":

@@ -284,12 +284,12 @@ fn next_request(rng: &mut Rng, table: &Table, names: &BTreeSet<String>) -> Vec<u
     let mut bytes = match rng.below(24) {
         0..=1 => requests::edited(rng, table).encode(),
         2..=3 => requests::wrong_numbers(rng, table).encode(),
-        4 => requests::creations(rng, table).encode(),
-        5 => requests::all_or_none(rng, table).encode(),
+        4..=5 => requests::creations(rng, table).encode(),
         6 => requests::renewals(rng, table).encode(),
         7 => gets_of_destroyed(table).encode(),
         8..=9 => locates(rng, names).encode(),
         10..=11 => requests::about_a_name(rng, table).encode(),
+        12 => requests::all_or_none(rng, table).encode(),
         _ => requests::accepted(rng, table).encode(),
     };
     if rng.one_in(20) {
