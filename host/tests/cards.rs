@@ -289,6 +289,18 @@ fn a_bad_create_stops_the_batch_or_empties_the_placeholder() {
     assert_eq!(response(&effect), unhex(printed));
 }
 
+/// Activate undone, without ID: the item as it is printed. A bad Create then takes a good one back.
+#[test]
+fn an_undone_item_is_printed_so() {
+    let printed = "42000F01 00000020 42005C05 00000004 00000012 00000000 42007F05 00000004 00000003 00000000";
+    let items = vec![new_key(None), on(ACTIVATE, None), item(CREATE, None, create(129, 4, None))];
+    let effect = call(batch(Some(3), items), &blank());
+    assert_eq!(reasons(&effect), [None, None, INVALID_FIELD]);
+    assert_eq!(response(&effect)[128..168], unhex(printed));
+    assert_eq!(response(&effect).len(), 88 + 40 + 40 + 56);
+    assert!(effect.undo == effect.table && record(&effect, 0).is_free());
+}
+
 #[test]
 fn output_of_6359_is_too_small() {
     let mut case = Case::new(batch(None, vec![new_key(None)]), blank());

@@ -174,6 +174,30 @@ fn every_operation_finds_its_key() {
     }
 }
 
+/// What an undone batch did is taken back at every place: a change of state, a grant, and a new key in the place that is left.
+#[test]
+fn an_undone_batch_leaves_no_place_changed() {
+    for place in BORDERS {
+        let other = (place + 100) % LARGE_COUNT;
+        let name = identifier(place as u32 + 1);
+        let mut table = full(LARGE_COUNT);
+        table.places[other] = Record::default();
+        let items = vec![
+            item(0x11, None, allocation(Some(&name), 50)),
+            item(0x04, None, target(Some(&name))),
+            item(0x13, None, revocation(Some(&name), 2)),
+            item(0x14, None, target(Some(&name))),
+            item(0x0A, None, target(Some(&name))),
+        ];
+        let done = call(&request(Some(2), items.clone()).encode(), &table.encode());
+        assert_eq!(changed(&table, &done), [place.min(other), place.max(other)], "under Stop");
+        let undone = call(&request(Some(3), items).encode(), &table.encode());
+        assert_eq!(answers(&undone), answers(&done), "the last fails under both");
+        assert_eq!(changed(&table, &undone), [], "undone at {place} and {other}");
+        assert!(undone.undo == undone.table, "the second buffer");
+    }
+}
+
 /// Dates are looked at in every place, and nothing else is changed.
 #[test]
 fn changes_are_made_at_every_place_where_they_are_due() {
