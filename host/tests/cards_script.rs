@@ -7,7 +7,7 @@ mod support;
 use junctionmoth::model::ttlv;
 use junctionmoth::{blank_table, table_size, Engine, LARGE_COUNT, LARGE_SIZE, ROOM, SMALL_COUNT, STRIP};
 use support::coverage::Coverage;
-use support::{engines, hex, Case, Effect};
+use support::{engines, hex, Case, Effect, SECOND_MOST};
 
 const SCRIPT: &str = include_str!("../../crates/cards/stdin");
 const ANSWERS: &str = include_str!("../../crates/cards/stdout");
@@ -18,8 +18,6 @@ const TTLV_ANSWERS: &str = include_str!("../../crates/cards_ttlv/stdout");
 const ROOM_MOST: usize = 8192;
 /// Bytes of strip that there are to lend.
 const STRIP_MOST: usize = 1024;
-/// Bytes of second buffer that there are to lend.
-const SECOND_MOST: usize = 33792;
 /// Bytes of the longest request that a line has.
 const REQUEST_MOST: usize = 8192;
 

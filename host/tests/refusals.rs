@@ -5,7 +5,7 @@ mod support;
 
 use junctionmoth::message::{create, integer, item, request_with, Body, Header, Node};
 use junctionmoth::{blank_table, table_size, Refusal, LARGE_COUNT, SMALL_COUNT};
-use support::{engines, Case};
+use support::{engines, Case, SECOND_MOST};
 
 /// The faults of a case: bit n - 1 stands for refusal n.
 #[derive(Clone, Copy)]
@@ -93,7 +93,7 @@ fn a_second_buffer_has_the_size_of_the_table() {
         for option in [None, Some(1), Some(2), Some(3)] {
             for second in [0, 1, 16, size / 2, size - 1, size, size + 1, 2 * size, 8208, 32784] {
                 let mut case = Faults(0).case(&Variant { empty: false, count, option, second });
-                case.second.resize(second.min(33792), 0x77);
+                case.second.resize(second.min(SECOND_MOST), 0x77);
                 let refused = case.run_all(&engines, "second buffers").served.err();
                 assert_eq!(refused, (case.second.len() != size).then_some(Refusal::Undo), "{second}, {option:?}");
             }

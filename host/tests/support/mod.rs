@@ -214,9 +214,12 @@ fn any_table(rng: &mut Rng, table: &Table) -> Vec<u8> {
     bytes
 }
 
+/// The most bytes of a second buffer: as many as the program holds.
+pub const SECOND_MOST: usize = 33792;
+
 /// A second buffer of any bytes, of the table's size, or of another now and then: of none, a byte off, or of either count.
 fn any_second(rng: &mut Rng, size: usize) -> Vec<u8> {
-    let wrong = [0, size.saturating_sub(1), size + 1, SMALL_SIZE, LARGE_SIZE];
+    let wrong = [0, size.saturating_sub(1), (size + 1).min(SECOND_MOST), SMALL_SIZE, LARGE_SIZE];
     let length = if rng.one_in(16) { rng.pick(&wrong) } else { size };
     any_bytes(rng, length)
 }
