@@ -116,7 +116,7 @@ static inline void junctionmoth_blank(uint8_t *table, uint32_t count)
  *     call plays no part. An accepted request with option 3 leaves the table in it that the first item
  *     met, the clock stored and what is due by it done, whether an item failed or not. No other call
  *     touches it. It is then a copy of the whole table, with the bytes of every key: the host guards
- *     and wipes it as it does the table.
+ *     it as it does the table, and wipes it. It is no way back from a wrong clock, which is in it too.
  *
  * The Batch Error Continuation Option of a request says what comes of a batch of which an item fails.
  * Option 1 (Continue) goes on with the next item. Option 2 (Stop), which also holds where there is no
