@@ -43,9 +43,9 @@ they hold before, and a call writes its response whole. A table has 64 places wh
 ";
 
 const UNDO: &str = "\
-Undo: 16 items under Stop and the same under Undo, on half full tables: all of them succeed, or the last one fails. Under
-Undo the table is copied into the second buffer, and no answer is written before it is known whether an item fails. The
-last column counts the items that succeed and stay done.";
+Undo: 16 items under Stop and the same under Undo, on half full tables: all of them succeed (passes), or the last one does
+not (fails). Under Undo the table is copied into the second buffer, and no answer is written before it is known whether an
+item fails. The last column counts the items that succeed and stay done.";
 
 const SOUNDNESS: &str = "\
 Soundness check: an empty request is refused with 4 once the check has passed and before anything else is looked at, so
@@ -287,11 +287,11 @@ fn large(course: &Course) {
 /// Batches of 16 under Stop and under Undo, of which no item fails or the last one.
 fn undo(course: &Course) {
     println!("\n{UNDO}");
-    for (count, size) in [(SMALL_COUNT, ""), (LARGE_COUNT, "large ")] {
+    for (count, size) in [(SMALL_COUNT, ""), (LARGE_COUNT, ", large")] {
         for (operation, items) in operations(16) {
-            for (end, items) in [("all pass", items.clone()), ("last fails", last_failing(items))] {
+            for (end, items) in [("passes", items.clone()), ("fails", last_failing(items))] {
                 for (option, number) in [("Stop", 2), ("Undo", 3)] {
-                    let name = format!("{operation}, {end}, {size}table, {option}");
+                    let name = format!("{operation}, {end}{size}, {option}");
                     let request = request(Some(number), items.clone()).encode();
                     course.run(&Scene { name, request, table: half(count), clock: 1 });
                 }
