@@ -39,7 +39,7 @@ use Rattle.act.specs.Act.{sought, onFound, plan, step}
 use Rattle.plans.specs.Plans.{carried, shownOf, createPlan, rekeyPlan, allocationPlan, activatePlan, revokePlan, destroyPlan, showPlan, isFailed, keyOf, getPlan, serialFound, locatePlan}
 use Rattle.answer.specs.Read.{spelled, setDate, fixed, serialIn, limitsFirst, orNoLimits, linkFirst, orNoLink, linkIn, shownIn, createdIn, doneIn, showedIn, payloadIn, reasonAmong, failureIn, successIn, outcomeIn, answerIn, answersOf, headIn, shownOk, outcomeOk, answerOk, allowed, ifAllowed, answersIn, keyRead, keyBlockIn, keyIn, gotIn, keyOk, nameShown, locatedIn, nameShownOk}
 use Rattle.answer.specs.Respond.{dateItems, limitItems, linkItems, attributeItems, outcomeItems, idItems, answerItems, batchItems, versionItems, headerItems, respond, materialOf, keyItems, nameItems, locatedItems}
-use Rattle.engine.specs.Batch.{endsBatch, batch, running}
+use Rattle.batch.specs.Batch.{endsBatch, batch, running}
 use Rattle.engine.specs.Serving.{answered, earlyRefusal, carryOut, serving}
 use Rattle.cases.specs.Cards.{sameItems, isRead, integerRead, integerMalformed, booleanMalformed, textOfEight, textOfNine, nested, callAt, tableFrom, answers, refuses, stateLeft, countLeft, depthEight, depthNine, depthRead, depthRefused, grantRequest, grantResponse, grantsCounted, overRequest, overResponse, grantTooLarge, lifeRequest, lifeResponse, compromiseRequest, compromiseResponse, destroyedInTurn, rekeyRequest, rekeyResponse, rekeyedTwice, stopRequest, stopResponse, stopsThere, continueRequest, continueResponse, goesOn, lastRequest, lastResponse, lastSerialIssued, pCases, allHold}
 

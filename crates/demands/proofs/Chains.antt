@@ -1,4 +1,4 @@
--- A batch as a chain of links: what `batch` computes is what the chain says, item by item.
+-- A batch as a chain of links: what `batch` computes is what the chain says, item by item, and what is left of it under its option is what the links say.
 -- Assumes nothing.
 use Prim.Native.Nat.{ℕ, _+_}
 use mathlib.Core.Path.{_≡_, refl, sym, ap, _∙_}
@@ -12,12 +12,13 @@ use Rattle.octets.proofs.If.{on-if}
 use Rattle.rules.specs.declared.Reason.{Reason}
 use Rattle.rules.specs.Tests.{due}
 use Rattle.batch_item.specs.Item.{Asked}
-use Rattle.frame.specs.Frame.{continue}
+use Rattle.frame.specs.Frame.{continue, undo}
 use Rattle.plans.specs.Plans.{Env, Did, envAt, carried, isFailed}
 use Rattle.act.specs.Act.{step}
 use Rattle.answer.specs.Respond.{Answer}
-use Rattle.engine.specs.Batch.{Ran, answerTo, lastly, firstly, endsBatch, batch}
-use Rattle.demands.specs.Demand2.{Link, Due, planOf, answerFor, goesOn, linkAt, Chain, none-left, stops, goes-on}
+use Rattle.batch.specs.Batch.{Ran, answerTo, lastly, firstly, endsBatch, batch}
+use Rattle.settle.specs.Undo.{anyFailed, orUndone, undoneTo, settled as settledRan}
+use Rattle.demands.specs.Demand2.{Link, Due, planOf, answerFor, goesOn, linkAt, Chain, none-left, stops, goes-on, anyFails, isUndone, settled, undoneFor, answersFor}
 use Rattle.demands.specs.Box.{Call, placesOf}
 
 -- the link of an item that is carried out
@@ -85,3 +86,32 @@ module _ (c : Call) (option : ℕ) where
             chain = goes-on asked did d (not-false _ (sym (ends-not option did) ∙ e)) (rest .chain);
             answers = ap {B = List Answer} (λ rs. answerTo asked did ∷ rs) (rest .answers);
           })
+
+-- ---- what is left under an option
+
+-- a link failed where an answer says so
+any-same : (links : List Link) → anyFailed (map answerFor links) ≡ anyFails links
+unfolding anyFailed anyFails answerFor
+any-same [] = refl
+any-same (l ∷ links) = ap (λ (b : Bool). isFailed (l .did .outcome) || b) (any-same links)
+
+undone-same : (links : List Link) → map undoneTo (map answerFor links) ≡ map undoneFor links
+unfolding answerFor undoneFor orUndone
+undone-same [] = refl
+undone-same (l ∷ links) = ap (λ (answers : List Answer). undoneFor l ∷ answers) (undone-same links)
+
+-- what the links lead to, as answers and table
+abbrev pub ranOf : List Link → List ℕ → Ran
+ranOf links u = record { answers = map answerFor links; table = u }
+
+-- what is left of it, and what the demand says is left
+pub settled-same : (option : ℕ) (start : List ℕ) (links : List Link) (u : List ℕ)
+    → settledRan option start (ranOf links u) ≡ record { answers = answersFor option links; table = settled option start links u }
+unfolding settledRan settled answersFor ifb
+settled-same option start links u = ap (λ (b : Bool). ifb (eqb option undo && b) (record { answers = map undoneTo (map answerFor links); table = start }) (ranOf links u)) (any-same links) ∙ by-undone (isUndone option links)
+  where
+    by-undone : (b : Bool)
+        → _≡_ {A = Ran} (ifb b (record { answers = map undoneTo (map answerFor links); table = start }) (ranOf links u))
+        (record { answers = ifb b (map undoneFor links) (map answerFor links); table = ifb b start u })
+    by-undone true = ap (λ (answers : List Answer). record { answers = answers; table = start }) (undone-same links)
+    by-undone false = refl

@@ -38,7 +38,7 @@ use Rattle.plans.specs.declared.Outcome.the-variants.{Failed, Showed, Got}
 use Rattle.plans.specs.Plans.{Env, Did, failing, createPlan, rekeyPlan, changed, shownOf, keyOf, locatePlan}
 use Rattle.act.specs.Act.{sought}
 use Rattle.act.proofs.Went.{Moving, activating, revoking, destroying, Kind, fails, creates, rekeys, grants, moves, shows, gets, locates}
-use Rattle.engine.proofs.Commands.{Commanded, to-create}
+use Rattle.batch_keeps.proofs.Commands.{Commanded, to-create}
 use Rattle.keeps.proofs.Begun.{Allowed}
 use Rattle.demands.specs.Log.{issuedBy, grantBy}
 

@@ -20,12 +20,12 @@ use Rattle.payload.specs.declared.Command.{Command}
 use Rattle.payload.specs.declared.Command.the-variants.{Unsupported, Invalid, Create, Rekey, GetUsageAllocation, Activate, Revoke, Destroy, GetAttributes, Get, Locate}
 use Rattle.plans.specs.declared.Key.{Key}
 use Rattle.plans.specs.declared.Outcome.{Outcome}
-use Rattle.plans.specs.declared.Outcome.the-variants.{Failed, Created, Done, Showed, Got, Located}
+use Rattle.plans.specs.declared.Outcome.the-variants.{Failed, Created, Done, Showed, Got, Located, Undone}
 use Rattle.plans.specs.Plans.{isFailed}
 use Rattle.answer.proofs.Tests.{on-or}
-use Rattle.engine.proofs.Commands.{Commanded, not-supported, not-valid, to-create, to-rekey, to-allocate, to-activate, to-revoke, to-destroy, to-show, to-get, to-locate, commanded}
+use Rattle.batch_keeps.proofs.Commands.{Commanded, not-supported, not-valid, to-create, to-rekey, to-allocate, to-activate, to-revoke, to-destroy, to-show, to-get, to-locate, commanded}
 use Rattle.demands.specs.Log.{Event, commandOf, issuedBy, issued, handedBy, destroyedBy, wasDestroyed, handedDead}
-use Rattle.demands.specs.Demand3.{Stands, isUnderstood, movesState, carries, codeOf, takes, listed, About, Tame, asksKey, asksName}
+use Rattle.demands.specs.Demand3.{Stands, isUnderstood, movesState, isMade, carries, codeOf, takes, listed, About, Tame, asksKey, asksName}
 use Rattle.demands.proofs.Logged.{issued-now, issued-before}
 
 -- ---- the listed transitions
@@ -79,6 +79,17 @@ listed-stays operation code from to h d =
 
 -- ---- what an event says
 
+-- what is made did not fail
+made-not : (o : Outcome) → isMade o ≡ true → isFailed o ≡ false
+unfolding isMade isFailed
+made-not (Failed reason) m = absurd (false≢true m)
+made-not (Created serial) m = refl
+made-not (Done serial) m = refl
+made-not (Showed shown) m = refl
+made-not (Got key) m = refl
+made-not (Located serial) m = refl
+made-not Undone m = refl
+
 -- a command of Destroy's operation that is understood is a Destroy
 record Destroys (c : Command) : Type 0 where
   issues : (o : Outcome) → issuedBy c o ≡ 0
@@ -130,11 +141,11 @@ asks-not (Locate name) m = absurd (false≢true m)
 -- an answer that destroyed x
 record Destroyed (operation : ℕ) (o : Outcome) (x : ℕ) : Type 0 where
   is : operation ≡ destroy
-  succeeded : isFailed o ≡ false
+  succeeded : isMade o ≡ true
   carried : carries o ≡ x
 
 destroyed-is : (operation : ℕ) (o : Outcome) (x : ℕ) → (x ≡ 0 → ⊥) → destroyedBy operation o ≡ x → Destroyed operation o x
-unfolding destroyedBy carries isFailed
+unfolding destroyedBy carries isMade
 destroyed-is operation (Failed reason) x z e = absurd (z (sym e))
 destroyed-is operation (Created serial) x z e = absurd (z (sym e))
 destroyed-is operation (Done serial) x z e =
@@ -144,11 +155,12 @@ destroyed-is operation (Done serial) x z e =
 destroyed-is operation (Showed shown) x z e = absurd (z (sym e))
 destroyed-is operation (Got key) x z e = absurd (z (sym e))
 destroyed-is operation (Located serial) x z e = absurd (z (sym e))
+destroyed-is operation Undone x z e = absurd (z (sym e))
 
 -- an answer that handed x out
 record HandedOut (c : Command) (o : Outcome) (x : ℕ) : Type 0 where
   issues : issuedBy c o ≡ 0
-  succeeded : isFailed o ≡ false
+  succeeded : isMade o ≡ true
   carried : carries o ≡ x
 
 no-issue-got : (c : Command) (key : Key) → issuedBy c (Got key) ≡ 0
@@ -166,13 +178,14 @@ no-issue-got (Get target) key = refl
 no-issue-got (Locate name) key = refl
 
 handed-is : (c : Command) (o : Outcome) (x : ℕ) → (x ≡ 0 → ⊥) → handedBy o ≡ x → HandedOut c o x
-unfolding handedBy carries isFailed
+unfolding handedBy carries isMade
 handed-is c (Failed reason) x z e = absurd (z (sym e))
 handed-is c (Created serial) x z e = absurd (z (sym e))
 handed-is c (Done serial) x z e = absurd (z (sym e))
 handed-is c (Showed shown) x z e = absurd (z (sym e))
 handed-is c (Got key) x z e = record { issues = no-issue-got c key; succeeded = refl; carried = e }
 handed-is c (Located serial) x z e = absurd (z (sym e))
+handed-is c Undone x z e = absurd (z (sym e))
 
 -- ---- the dead, in the log and in the table
 
@@ -198,8 +211,8 @@ module _ {n : ℕ} (log : List Event) (t u : List ℕ) (ev : Event) (tame : Tame
   about-stands x e a = record { below = a .below; serial = sym (a .serial) ∙ e }
 
   -- what is not understood fails
-  is-understood : isFailed o ≡ false → isUnderstood c ≡ true
-  is-understood f = on-bool (isUnderstood c) (λ y. y) (λ y. absurd (true≢false (sym (tame .understood y) ∙ f)))
+  is-understood : isMade o ≡ true → isUnderstood c ≡ true
+  is-understood f = on-bool (isUnderstood c) (λ y. y) (λ y. absurd (true≢false (sym (tame .understood y) ∙ made-not o f)))
 
   -- ---- an item that destroyed x
 

@@ -41,8 +41,8 @@ use Rattle.plans.specs.Plans.{Env, Did, createPlan, rekeyPlan, envAt, locatePla
 use Rattle.act.specs.Act.{sought, step}
 use Rattle.act.proofs.Went.{Kind, fails, creates, rekeys, grants, moves, shows, gets, locates, step-kind}
 use Rattle.answer.proofs.Tests.{on-or}
-use Rattle.engine.proofs.Commands.{Commanded, commanded}
-use Rattle.engine.proofs.Steps.{step-held, step-latest}
+use Rattle.batch_keeps.proofs.Commands.{Commanded, commanded}
+use Rattle.batch_keeps.proofs.Steps.{step-held, step-latest}
 use Rattle.demands.specs.Box.{Call, placesOf, counted}
 use Rattle.demands.specs.Log.{issuedBy, grantBy}
 use Rattle.demands.specs.Demand2.{Begins}

@@ -10,7 +10,7 @@ use mathlib.Core.List.{List, [], _∷_}
 use lib.ListN.{length}
 use borrow.Author.Tests.{eq-eqb, ne-eqb}
 use Rattle.octets.specs.Octets.{Bytes}
-use Rattle.octets.proofs.If.{ifb-true, ifb-false}
+use Rattle.octets.proofs.If.{ifb-true, ifb-false, on-if}
 use Rattle.table.specs.declared.Record.{Record}
 use Rattle.table.specs.Layout.{placesOk, materialSize}
 use Rattle.table.specs.Records.{placeAt, lastSerial, latestClock, blank}
@@ -26,20 +26,22 @@ use Rattle.frame.specs.Frame.{Frame, optionOf, batchMost}
 use Rattle.plans.specs.Plans.{Did, envAt}
 use Rattle.act.specs.Act.{step}
 use Rattle.engine.specs.Effects.{Effect}
-use Rattle.engine.specs.Batch.{running}
+use Rattle.batch.specs.Batch.{Ran, running}
+use Rattle.settle.specs.Undo.{settled as settledRan}
 use Rattle.engine.specs.Serving.{answered}
-use Rattle.engine.proofs.Steps.{step-held, step-latest}
-use Rattle.engine.proofs.Batches.{own-bytes, own-long}
+use Rattle.batch_keeps.proofs.Steps.{step-held, step-latest}
+use Rattle.batch_keeps.proofs.Batches.{own-bytes, own-long}
 use Rattle.demands.specs.Box.{Call, Box, Lent, placesOf, counted}
-use Rattle.demands.specs.Log.{Event, eventsOf, onto, granted, logged}
+use Rattle.demands.specs.Log.{Event, paired, eventsOf, onto, granted, logged}
 use Rattle.demands.specs.Demand1.{Demand1}
-use Rattle.demands.specs.Demand2.{Demand2, Answered, Link, Due, linkAt, Chain, none-left, stops, goes-on}
+use Rattle.demands.specs.Demand2.{Demand2, Answered, Link, Due, linkAt, Chain, none-left, stops, goes-on, settled}
 use Rattle.demands.specs.Demand3.{Run, begins, calls, Stands}
 use Rattle.demands.specs.Hope.{heard, largest, InTime, Spends, Stopped, Firm, Every, none, more, Later, here, further, Hope}
 use Rattle.demands.proofs.Chains.{due-step}
 use Rattle.demands.proofs.Ladder.{served, served-number, Accepted, counting, startOf, Told, away, accepted, told}
 use Rattle.demands.proofs.Meets.{counting-is, held-lent, counting-later, counting-fits, held-start, count-facts}
 use Rattle.demands.proofs.Only.{same-frame, only-box}
+use Rattle.demands.proofs.Unmade.{unmade-granted, batch-unmade}
 use Rattle.demands.proofs.Runs.{events-away, events-accepted, strip-fits as run-fits}
 use Rattle.demands.proofs.Follows.{later-run}
 use Rattle.demands.proofs.Idle.{IdleIn, batch-nothing, began-idle}
@@ -129,16 +131,20 @@ module _ (c : Call) (e : Effect) (lent : Lent c) (a : Accepted c) (g : Answered 
 
   -- what it leaves
   left-point : Point (placesOf c) (counted c) (e .table)
-  left-point = subst (Point (placesOf c) (counted c)) (sym (g .left)) (reaches .point)
+  unfolding settled
+  left-point = subst (Point (placesOf c) (counted c)) (sym (g .left)) (on-if (Point (placesOf c) (counted c)) (λ undone. start-point) (λ kept. reaches .point))
 
   left-stopped : (x : ℕ) → Stopped (placesOf c) x (c .table) → Stopped (placesOf c) x (e .table)
-  left-stopped x s = subst (Stopped (placesOf c) x) (sym (g .left)) (reaches .stopped x (begins-stopped c (g .start) (g .begins) x s))
+  unfolding settled
+  left-stopped x s =
+      let begun = begins-stopped c (g .start) (g .begins) x s in
+      subst (Stopped (placesOf c) x) (sym (g .left)) (on-if (Stopped (placesOf c) x) (λ undone. begun) (λ kept. reaches .stopped x begun))
 
 -- ---- a key past its date
 
 module _ (c : Call) (lent : Lent c) (x i : ℕ) (z : x ≡ 0 → ⊥) (s : Stands (placesOf c) x (c .table) i) (come : hasCome (counted c) (placeAt (placesOf c) (c .table) i .deactivation) ≡ true) (log : List Event) where
   told-nothing : (e : Effect) → Told c e → granted x (onto (eventsOf c e) log) ≡ granted x log
-  unfolding onto running answered
+  unfolding onto running settledRan answered
   told-nothing e (away k) = ap (λ (events : List Event). granted x (onto events log)) (events-away c (suc k))
   told-nothing e (accepted a) =
       let held = held-lent c lent a in
@@ -146,9 +152,11 @@ module _ (c : Call) (lent : Lent c) (x i : ℕ) (z : x ≡ 0 → ⊥) (s : Stand
       let fits = counting-fits c lent a in
       let come-now = subst (λ (k : ℕ). hasCome k (placeAt (placesOf c) (c .table) i .deactivation) ≡ true) (sym (counting-is c)) come in
       ap (λ (events : List Event). granted x (onto events log)) (events-accepted c lent a)
-      ∙ batch-nothing (placesOf c) (c .strip) (optionOf (a .frame .header .option)) (lent .strip) x (a .frame .items) 0 0 0 (startOf c) log (run-fits c lent a) (held-start c lent a)
+      ∙ on-if (λ (left : Ran). granted x (onto (paired 0 (a .frame .items) (left .answers)) log) ≡ granted x log)
+      (λ undone. unmade-granted x (batch-unmade (placesOf c) (c .strip) (optionOf (a .frame .header .option)) (a .frame .items) 0 0 0 (startOf c)) log)
+      (λ kept. batch-nothing (placesOf c) (c .strip) (optionOf (a .frame .header .option)) (lent .strip) x (a .frame .items) 0 0 0 (startOf c) log (run-fits c lent a) (held-start c lent a)
       (subst (λ (k : ℕ). IdleIn (placesOf c) k x (startOf c)) (sym (began-latest (placesOf c) (c .table) held (counting c) later fits))
-      (began-idle (c .table) held (counting c) later fits x i z (s .below) (s .serial) come-now))
+      (began-idle (c .table) held (counting c) later fits x i z (s .below) (s .serial) come-now)))
 
 -- ---- a run
 

@@ -35,10 +35,10 @@ use Rattle.plans.specs.Plans.{Env, Did, createPlan, rekeyPlan, envAt, locatePla
 use Rattle.act.specs.Act.{sought, step}
 use Rattle.act.proofs.Went.{Kind, fails, creates, rekeys, grants, moves, shows, gets, locates, step-kind}
 use Rattle.answer.specs.Respond.{Answer}
-use Rattle.engine.specs.Batch.{Ran, answerTo, lastly, firstly, endsBatch, batch}
-use Rattle.engine.proofs.Commands.{Commanded, commanded}
-use Rattle.engine.proofs.Steps.{step-held, step-latest}
-use Rattle.engine.proofs.Batches.{own-bytes, own-long}
+use Rattle.batch.specs.Batch.{Ran, answerTo, lastly, firstly, endsBatch, batch}
+use Rattle.batch_keeps.proofs.Commands.{Commanded, commanded}
+use Rattle.batch_keeps.proofs.Steps.{step-held, step-latest}
+use Rattle.batch_keeps.proofs.Batches.{own-bytes, own-long}
 use Rattle.demands.specs.Log.{Event, heldAfter, paired, onto, grantBy, granted}
 use Rattle.demands.proofs.Counted.{create-allowed, kind-counts}
 use Rattle.demands.proofs.Logged.{granted-more}

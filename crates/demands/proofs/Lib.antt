@@ -10,6 +10,7 @@ pub mod Tame
 pub mod Dead
 pub mod Ordered
 pub mod Paired
+pub mod Unmade
 pub mod Opened
 pub mod Runs
 pub mod Follows

@@ -32,15 +32,17 @@ use Rattle.answer.specs.Read.{answerOk, allowed}
 use Rattle.answer.proofs.Front.{response-size}
 use Rattle.answer.proofs.Answers.{answers-back}
 use Rattle.answer.proofs.One.{response-message, response-spells, bytes-one}
-use Rattle.engine.specs.Batch.{running}
+use Rattle.batch.specs.Batch.{Ran, running}
+use Rattle.settle.specs.Undo.{settled as settledRan, keptIn}
 use Rattle.engine.specs.Effects.{Effect, roomLeast}
 use Rattle.engine.specs.Serving.{responseTo, answered}
-use Rattle.engine.proofs.Batches.{Leaves, batch-leaves}
+use Rattle.batch_keeps.proofs.Batches.{Leaves, batch-leaves}
+use Rattle.batch_keeps.proofs.Settled.{settled-leaves}
 use Rattle.demands.specs.Box.{Call, Box, Lent, placesOf, counted}
 use Rattle.demands.specs.Demand1.{Demand1, Untouched, Within}
-use Rattle.demands.specs.Demand2.{Demand2, Answered, Begins, meant, refusalConditions, lowest}
-use Rattle.demands.proofs.Chains.{batch-chain}
-use Rattle.demands.proofs.Ladder.{served, served-number, lowest-most, Accepted, requestOf, counting, startOf, ranBy, Told, away, accepted, told}
+use Rattle.demands.specs.Demand2.{Demand2, Answered, Begins, settled, answersFor, keptFor, meant, refusalConditions, lowest}
+use Rattle.demands.proofs.Chains.{batch-chain, settled-same}
+use Rattle.demands.proofs.Ladder.{served, served-number, lowest-most, Accepted, requestOf, counting, startOf, ranBy, leftOf, answeredBy, Told, away, accepted, told}
 
 -- the clock that counts is the later one
 pub counting-is : (c : Call) → counting c ≡ counted c
@@ -114,28 +116,33 @@ module _ (c : Call) (lent : Lent c) (a : Accepted c) where
       batch-leaves (placesOf c) (c .strip) (optionOf (a .frame .header .option)) (lent .strip) (a .frame .items) 0 0 (startOf c)
       held-start bounded (omega (arith, count-facts .1, a .strip))
 
+  -- and what is left of it under its option
+  pub left-leaves : Leaves (placesOf c) (c .strip) (optionOf (a .frame .header .option)) (lent .strip) (startOf c) (a .frame .items) (leftOf c a)
+  left-leaves =
+      settled-leaves (placesOf c) (c .strip) (optionOf (a .frame .header .option)) (lent .strip) (startOf c) (a .frame .items) (ranBy c a) held-start ran-leaves
+
   -- its response is one that there is
-  pub ran-allowed : allowed (responseTo (counting c) (ranBy c a)) ≡ true
+  pub left-allowed : allowed (responseTo (counting c) (leftOf c a)) ≡ true
   unfolding allowed
-  ran-allowed =
-      let n = length (ranBy c a .answers) in
-      and-i _ (all answerOk (ranBy c a .answers))
+  left-allowed =
+      let n = length (leftOf c a .answers) in
+      and-i _ (all answerOk (leftOf c a .answers))
       (and-i _ (leb n batchMost)
-      (and-i (aboveZero (counting c)) (leb 1 n) counting-above (le-leb 1 n (ran-leaves .some (count-facts .0))))
-      (le-leb n batchMost (omega (arith, ran-leaves .few, count-facts .1))))
-      (ran-leaves .ok)
+      (and-i (aboveZero (counting c)) (leb 1 n) counting-above (le-leb 1 n (left-leaves .some (count-facts .0))))
+      (le-leb n batchMost (omega (arith, left-leaves .few, count-facts .1))))
+      (left-leaves .ok)
 
   -- the bytes of its response
   abbrev pub spelling : List ℕ
-  spelling = encode (respond (responseTo (counting c) (ranBy c a)))
+  spelling = encode (respond (responseTo (counting c) (leftOf c a)))
 
   pub spelling-short : length spelling ≤ roomLeast
-  spelling-short = response-size (responseTo (counting c) (ranBy c a)) ran-allowed
+  spelling-short = response-size (responseTo (counting c) (leftOf c a)) left-allowed
 
   pub front-is : take (length spelling) (over spelling (c .output)) ≡ spelling
   front-is = take-at spelling (drop (length spelling) (c .output)) (length spelling) refl
 
-  within : Within c (answered (counting c) (c .output) (ranBy c a))
+  within : Within c (answeredBy c a)
   unfolding answered
   within = record {
     short = spelling-short;
@@ -144,13 +151,15 @@ module _ (c : Call) (lent : Lent c) (a : Accepted c) where
     past = drop-at spelling (drop (length spelling) (c .output)) (length spelling) refl;
   }
 
-  given : Answered c (answered (counting c) (c .output) (ranBy c a))
-  unfolding answered running
+  given : Answered c (answeredBy c a)
+  unfolding answered running keptIn keptFor
   given =
       let option = optionOf (a .frame .header .option) in
       let chained = batch-chain c option (a .frame .items) 0 0 (startOf c) in
-      let r : Response = responseTo (counting c) (ranBy c a) in
-      let same : r ≡ meant c option (chained .links) = ap₂ (λ (k : ℕ) (rs : List Answer). record { clock = k; answers = rs }) (counting-is c) (sym (chained .answers)) in
+      let r : Response = responseTo (counting c) (leftOf c a) in
+      let left : leftOf c a ≡ record { answers = answersFor option (chained .links); table = settled option (startOf c) (chained .links) (ranBy c a .table) } =
+      ap (λ (rs : List Answer). settledRan option (startOf c) (record { answers = rs; table = ranBy c a .table })) (sym (chained .answers)) ∙ settled-same option (startOf c) (chained .links) (ranBy c a .table) in
+      let same : r ≡ meant c option (chained .links) = ap₂ (λ (k : ℕ) (ran : Ran). responseTo k ran) (counting-is c) left in
       let bytes : take (length spelling) (over spelling (c .output)) ≡ encode (respond (meant c option (chained .links))) = front-is ∙ ap (λ (q : Response). encode (respond q)) same in
       record {
         items = a .items;
@@ -163,13 +172,14 @@ module _ (c : Call) (lent : Lent c) (a : Accepted c) where
         links = chained .links;
         begins = start-begins;
         chain = chained .chain;
-        left = refl;
-        stored = ran-leaves .latest ∙ start-begins .latest;
+        left = ap (λ (ran : Ran). ran .table) left;
+        kept = refl;
+        stored = left-leaves .latest ∙ start-begins .latest;
         spelling = bytes;
         response = respond r;
-        readable = ap message front-is ∙ response-message r ran-allowed;
-        read-back = answers-back r ran-allowed ∙ ap some same;
-        one-response = λ q ok e. bytes-one q r ok ran-allowed (e ∙ front-is) ∙ same;
+        readable = ap message front-is ∙ response-message r left-allowed;
+        read-back = answers-back r left-allowed ∙ ap some same;
+        one-response = λ q ok e. bytes-one q r ok left-allowed (e ∙ front-is) ∙ same;
         one-spelling = λ s b h. response-spells s (meant c option (chained .links)) b h .0 ∙ sym bytes;
       }
 
@@ -182,7 +192,7 @@ module _ (B : Box) (is : (c : Call) (e : Effect) → Lent c → B c e → e ≡ 
 
   told-refused : (c : Call) (e : Effect) → Lent c → Told c e → (e .number ≡ 0 → ⊥) → Untouched c e
   unfolding answered
-  told-refused c e lent (away k) h = record { length = refl; table = refl; output = refl }
+  told-refused c e lent (away k) h = record { length = refl; table = refl; output = refl; undo = refl }
   told-refused c e lent (accepted a) h = absurd (h refl)
 
   told-within : (c : Call) (e : Effect) → Lent c → Told c e → e .number ≡ 0 → Within c e
@@ -199,7 +209,7 @@ module _ (B : Box) (is : (c : Call) (e : Effect) → Lent c → B c e → e ≡ 
     ends = has;
     numbered = λ c e lent b.
         let n : e .number ≡ lowest 1 (refusalConditions c) = ap (λ (x : Effect). x .number) (is c e lent b) ∙ served-number c in
-        let m : lowest 1 (refusalConditions c) < 1 + 10 = lowest-most 1 (refusalConditions c) (omega arith) in
+        let m : lowest 1 (refusalConditions c) < 1 + 11 = lowest-most 1 (refusalConditions c) (omega arith) in
         omega arith;
     refused = by-told (λ c e. (e .number ≡ 0 → ⊥) → Untouched c e) told-refused;
     answered = by-told (λ c e. e .number ≡ 0 → Within c e) told-within;

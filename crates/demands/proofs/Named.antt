@@ -35,9 +35,9 @@ use Rattle.plans.specs.Plans.{Env, Did, envAt, serialFound, locatePlan, carried
 use Rattle.plans.proofs.Plans.{is-done}
 use Rattle.act.specs.Act.{plan, step}
 use Rattle.engine.specs.Effects.{Effect}
-use Rattle.engine.proofs.Steps.{step-held}
-use Rattle.engine.proofs.Commands.{Commanded, to-locate, commanded}
-use Rattle.engine.proofs.Batches.{own-bytes, own-long}
+use Rattle.batch_keeps.proofs.Steps.{step-held}
+use Rattle.batch_keeps.proofs.Commands.{Commanded, to-locate, commanded}
+use Rattle.batch_keeps.proofs.Batches.{own-bytes, own-long}
 use Rattle.demands.specs.Box.{Call, Box, Lent, placesOf}
 use Rattle.demands.specs.Log.{Event}
 use Rattle.demands.specs.Demand1.{Demand1}

@@ -19,15 +19,16 @@ use Rattle.batch_item.specs.Item.{Asked}
 use Rattle.frame.specs.Frame.{Frame, frameIn, optionOf}
 use Rattle.plans.specs.Plans.{Did}
 use Rattle.answer.specs.Respond.{Response, respond}
-use Rattle.engine.specs.Batch.{Ran, answerTo, lastly, firstly, endsBatch, batch, running}
+use Rattle.batch.specs.Batch.{Ran, answerTo, lastly, firstly, endsBatch, batch, running}
+use Rattle.settle.specs.Undo.{settled as settledRan, keptIn}
 use Rattle.engine.specs.Effects.{Effect}
-use Rattle.engine.specs.Serving.{turnedAway, responseTo, answered}
+use Rattle.engine.specs.Serving.{responseTo, answered}
 use Rattle.demands.specs.Box.{Call, Box, Lent, placesOf}
 use Rattle.demands.specs.Demand1.{Demand1, Within}
-use Rattle.demands.specs.Demand2.{Demand2, Answered, Begins, Link, answerFor, linkAt, Chain, none-left, stops, goes-on}
+use Rattle.demands.specs.Demand2.{Demand2, Answered, Begins, Link, answerFor, linkAt, Chain, none-left, stops, goes-on, optionIn, settled, answersFor, keptFor}
 use Rattle.demands.specs.Demand3.{Demand3}
-use Rattle.demands.proofs.Chains.{ends-not, due-step, ranFrom}
-use Rattle.demands.proofs.Ladder.{served, same-effect, served-number, Accepted, counting, startOf, ranBy, Told, away, accepted, told}
+use Rattle.demands.proofs.Chains.{ends-not, due-step, ranFrom, ranOf, settled-same}
+use Rattle.demands.proofs.Ladder.{served, same-effect, served-number, Accepted, counting, startOf, ranBy, leftOf, keptBy, turned, answeredBy, Told, away, accepted, told}
 use Rattle.demands.proofs.Meets.{counting-is, start-begins, front-is}
 use Rattle.demands.proofs.Meets3.{meets-3}
 use Rattle.demands.proofs.Serve.{Serve, serve-right}
@@ -37,9 +38,6 @@ use Rattle.demands.proofs.Serve.{Serve, serve-right}
 module _ (c : Call) (option : ℕ) where
   abbrev turnOf : ℕ → Asked → List Asked → Did → Ran
   turnOf i asked later x = ifb (endsBatch option x) (lastly (answerTo asked x) (x .table)) (firstly (answerTo asked x) (ranFrom c option (i + 1) (x .holder) (x .table) later))
-
-  abbrev ranOf : List Link → List ℕ → Ran
-  ranOf links u = record { answers = map answerFor links; table = u }
 
   pub chain-one : {i holder : ℕ} {t u : List ℕ} {items : List Asked} {links : List Link} → Chain c option i holder t items links u → ranOf links u ≡ ranFrom c option i holder t items
   unfolding batch answerFor
@@ -68,18 +66,34 @@ module _ (c : Call) (lent : Lent c) (e : Effect) (a : Accepted c) (g : Answered 
   pub same-frame : g .frame ≡ a .frame
   same-frame = some-is (sym (g .framed) ∙ ap frameIn (some-is (sym (g .reads) ∙ a .reads)) ∙ a .framed)
 
-  ran-is : _≡_ {A = Ran} (record { answers = map answerFor (g .links); table = g .reached }) (ranBy c a)
+  ran-is : ranOf (g .links) (g .reached) ≡ ranBy c a
   unfolding running
   ran-is =
       chain-one c (optionOf (a .frame .header .option))
       (subst (λ (f : Frame). Chain c (optionOf (f .header .option)) 0 0 (startOf c) (f .items) (g .links) (g .reached)) same-frame
       (subst (λ (t : List ℕ). Chain c (optionOf (g .frame .header .option)) 0 0 t (g .frame .items) (g .links) (g .reached)) (start-same c lent a (g .start) (g .begins)) (g .chain)))
 
+  -- the answers and the table that the demand leaves under the option
+  left-is : _≡_ {A = Ran} (record { answers = answersFor (optionIn (g .frame)) (g .links); table = settled (optionIn (g .frame)) (g .start) (g .links) (g .reached) }) (leftOf c a)
+  left-is =
+      sym (settled-same (optionIn (g .frame)) (g .start) (g .links) (g .reached))
+      ∙ ap (λ (f : Frame). settledRan (optionIn f) (g .start) (ranOf (g .links) (g .reached))) same-frame
+      ∙ ap (λ (t : List ℕ). settledRan (optionIn (a .frame)) t (ranOf (g .links) (g .reached))) (start-same c lent a (g .start) (g .begins))
+      ∙ ap (settledRan (optionIn (a .frame)) (startOf c)) ran-is
+
+  -- and what the second buffer holds
+  kept-is : e .undo ≡ keptBy c a
+  unfolding keptIn keptFor
+  kept-is =
+      g .kept
+      ∙ ap (λ (f : Frame). keptFor (optionIn f) (g .start) (c .undo)) same-frame
+      ∙ ap (λ (t : List ℕ). keptFor (optionIn (a .frame)) t (c .undo)) (start-same c lent a (g .start) (g .begins))
+
   abbrev due : Response
-  due = responseTo (counting c) (ranBy c a)
+  due = responseTo (counting c) (leftOf c a)
 
   front : take (e .length) (e .output) ≡ encode (respond due)
-  front = g .spelling ∙ ap₂ (λ (k : ℕ) (x : Ran). encode (respond (responseTo k x))) (sym (counting-is c)) ran-is
+  front = g .spelling ∙ ap₂ (λ (k : ℕ) (x : Ran). encode (respond (responseTo k x))) (sym (counting-is c)) left-is
 
   module _ (w : Within c e) where
     long : e .length ≡ length (encode (respond due))
@@ -92,9 +106,9 @@ module _ (c : Call) (lent : Lent c) (e : Effect) (a : Accepted c) (g : Answered 
         ∙ ap (λ (s : List ℕ). encode (respond due) ++ s) (w .past)
         ∙ ap (λ (k : ℕ). encode (respond due) ++ drop k (c .output)) long
 
-    pub only-accepted : e .number ≡ 0 → e ≡ answered (counting c) (c .output) (ranBy c a)
+    pub only-accepted : e .number ≡ 0 → e ≡ answeredBy c a
     unfolding answered
-    only-accepted n = same-effect e (answered (counting c) (c .output) (ranBy c a)) n long (g .left ∙ ap (λ (x : Ran). x .table) ran-is) out
+    only-accepted n = same-effect e (answeredBy c a) n long (g .left ∙ ap (λ (x : Ran). x .table) left-is) out kept-is
 
 -- ---- what demand 2 leaves of an accepted call
 
@@ -109,7 +123,7 @@ answered-due c e lent g n = let p = by-told (served c) (told c) n in record { ta
   where
     by-told : (f : Effect) → Told c f → f .number ≡ 0 → (e .table ≡ f .table) × (take (e .length) (e .output) ≡ take (f .length) (f .output))
     by-told f (away k) z = absurd (let q : suc k ≡ 0 = z in omega arith)
-    by-told f (accepted a) z = (g .left ∙ ap (λ (x : Ran). x .table) (ran-is c lent e a g), front c lent e a g ∙ sym (front-is c lent a))
+    by-told f (accepted a) z = (g .left ∙ ap (λ (x : Ran). x .table) (left-is c lent e a g), front c lent e a g ∙ sym (front-is c lent a))
 
 -- ---- one box
 
@@ -118,10 +132,10 @@ module _ (B : Box) (d1 : Demand1 B) (d2 : Demand2 B) where
   unfolding answered
   by-told c e e′ lent b (away k) n =
       let u = d1 .refused c e lent b (λ z. (let q : suc k ≡ 0 = sym n ∙ z in omega arith)) in
-      same-effect e (turnedAway (c .table) (c .output) (suc k)) n (u .length) (u .table) (u .output)
+      same-effect e (turned c (suc k)) n (u .length) (u .table) (u .output) (u .undo)
   by-told c e e′ lent b (accepted a) n = only-accepted c lent e a (d2 .answered c e lent b n) (d1 .answered c e lent b n) n
 
-  -- "Number, length, output and table after a call follow from the inputs alone": a box that meets demands 1 and 2 leaves what the definitions say
+  -- "Number, length, output and table after a call follow from the inputs alone", and the second buffer: a box that meets demands 1 and 2 leaves what the definitions say
   pub only-box : (c : Call) (e : Effect) → Lent c → B c e → e ≡ served c
   only-box c e lent b = by-told c e (served c) lent b (told c) (d2 .number c e lent b ∙ sym (served-number c))
 

@@ -21,10 +21,10 @@ use Rattle.plans.specs.Plans.{Env, Did, envAt, createPlan, rekeyPlan, locatePla
 use Rattle.act.specs.Act.{step}
 use Rattle.act.proofs.Went.{Moving, activating, revoking, destroying, Kind, fails, creates, rekeys, grants, moves, shows, gets, locates, step-kind}
 use Rattle.answer.specs.Respond.{Answer}
-use Rattle.engine.specs.Batch.{Ran, answerTo, lastly, firstly, endsBatch, batch}
-use Rattle.engine.proofs.Commands.{Commanded, to-rekey, to-allocate, to-activate, to-revoke, to-destroy, commanded}
-use Rattle.engine.proofs.Steps.{step-held}
-use Rattle.engine.proofs.Batches.{own-bytes, own-long}
+use Rattle.batch.specs.Batch.{Ran, answerTo, lastly, firstly, endsBatch, batch}
+use Rattle.batch_keeps.proofs.Commands.{Commanded, to-rekey, to-allocate, to-activate, to-revoke, to-destroy, commanded}
+use Rattle.batch_keeps.proofs.Steps.{step-held}
+use Rattle.batch_keeps.proofs.Batches.{own-bytes, own-long}
 use Rattle.demands.specs.Log.{Event, heldAfter, paired, onto}
 use Rattle.demands.specs.Demand3.{Tame, Path, arrived, went}
 use Rattle.demands.proofs.Counted.{kind-counts}
@@ -82,7 +82,7 @@ unfolding onto
 stood b = record { path = arrived; books = b }
 
 -- one item in front of the others
-onward : {n : ℕ} {log events : List Event} {t v : List ℕ} (ev : Event) (u : List ℕ) → Tame n ev t u → Books n (ev ∷ log) u → Travelled n (ev ∷ log) u events v → Travelled n log t (ev ∷ events) v
+pub onward : {n : ℕ} {log events : List Event} {t v : List ℕ} (ev : Event) (u : List ℕ) → Tame n ev t u → Books n (ev ∷ log) u → Travelled n (ev ∷ log) u events v → Travelled n log t (ev ∷ events) v
 unfolding onto
 onward {n} {log} ev u tame b rest = record { path = went ev u tame (inv-order (ev ∷ log) u (b .inv) (b .dead)) (rest .path); books = rest .books }
 

@@ -10,6 +10,7 @@ use lib.ListN.{length, take}
 use Rattle.octets.specs.If.{ifb}
 use Rattle.octets.specs.Maybe.{_>>=_, _>>_}
 use Rattle.octets.specs.Octets.{over}
+use Rattle.octets.proofs.If.{on-if}
 use Rattle.ttlv.specs.Items.{Items}
 use Rattle.ttlv.specs.Parse.{firstOf, more, walk, parse, isOne, message}
 use Rattle.table.specs.Layout.{sizeOf, placesOk, materialSize}
@@ -24,19 +25,21 @@ use Rattle.frame.specs.Frame.{frameIn, optionOf}
 use Rattle.answer.specs.Respond.{Answer, Response}
 use Rattle.answer.specs.Read.{answersIn}
 use Rattle.answer.proofs.One.{response-back}
-use Rattle.engine.specs.Batch.{running}
+use Rattle.batch.specs.Batch.{Ran, running}
+use Rattle.settle.specs.Undo.{settled}
 use Rattle.engine.specs.Effects.{Effect}
-use Rattle.engine.specs.Serving.{turnedAway, responseTo, answered}
+use Rattle.engine.specs.Serving.{responseTo, answered}
 use Rattle.demands.specs.Box.{Call, Box, Lent, placesOf}
 use Rattle.demands.specs.Log.{Event, orNoItems, orNoAnswers, itemsAsked, answersGiven, paired, eventsOf, onto, logged, issued, granted, limit}
 use Rattle.demands.specs.Demand3.{Run, begins, calls, DueOnly, Opens, accepted as opens, refused, Goes}
-use Rattle.demands.proofs.Ladder.{served, Accepted, counting, startOf, ranBy, Told, away, accepted, told}
-use Rattle.demands.proofs.Meets.{counting-is, held-lent, counting-later, counting-fits, count-facts, ran-leaves, ran-allowed, spelling, front-is}
+use Rattle.demands.proofs.Ladder.{served, Accepted, counting, startOf, leftOf, turned, answeredBy, Told, away, accepted, told}
+use Rattle.demands.proofs.Meets.{counting-is, held-lent, counting-later, counting-fits, count-facts, left-leaves, left-allowed, spelling, front-is}
 use Rattle.demands.proofs.Logged.{Inv}
 use Rattle.demands.proofs.Dead.{none-dead}
 use Rattle.demands.proofs.Ordered.{inv-order}
 use Rattle.demands.proofs.Opened.{due-only, books-began}
 use Rattle.demands.proofs.Paired.{paired-end, Books, Travelled, stood, batch-travels}
+use Rattle.demands.proofs.Unmade.{unmade-travels, batch-unmade}
 
 -- ---- the events of one call
 
@@ -46,15 +49,15 @@ unfolding message parse walk more firstOf isOne ifb _>>=_ _>>_
 no-message = refl
 
 -- a refused call has none
-no-answers : (c : Call) (k : ℕ) → answersGiven (turnedAway (c .table) (c .output) k) ≡ []
+no-answers : (c : Call) (k : ℕ) → answersGiven (turned c k) ≡ []
 unfolding orNoAnswers _>>=_
 no-answers c k = ap (λ (m : Option Items). orNoAnswers (m >>= answersIn)) no-message
 
-pub events-away : (c : Call) (k : ℕ) → eventsOf c (turnedAway (c .table) (c .output) k) ≡ []
+pub events-away : (c : Call) (k : ℕ) → eventsOf c (turned c k) ≡ []
 unfolding eventsOf
 events-away c k = ap (λ (answers : List Answer). paired 0 (itemsAsked c) answers) (no-answers c k) ∙ paired-end 0 (itemsAsked c)
 
-pub asked-away : (c : Call) (k : ℕ) → length (answersGiven (turnedAway (c .table) (c .output) k)) ≤ length (itemsAsked c)
+pub asked-away : (c : Call) (k : ℕ) → length (answersGiven (turned c k)) ≤ length (itemsAsked c)
 asked-away c k = subst (λ (answers : List Answer). length answers ≤ length (itemsAsked c)) (sym (no-answers c k)) (omega arith)
 
 module _ (c : Call) (lent : Lent c) (a : Accepted c) where
@@ -63,31 +66,36 @@ module _ (c : Call) (lent : Lent c) (a : Accepted c) where
   unfolding orNoItems _>>=_
   items-are = ap (λ (m : Option Items). orNoItems (m >>= frameIn)) (a .reads) ∙ ap orNoItems (a .framed)
 
-  answers-are : answersGiven (answered (counting c) (c .output) (ranBy c a)) ≡ ranBy c a .answers
+  answers-are : answersGiven (answeredBy c a) ≡ leftOf c a .answers
   unfolding answered orNoAnswers _>>=_
   answers-are =
-      let r : Response = responseTo (counting c) (ranBy c a) in
-      let g : (message (take (length (spelling c lent a)) (over (spelling c lent a) (c .output))) >>= answersIn) ≡ some r = ap (λ (s : List ℕ). message s >>= answersIn) (front-is c lent a) ∙ response-back r (ran-allowed c lent a) in
+      let r : Response = responseTo (counting c) (leftOf c a) in
+      let g : (message (take (length (spelling c lent a)) (over (spelling c lent a) (c .output))) >>= answersIn) ≡ some r = ap (λ (s : List ℕ). message s >>= answersIn) (front-is c lent a) ∙ response-back r (left-allowed c lent a) in
       ap orNoAnswers g
 
-  pub events-accepted : eventsOf c (answered (counting c) (c .output) (ranBy c a)) ≡ paired 0 (a .frame .items) (ranBy c a .answers)
+  pub events-accepted : eventsOf c (answeredBy c a) ≡ paired 0 (a .frame .items) (leftOf c a .answers)
   unfolding eventsOf
-  events-accepted = ap (paired 0 (itemsAsked c)) answers-are ∙ ap (λ (is : List Asked). paired 0 is (ranBy c a .answers)) items-are
+  events-accepted = ap (paired 0 (itemsAsked c)) answers-are ∙ ap (λ (is : List Asked). paired 0 is (leftOf c a .answers)) items-are
 
   -- no more answers than items
-  asked-accepted : length (answersGiven (answered (counting c) (c .output) (ranBy c a))) ≤ length (itemsAsked c)
-  asked-accepted = omega (arith, ap (λ (is : List Asked). length is) items-are, ap (λ (answers : List Answer). length answers) answers-are, ran-leaves c lent a .few)
+  asked-accepted : length (answersGiven (answeredBy c a)) ≤ length (itemsAsked c)
+  asked-accepted = omega (arith, ap (λ (is : List Asked). length is) items-are, ap (λ (answers : List Answer). length answers) answers-are, left-leaves c lent a .few)
 
   -- the strip has its part for every item
   pub strip-fits : materialSize * (0 + length (a .frame .items)) ≤ length (c .strip)
   strip-fits = omega (arith, count-facts c lent a .1, a .strip)
 
-  -- so the call goes along them, from the table in which what is due is done
-  accepted-travels : (log : List Event) → Books (placesOf c) log (startOf c) → Travelled (placesOf c) log (startOf c) (eventsOf c (answered (counting c) (c .output) (ranBy c a))) (ranBy c a .table)
-  unfolding running
+  -- so the call goes along them, from the table in which what is due is done; what is undone counts as never made
+  accepted-travels : (log : List Event) → Books (placesOf c) log (startOf c) → Travelled (placesOf c) log (startOf c) (eventsOf c (answeredBy c a)) (leftOf c a .table)
+  unfolding running settled
   accepted-travels log books =
-      subst (λ (events : List Event). Travelled (placesOf c) log (startOf c) events (ranBy c a .table)) (sym events-accepted)
-      (batch-travels (placesOf c) (c .strip) (optionOf (a .frame .header .option)) (lent .strip) (a .frame .items) 0 0 (startOf c) log strip-fits books)
+      subst (λ (events : List Event). Travelled (placesOf c) log (startOf c) events (leftOf c a .table)) (sym events-accepted)
+      (on-if (λ (left : Ran). Travelled (placesOf c) log (startOf c) (paired 0 (a .frame .items) (left .answers)) (left .table))
+      (λ undone. unmade-travels (batch-unmade (placesOf c) (c .strip) option (a .frame .items) 0 0 0 (startOf c)) log books)
+      (λ kept. batch-travels (placesOf c) (c .strip) option (lent .strip) (a .frame .items) 0 0 (startOf c) log strip-fits books))
+    where
+      option : ℕ
+      option = optionOf (a .frame .header .option)
 
 -- ---- the blank table
 

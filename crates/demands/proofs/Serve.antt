@@ -21,19 +21,26 @@ use Rattle.demands.proofs.Meets3.{meets-3}
 
 -- the contract of `junctionmoth_serve`, as a relation between what is lent and what is left
 abbrev pub Serve : Box
-Serve c e = CallIs (c .request) (c .table) (c .strip) (c .clock) (c .output) (e .number) (e .length) (e .table) (e .output)
+Serve c e = CallIs (c .request) (c .table) (c .strip) (c .clock) (c .output) (c .undo) (e .number) (e .length) (e .table) (e .output) (e .undo)
 
 -- ---- every real call is in it
 
-module _ (κs : Lfts 5) (a : Dens κs kinds.ps) where
+module _ (κs : Lfts 6) (a : Dens κs kinds.ps) where
   -- what was lent to a call
   abbrev pub lentTo : Call
-  lentTo = record { request = now (a .0); table = now (a .1 .0); strip = now (a .1 .1 .0); clock = ofZ w64 (a .1 .1 .1 .0); output = now (a .1 .1 .1 .1 .0) }
+  lentTo = record {
+    request = now (a .0);
+    table = now (a .1 .0);
+    strip = now (a .1 .1 .0);
+    clock = ofZ w64 (a .1 .1 .1 .0);
+    output = now (a .1 .1 .1 .1 .0);
+    undo = now (a .1 .1 .1 .1 .1 .1 .0);
+  }
 
-  module _ (r : resT kinds.r κs .Denot) (s : AtExit (endedOf 5 kinds.ps kinds.r) κs) where
+  module _ (r : resT kinds.r κs .Denot) (s : AtExit (endedOf 6 kinds.ps kinds.r) κs) where
     -- what it left
     abbrev pub leftBy : Effect
-    leftBy = record { number = r; length = now (s .1 .1 .1 .1 .1 .0); table = now (s .1 .0); output = now (s .1 .1 .1 .1 .0) }
+    leftBy = record { number = r; length = now (s .1 .1 .1 .1 .1 .0); table = now (s .1 .0); output = now (s .1 .1 .1 .1 .0); undo = now (s .1 .1 .1 .1 .1 .1 .0) }
 
     -- a call that meets its contract, as the checker reads the contract, is one of the box
     pub post-serves : reads.Post κs a r s → Serve lentTo leftBy
@@ -42,11 +49,11 @@ module _ (κs : Lfts 5) (a : Dens κs kinds.ps) where
 -- ---- the three demands
 
 serve-is : (c : Call) (e : Effect) → Lent c → Serve c e → e ≡ served c
-serve-is c e lent p = same-effect e (served c) (p .number-is) (p .length-is) (p .table-is) (p .output-is)
+serve-is c e lent p = same-effect e (served c) (p .number-is) (p .length-is) (p .table-is) (p .output-is) (p .undo-is)
 
 -- what the definitions give is in it
 pub serve-right : (c : Call) → Serve c (served c)
-serve-right c = record { number-is = refl; length-is = refl; table-is = refl; output-is = refl }
+serve-right c = record { number-is = refl; length-is = refl; table-is = refl; output-is = refl; undo-is = refl }
 
 serve-has : (c : Call) → Lent c → (e : Effect) × Serve c e
 serve-has c lent = (served c, serve-right c)

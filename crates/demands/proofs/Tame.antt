@@ -37,11 +37,11 @@ use Rattle.payload.specs.Payload.{command}
 use Rattle.plans.specs.Plans.{Env, Did, envAt, createPlan, rekeyPlan, locatePlan, serialFound, shownOf, keyOf, isFailed}
 use Rattle.act.specs.Act.{sought, step}
 use Rattle.act.proofs.Went.{Moving, activating, revoking, destroying, Kind, fails, creates, rekeys, grants, moves, shows, gets, locates, step-kind}
-use Rattle.engine.specs.Batch.{answerTo}
-use Rattle.engine.proofs.Steps.{step-latest}
-use Rattle.engine.proofs.Commands.{Commanded, to-activate, to-revoke, to-destroy, commanded}
+use Rattle.batch.specs.Batch.{answerTo}
+use Rattle.batch_keeps.proofs.Steps.{step-latest}
+use Rattle.batch_keeps.proofs.Commands.{Commanded, to-activate, to-revoke, to-destroy, commanded}
 use Rattle.demands.specs.Log.{Event, issuedBy, handedBy}
-use Rattle.demands.specs.Demand3.{namedBy, isUnderstood, movesState, asksKey, asksName, carries, codeOf, bornBy, foundIn, listed, Tame}
+use Rattle.demands.specs.Demand3.{namedBy, isUnderstood, movesState, asksKey, asksName, isMade, carries, codeOf, bornBy, foundIn, listed, Tame}
 use Rattle.demands.proofs.Counted.{create-allowed, no-issue, move-issues, Counts, kind-counts}
 
 -- ---- the listed transitions
@@ -113,14 +113,14 @@ pub record TameAt (n holder : ℕ) (t : List ℕ) (operation : ℕ) (c : Command
   pub others : namedAt n holder t c i ≡ false → tookAt n t c did i ≡ false → placeAt n (did .table) i ≡ placeAt n t i
   pub kept : tookAt n t c did i ≡ false → placeAt n (did .table) i .serial ≡ placeAt n t i .serial
   pub moves : tookAt n t c did i ≡ false → (placeAt n (did .table) i .state ≡ placeAt n t i .state → ⊥)
-      → (isFailed (did .outcome) ≡ false) × (namedAt n holder t c i ≡ true) × (wayAt n t operation c did i ≡ true)
-  pub obeys : namedAt n holder t c i ≡ true → isFailed (did .outcome) ≡ false → movesState c ≡ true → wayAt n t operation c did i ≡ true
+      → (isMade (did .outcome) ≡ true) × (namedAt n holder t c i ≡ true) × (wayAt n t operation c did i ≡ true)
+  pub obeys : namedAt n holder t c i ≡ true → isMade (did .outcome) ≡ true → movesState c ≡ true → wayAt n t operation c did i ≡ true
   pub taken : tookAt n t c did i ≡ true
       → ((isFree t i || isDestroyed (placeAt n t i .state)) ≡ true) × (placeAt n (did .table) i .serial ≡ issuedBy c (did .outcome)) × (placeAt n (did .table) i .state ≡ bornAs n holder t c)
 
 module _ {n holder : ℕ} {t : List ℕ} {operation : ℕ} {c : Command} {did : Did} (i : ℕ) where
   -- a record that stayed the same, and was not to move
-  stayed : placeAt n (did .table) i ≡ placeAt n t i → tookAt n t c did i ≡ false → (namedAt n holder t c i ≡ true → isFailed (did .outcome) ≡ false → movesState c ≡ true → ⊥)
+  stayed : placeAt n (did .table) i ≡ placeAt n t i → tookAt n t c did i ≡ false → (namedAt n holder t c i ≡ true → isMade (did .outcome) ≡ true → movesState c ≡ true → ⊥)
       → TameAt n holder t operation c did i
   stayed e miss still = record {
     others = λ a b. e;
@@ -142,7 +142,7 @@ module _ {n holder : ℕ} {t : List ℕ} {operation : ℕ} {c : Command} {did : 
   }
 
   -- a named record that moved
-  shifted : placeAt n (did .table) i .serial ≡ placeAt n t i .serial → isFailed (did .outcome) ≡ false
+  shifted : placeAt n (did .table) i .serial ≡ placeAt n t i .serial → isMade (did .outcome) ≡ true
       → namedAt n holder t c i ≡ true → tookAt n t c did i ≡ false → wayAt n t operation c did i ≡ true → TameAt n holder t operation c did i
   shifted s done hit miss w = record {
     others = λ a b. absurd (true≢false (sym hit ∙ a));
@@ -189,8 +189,8 @@ module _ (env : Env) (holder : ℕ) (t : List ℕ) (held : Held (env .places) t)
   here u q e = ap (placeAt n u) q ∙ e
 
   pub kind-tame : {operation : ℕ} (c : Command) (did : Did) → Kind env holder t c did → Commanded operation c → TameAt (env .places) holder t operation c did i
-  unfolding createPlan rekeyPlan locatePlan newRecord heirOf heirDated linkedTo withCount movedTo withDates inState namedBy movesState isFailed issuedBy bornBy foundAt
-  kind-tame c did (fails reason) m = stayed i refl (none-taken n t c did i (no-issue c reason)) (λ a f z. true≢false f)
+  unfolding createPlan rekeyPlan locatePlan newRecord heirOf heirDated linkedTo withCount movedTo withDates inState namedBy movesState isMade issuedBy bornBy foundAt
+  kind-tame c did (fails reason) m = stayed i refl (none-taken n t c did i (no-issue c reason)) (λ a f z. false≢true f)
   kind-tame c did (shows target k e) m = stayed i refl refl (λ a f z. false≢true z)
   kind-tame c did (gets target k e live) m = stayed i refl refl (λ a f z. false≢true z)
   kind-tame c did (locates name) m = stayed i refl refl (λ a f z. false≢true z)
@@ -268,10 +268,10 @@ module _ (env : Env) (holder : ℕ) (t : List ℕ) where
   named-there c did x k e n s =
       (k, find-below (env .places) t x k e, is-at k k _ (ap (find (env .places) t) n ∙ e) refl, s ∙ sym (serial-is (env .places) t k))
 
-  kind-about : {operation : ℕ} (c : Command) (did : Did) → Kind env holder t c did → Commanded operation c → isFailed (did .outcome) ≡ false → issuedBy c (did .outcome) ≡ 0 → asksName c ≡ false
+  kind-about : {operation : ℕ} (c : Command) (did : Did) → Kind env holder t c did → Commanded operation c → isMade (did .outcome) ≡ true → issuedBy c (did .outcome) ≡ 0 → asksName c ≡ false
       → (i : ℕ) × (i < env .places) × (isAt i (find (env .places) t (namedBy holder c)) ≡ true) × (carries (did .outcome) ≡ serialAt t i)
-  unfolding createPlan rekeyPlan locatePlan withCount movedTo withDates inState shownOf keyOf isFailed issuedBy namedBy carries asksName
-  kind-about c did (fails reason) m f z a = absurd (true≢false f)
+  unfolding createPlan rekeyPlan locatePlan withCount movedTo withDates inState shownOf keyOf isMade issuedBy namedBy carries asksName
+  kind-about c did (fails reason) m f z a = absurd (false≢true f)
   kind-about c did (creates wanted free room) m f z a = absurd (let y : lastSerial t + 1 ≡ 0 = z in omega arith)
   kind-about c did (rekeys target offset k e live single right room) m f z a = absurd (let y : lastSerial t + 1 ≡ 0 = z in omega arith)
   kind-about c did (grants target amount k e g) m f z a = named-there c did (sought holder target) k e refl refl
@@ -321,10 +321,10 @@ kind-hands env holder t c did (shows target k e) h = absurd (h refl)
 kind-hands env holder t c did (gets target k e live) h = refl
 kind-hands env holder t c did (locates name) h = absurd (h refl)
 
-kind-alive : (env : Env) (holder : ℕ) (t : List ℕ) (c : Command) (did : Did) → Kind env holder t c did → (i : ℕ) → isAt i (find (env .places) t (namedBy holder c)) ≡ true → isFailed (did .outcome) ≡ false
+kind-alive : (env : Env) (holder : ℕ) (t : List ℕ) (c : Command) (did : Did) → Kind env holder t c did → (i : ℕ) → isAt i (find (env .places) t (namedBy holder c)) ≡ true → isMade (did .outcome) ≡ true
     → asksKey c ≡ true → isDestroyed (placeAt (env .places) t i .state) ≡ false
-unfolding createPlan rekeyPlan locatePlan isFailed namedBy asksKey
-kind-alive env holder t c did (fails reason) i a f k = absurd (true≢false f)
+unfolding createPlan rekeyPlan locatePlan isMade namedBy asksKey
+kind-alive env holder t c did (fails reason) i a f k = absurd (false≢true f)
 kind-alive env holder t c did (creates wanted free room) i a f k = absurd (false≢true k)
 kind-alive env holder t c did (rekeys target offset j e live single right room) i a f k = absurd (false≢true k)
 kind-alive env holder t c did (grants target amount j e g) i a f k = absurd (false≢true k)
@@ -334,13 +334,13 @@ kind-alive env holder t c did (gets target j e live) i a f k = ap (λ (l : ℕ).
 kind-alive env holder t c did (locates name) i a f k = absurd (false≢true k)
 
 -- a failed item leaves the table
-kind-failed : (env : Env) (holder : ℕ) (t : List ℕ) (c : Command) (did : Did) → Kind env holder t c did → isFailed (did .outcome) ≡ true → did .table ≡ t
-unfolding createPlan rekeyPlan locatePlan isFailed
+kind-failed : (env : Env) (holder : ℕ) (t : List ℕ) (c : Command) (did : Did) → Kind env holder t c did → isMade (did .outcome) ≡ false → did .table ≡ t
+unfolding createPlan rekeyPlan locatePlan isMade
 kind-failed env holder t c did (fails reason) h = refl
-kind-failed env holder t c did (creates wanted free room) h = absurd (false≢true h)
-kind-failed env holder t c did (rekeys target offset k e alive single right room) h = absurd (false≢true h)
-kind-failed env holder t c did (grants target amount k e g) h = absurd (false≢true h)
-kind-failed env holder t c did (moves v k next e late g) h = absurd (false≢true h)
+kind-failed env holder t c did (creates wanted free room) h = absurd (true≢false h)
+kind-failed env holder t c did (rekeys target offset k e alive single right room) h = absurd (true≢false h)
+kind-failed env holder t c did (grants target amount k e g) h = absurd (true≢false h)
+kind-failed env holder t c did (moves v k next e late g) h = absurd (true≢false h)
 kind-failed env holder t c did (shows target k e) h = refl
 kind-failed env holder t c did (gets target k e live) h = refl
 kind-failed env holder t c did (locates name) h = refl
@@ -352,7 +352,7 @@ moving-understood activating = refl
 moving-understood revoking = refl
 moving-understood destroying = refl
 
-kind-understood : (env : Env) (holder : ℕ) (t : List ℕ) (c : Command) (did : Did) → Kind env holder t c did → isUnderstood c ≡ false → isFailed (did .outcome) ≡ true
+pub kind-understood : (env : Env) (holder : ℕ) (t : List ℕ) (c : Command) (did : Did) → Kind env holder t c did → isUnderstood c ≡ false → isFailed (did .outcome) ≡ true
 unfolding isUnderstood isFailed
 kind-understood env holder t c did (fails reason) h = refl
 kind-understood env holder t c did (creates wanted free room) h = absurd (true≢false h)

@@ -39,14 +39,15 @@ use Rattle.changes.specs.Records.{heirActivation, heirDeactivation}
 use Rattle.target_read.specs.Target.{targetOf, targetIn}
 use Rattle.plans.specs.declared.Key.{Key}
 use Rattle.plans.specs.declared.Outcome.{Outcome}
-use Rattle.plans.specs.declared.Outcome.the-variants.{Failed, Created, Done, Showed, Got, Located}
+use Rattle.plans.specs.declared.Outcome.the-variants.{Failed, Created, Done, Showed, Got, Located, Undone}
 use Rattle.act.specs.Act.{sought}
 use Rattle.plans.specs.Plans.{isFailed}
 use Rattle.answer.specs.Respond.{Answer}
 use Rattle.demands.specs.Box.{Call, counted}
-use Rattle.demands.specs.Demand2.{Link, ofFrame, lowest, goesOn, linkAt, answerFor, answersFor}
+use Rattle.demands.specs.Demand1.{refusals}
+use Rattle.demands.specs.Demand2.{Link, ofFrame, lowest, goesOn, linkAt, answerFor, anyFails, isUndone, settled, undoneFor, answersFor, keptFor}
 use Rattle.demands.specs.Log.{Event, heldAfter, paired, orNoItems, orNoAnswers, onto, issuedBy, issued, grantBy, granted, limitBy, limit, handedBy, destroyedBy, wasDestroyed, handedDead}
-use Rattle.demands.specs.Demand3.{namedBy, isUnderstood, movesState, asksKey, asksName, carries, codeOf, names, takes, mayTake, bornBy, foundIn, bornState, listed, listedFor, listedBy}
+use Rattle.demands.specs.Demand3.{namedBy, isUnderstood, movesState, asksKey, asksName, isMade, carries, codeOf, names, takes, mayTake, bornBy, foundIn, bornState, listed, listedFor, listedBy}
 use Rattle.demands.specs.Hope.{largest}
 
 -- ---- commands and outcomes
@@ -75,7 +76,7 @@ heldCommands = Rekey Placeholder NoOffset ∷ GetUsageAllocation Placeholder 60 
 key : ℕ → Key
 key serial = record { serial = serial; bits = 128; material = record { a = 1; b = 2; c = 0; d = 0 } }
 
--- one of each outcome; those that carry an identifier carry 8
+-- one of each outcome; those that carry an identifier carry 8, and what was undone carries none
 outcomes : List Outcome
 outcomes =
     Failed UsageLimitExceeded
@@ -84,6 +85,7 @@ outcomes =
     ∷ Showed (record { serial = 8; bits = 128; mask = 4; state = 1; activation = 0; deactivation = 0; unit = 2; total = 100; count = 100; replaced = 0; replacement = 0; name = noName })
     ∷ Got (key 8)
     ∷ Located 8
+    ∷ Undone
     ∷ []
 
 flag : Bool → ℕ
@@ -95,7 +97,7 @@ matrix f [] = []
 matrix f (c ∷ cs) = map (f c) outcomes ++ matrix f cs
 
 none-of : List ℕ
-none-of = 0 ∷ 0 ∷ 0 ∷ 0 ∷ 0 ∷ 0 ∷ []
+none-of = 0 ∷ 0 ∷ 0 ∷ 0 ∷ 0 ∷ 0 ∷ 0 ∷ []
 
 commandCases : List Bool
 commandCases =
@@ -109,15 +111,17 @@ commandCases =
     -- and Locate alone for a record by its name
     ∷ same (map (λ c. flag (asksName c)) commands) (0 ∷ 0 ∷ 0 ∷ 0 ∷ 0 ∷ 0 ∷ 0 ∷ 0 ∷ 0 ∷ 0 ∷ 1 ∷ [])
     -- Create issues by Created, Re-key by Done, and nothing else issues
-    ∷ same (matrix issuedBy commands) (none-of ++ (none-of ++ ((0 ∷ 8 ∷ 0 ∷ 0 ∷ 0 ∷ 0 ∷ []) ++ ((0 ∷ 0 ∷ 8 ∷ 0 ∷ 0 ∷ 0 ∷ []) ++ replicate 42 0))))
+    ∷ same (matrix issuedBy commands) (none-of ++ (none-of ++ ((0 ∷ 8 ∷ 0 ∷ 0 ∷ 0 ∷ 0 ∷ 0 ∷ []) ++ ((0 ∷ 0 ∷ 8 ∷ 0 ∷ 0 ∷ 0 ∷ 0 ∷ []) ++ replicate 49 0))))
     -- Get Usage Allocation grants by Done, to the identifier that is carried, and nothing else grants
-    ∷ same (matrix (grantBy 8) commands) (replicate 24 0 ++ ((0 ∷ 0 ∷ 60 ∷ 0 ∷ 0 ∷ 0 ∷ []) ++ replicate 36 0))
-    ∷ same (matrix (grantBy 7) commands) (replicate 66 0)
+    ∷ same (matrix (grantBy 8) commands) (replicate 28 0 ++ ((0 ∷ 0 ∷ 60 ∷ 0 ∷ 0 ∷ 0 ∷ 0 ∷ []) ++ replicate 42 0))
+    ∷ same (matrix (grantBy 7) commands) (replicate 77 0)
     -- what an answer carries; a key is handed out by Got, and Destroy alone destroys, by Done
-    ∷ same (map carries outcomes) (0 ∷ 8 ∷ 8 ∷ 8 ∷ 8 ∷ 8 ∷ [])
-    ∷ same (map handedBy outcomes) (0 ∷ 0 ∷ 0 ∷ 0 ∷ 8 ∷ 0 ∷ [])
-    ∷ same (map (destroyedBy 0x14) outcomes) (0 ∷ 0 ∷ 8 ∷ 0 ∷ 0 ∷ 0 ∷ [])
+    ∷ same (map carries outcomes) (0 ∷ 8 ∷ 8 ∷ 8 ∷ 8 ∷ 8 ∷ 0 ∷ [])
+    ∷ same (map handedBy outcomes) (0 ∷ 0 ∷ 0 ∷ 0 ∷ 8 ∷ 0 ∷ 0 ∷ [])
+    ∷ same (map (destroyedBy 0x14) outcomes) (0 ∷ 0 ∷ 8 ∷ 0 ∷ 0 ∷ 0 ∷ 0 ∷ [])
     ∷ same (map (destroyedBy 0x13) outcomes) none-of
+    -- what failed and what was undone count as never made
+    ∷ same (map (λ o. flag (isMade o)) outcomes) (0 ∷ 1 ∷ 1 ∷ 1 ∷ 1 ∷ 1 ∷ 0 ∷ [])
     ∷ []
 
 -- ---- states
@@ -247,6 +251,13 @@ events = paired 0 items answers
 log : List Event
 log = onto events []
 
+-- the same items, each answered as undone
+undoneEvents : List Event
+undoneEvents = paired 0 items (map (λ (a : Answer). answering (a .operation) Undone) answers)
+
+undoneLog : List Event
+undoneLog = onto undoneEvents []
+
 -- what a log says of the identifiers 1 to 4
 ofEach : (ℕ → List Event → ℕ) → List Event → List ℕ
 ofEach f l = map (λ x. f x l) (1 ∷ 2 ∷ 3 ∷ 4 ∷ [])
@@ -261,6 +272,10 @@ destroyedIn x l = flag (wasDestroyed x l)
 got : Event
 got = record { held = 0; asked = asking 0x0A (hex "42009407 00000008 30303030 30303033"); answer = answering 0x0A (Got (key 3)) }
 
+-- and one that was undone
+gotUndone : Event
+gotUndone = record { held = 0; asked = got .asked; answer = answering 0x0A Undone }
+
 heldIn : List Event → List ℕ
 heldIn l = map (λ (ev : Event). ev .held) l
 
@@ -273,9 +288,9 @@ holding held = record { held = held; asked = asking 0 []; answer = answering 0 (
 
 logCases : List Bool
 logCases =
-    -- Create, Re-key and Locate set the placeholder, a failed item empties it, others keep it
-    same (map (heldAfter 3 (answering 0x04 (Done 8))) outcomes) (0 ∷ 8 ∷ 8 ∷ 3 ∷ 3 ∷ 8 ∷ [])
-    ∷ same (map (heldAfter 3 (answering 0x12 (Done 8))) outcomes) (0 ∷ 8 ∷ 3 ∷ 3 ∷ 3 ∷ 8 ∷ [])
+    -- Create, Re-key and Locate set the placeholder, a failed item and one that was undone empty it, others keep it
+    same (map (heldAfter 3 (answering 0x04 (Done 8))) outcomes) (0 ∷ 8 ∷ 8 ∷ 3 ∷ 3 ∷ 8 ∷ 0 ∷ [])
+    ∷ same (map (heldAfter 3 (answering 0x12 (Done 8))) outcomes) (0 ∷ 8 ∷ 3 ∷ 3 ∷ 3 ∷ 8 ∷ 0 ∷ [])
     ∷ same (heldIn events) (0 ∷ 1 ∷ 1 ∷ 1 ∷ 0 ∷ 2 ∷ 2 ∷ 2 ∷ 3 ∷ [])
     -- the latest first
     ∷ same (heldIn log) (3 ∷ 2 ∷ 2 ∷ 2 ∷ 0 ∷ 1 ∷ 1 ∷ 1 ∷ 0 ∷ [])
@@ -305,6 +320,20 @@ logCases =
     ∷ same (ofEach handedDead (got ∷ log)) (0 ∷ 0 ∷ 1 ∷ 0 ∷ [])
     ∷ same (ofEach handedDead (got ∷ got ∷ log)) (0 ∷ 0 ∷ 2 ∷ 0 ∷ [])
     ∷ same (ofEach handedDead []) of-none
+    -- what was undone counts as never made: nothing is issued, granted, begun with or destroyed, and nothing is handed out
+    ∷ same (heldIn undoneEvents) (replicate 9 0)
+    ∷ same (ofEach issued undoneLog) of-none
+    ∷ same (ofEach granted undoneLog) of-none
+    ∷ same (ofEach limit undoneLog) of-none
+    ∷ same (ofEach destroyedIn undoneLog) of-none
+    ∷ same (ofEach handedDead (gotUndone ∷ log)) of-none
+    ∷ same (ofEach handedDead (got ∷ undoneLog)) of-none
+    -- so a serial from an undone item is issued once where it is issued again, and what stands is untouched by what is undone behind it
+    ∷ same (ofEach issued (onto events undoneLog)) (1 ∷ 1 ∷ 1 ∷ 0 ∷ [])
+    ∷ same (ofEach issued (onto undoneEvents log)) (1 ∷ 1 ∷ 1 ∷ 0 ∷ [])
+    ∷ same (ofEach granted (onto undoneEvents log)) (60 ∷ 10 ∷ 0 ∷ 0 ∷ [])
+    ∷ same (ofEach limit (onto undoneEvents log)) (100 ∷ 100 ∷ 100 ∷ 0 ∷ [])
+    ∷ same (ofEach destroyedIn (onto undoneEvents log)) (0 ∷ 0 ∷ 1 ∷ 0 ∷ [])
     ∷ []
 
 -- ---- places
@@ -329,10 +358,11 @@ placeCases =
     ∷ same (ofPlaces (λ i. isAt i Nothing)) (0 ∷ 0 ∷ 0 ∷ [])
     -- the key that the placeholder names
     ∷ same (ofPlaces (names smallCount activating (keyed 1))) (0 ∷ 1 ∷ 0 ∷ [])
-    -- what issues an identifier takes the lowest free place, and a failed item none
+    -- what issues an identifier takes the lowest free place, and an item that failed or was undone none
     ∷ same (ofPlaces (takes smallCount (rekeying (Done 8)) (keyed 1))) (1 ∷ 0 ∷ 0 ∷ [])
     ∷ same (ofPlaces (takes smallCount (rekeying (Failed UsageLimitExceeded)) (keyed 1))) (0 ∷ 0 ∷ 0 ∷ [])
     ∷ same (ofPlaces (takes smallCount activating (keyed 1))) (0 ∷ 0 ∷ 0 ∷ [])
+    ∷ same (ofPlaces (takes smallCount (rekeying Undone) (keyed 1))) (0 ∷ 0 ∷ 0 ∷ [])
     -- Activate moves 1 to 2 and not 2 to 1
     ∷ same (ofPlaces (listedFor smallCount activating (keyed 1) (keyed 2))) (0 ∷ 1 ∷ 0 ∷ [])
     ∷ same (ofPlaces (listedFor smallCount activating (keyed 2) (keyed 1))) (0 ∷ 0 ∷ 0 ∷ [])
@@ -351,28 +381,80 @@ placeCases =
 
 -- a call with clock 9 on a table whose latest clock is 7, and a strip of 7s for item 0 and 8s for item 1
 call : Call
-call = record { request = []; table = hex "00000000 00000040 00000000 00000007"; strip = replicate 32 7 ++ replicate 32 8; clock = 9; output = [] }
+call = record { request = []; table = hex "00000000 00000040 00000000 00000007"; strip = replicate 32 7 ++ replicate 32 8; clock = 9; output = []; undo = [] }
 
 -- the same with clock 5
 before : Call
-before = record { request = []; table = call .table; strip = []; clock = 5; output = [] }
+before = record { request = []; table = call .table; strip = []; clock = 5; output = []; undo = [] }
 
 -- item 1, with an ID of its own
 second : Link
 second = linkAt call 1 5 [] (record { operation = 0x12; id = 1 ∷ 2 ∷ 3 ∷ []; payload = nil }) (record { outcome = Done 6; table = []; holder = 5 })
 
+-- item 2, which failed
+third : Link
+third = linkAt call 2 5 [] (record { operation = 0x14; id = 4 ∷ []; payload = nil }) (record { outcome = Failed UsageLimitExceeded; table = []; holder = 0 })
+
+-- some that succeeded, and some with one that failed among them
+passing : List Link
+passing = second ∷ second ∷ []
+
+failing : List Link
+failing = second ∷ second ∷ third ∷ []
+
+-- the status of an answer: 0 success, 1 failed, 3 undone
+status : Outcome → ℕ
+status (Failed reason) = 1
+status (Created serial) = 0
+status (Done serial) = 0
+status (Showed shown) = 0
+status (Got k) = 0
+status (Located serial) = 0
+status Undone = 3
+
+-- the statuses that are answered under an option, and the table that is left: 5 before, 6 behind the items
+statuses : List Link → ℕ → List ℕ
+statuses links option = map (λ (a : Answer). status (a .outcome)) (answersFor option links)
+
+tables : List Link → ℕ → List ℕ
+tables links option = settled option (5 ∷ []) links (6 ∷ [])
+
+-- the options Continue, Stop and Undo
+options : List ℕ
+options = 1 ∷ 2 ∷ 3 ∷ []
+
 callCases : List Bool
 callCases =
     same (lowest 1 [] ∷ lowest 1 (false ∷ false ∷ []) ∷ lowest 1 (false ∷ true ∷ true ∷ []) ∷ lowest 5 (true ∷ []) ∷ []) (0 ∷ 0 ∷ 2 ∷ 5 ∷ [])
     ∷ same (flag (ofFrame (λ f. true) none) ∷ []) (0 ∷ [])
+    -- eleven refusals
+    ∷ same (refusals ∷ []) (11 ∷ [])
     -- under Continue (1) a batch goes on behind each outcome, under Stop (2) not behind a failure
-    ∷ same (map (λ o. flag (goesOn 1 o)) outcomes) (1 ∷ 1 ∷ 1 ∷ 1 ∷ 1 ∷ 1 ∷ [])
-    ∷ same (map (λ o. flag (goesOn 2 o)) outcomes) (0 ∷ 1 ∷ 1 ∷ 1 ∷ 1 ∷ 1 ∷ [])
+    ∷ same (map (λ o. flag (goesOn 1 o)) outcomes) (1 ∷ 1 ∷ 1 ∷ 1 ∷ 1 ∷ 1 ∷ 1 ∷ [])
+    ∷ same (map (λ o. flag (goesOn 2 o)) outcomes) (0 ∷ 1 ∷ 1 ∷ 1 ∷ 1 ∷ 1 ∷ 1 ∷ [])
+    -- and no more under Undo (3)
+    ∷ same (map (λ o. flag (goesOn 3 o)) outcomes) (0 ∷ 1 ∷ 1 ∷ 1 ∷ 1 ∷ 1 ∷ 1 ∷ [])
     -- item 1 takes bytes 32 to 63 of the strip and the placeholder, the clock that counts is the later one, and the answer has its operation and ID
     ∷ same (second .env .fresh) (replicate 32 8)
     ∷ same (second .holder ∷ counted call ∷ counted before ∷ []) (5 ∷ 9 ∷ 7 ∷ [])
     ∷ same (answerFor second .operation ∷ answerFor second .id) (0x12 ∷ 1 ∷ 2 ∷ 3 ∷ [])
     ∷ same (map (λ (a : Answer). a .operation) (answersFor 1 (second ∷ second ∷ []))) (0x12 ∷ 0x12 ∷ [])
+    -- one that failed is among some, wherever it stands
+    ∷ same (map (λ links. flag (anyFails links)) ([] ∷ passing ∷ failing ∷ (third ∷ second ∷ []) ∷ [])) (0 ∷ 0 ∷ 1 ∷ 1 ∷ [])
+    -- what failed is undone under Undo alone, and what passed under no option
+    ∷ same (map (λ k. flag (isUndone k failing)) options) (0 ∷ 0 ∷ 1 ∷ [])
+    ∷ same (map (λ k. flag (isUndone k passing)) options) (0 ∷ 0 ∷ 0 ∷ [])
+    -- then the table is the one before the items, and those that had succeeded carry status 3, the failed one its own
+    ∷ same (tables failing 1 ++ (tables failing 2 ++ tables failing 3)) (6 ∷ 6 ∷ 5 ∷ [])
+    ∷ same (tables passing 1 ++ (tables passing 2 ++ tables passing 3)) (6 ∷ 6 ∷ 6 ∷ [])
+    ∷ same (statuses failing 2) (0 ∷ 0 ∷ 1 ∷ [])
+    ∷ same (statuses failing 3) (3 ∷ 3 ∷ 1 ∷ [])
+    ∷ same (statuses passing 3) (0 ∷ 0 ∷ [])
+    -- operation and ID as given
+    ∷ same (map (λ (a : Answer). a .operation) (answersFor 3 failing)) (0x12 ∷ 0x12 ∷ 0x14 ∷ [])
+    ∷ same (undoneFor second .id ++ undoneFor third .id) (1 ∷ 2 ∷ 3 ∷ 4 ∷ [])
+    -- the second buffer holds the table before the items under Undo, and what it held under the others
+    ∷ same (keptFor 1 (5 ∷ []) (9 ∷ []) ++ (keptFor 2 (5 ∷ []) (9 ∷ []) ++ keptFor 3 (5 ∷ []) (9 ∷ []))) (9 ∷ 9 ∷ 5 ∷ [])
     ∷ []
 
 -- ---- the list
@@ -382,5 +464,5 @@ cases = commandCases ++ (stateCases ++ (dateCases ++ (logCases ++ (placeCases ++
 
 -- every case holds
 pub worked : all (λ b. b) cases ≡ true
-unfolding cases bornBy foundIn heirActivation heirDeactivation datedState stoppedState startedState dateCases datedKey dueTo dueFrom listedBy largest before latestClock key of-none destroyedIn got asksKey asksName carries handedBy destroyedBy wasDestroyed handedDead commandCases stateCases logCases placeCases callCases commands heldCommands outcomes flag matrix none-of eight waysTo waysFrom ways itemsRead asking items answering answers events log ofEach heldIn limitOf holding keyed activating rekeying ofPlaces call second goesOn isFailed answerFor namedBy isUnderstood movesState codeOf listed isAt heldAfter paired orNoItems orNoAnswers onto issuedBy issued grantBy granted limitBy limit ofFrame lowest sought ifb _>>=_ _>>_ isSome be fromBeAfter fromBe all same lengthOk text valueOk encode itemOk wellFormed ended headed firstOf putValue putGroup more walk parse startsWith bytesOf bodyOf numberOf optional digits identifier fromDigitsAfter serialOf limitIn limitFirst dateFirst orUnset datedIn lastNameIn nameFirst nameBody orNoName nameOf nameOk wantedOf limitedIn maskedIn attributesIn createIn targetOf targetIn offsetOf rekeyIn aloneIn allocationIn revokeIn locateIn onlyNameIn orInvalid command line body recordOf placeAt withPlace serialAt stateAt nameAt nameField storedName wordsOf wordBytes filled blank firstFrom orElse find freePlace destroyedPlace newPlace
+unfolding cases isMade anyFails settled undoneFor answersFor keptFor undoneEvents undoneLog gotUndone third passing failing status statuses tables options bornBy foundIn heirActivation heirDeactivation datedState stoppedState startedState dateCases datedKey dueTo dueFrom listedBy largest before latestClock key of-none destroyedIn got asksKey asksName carries handedBy destroyedBy wasDestroyed handedDead commandCases stateCases logCases placeCases callCases commands heldCommands outcomes flag matrix none-of eight waysTo waysFrom ways itemsRead asking items answering answers events log ofEach heldIn limitOf holding keyed activating rekeying ofPlaces call second goesOn isFailed answerFor namedBy isUnderstood movesState codeOf listed isAt heldAfter paired orNoItems orNoAnswers onto issuedBy issued grantBy granted limitBy limit ofFrame lowest sought ifb _>>=_ _>>_ isSome be fromBeAfter fromBe all same lengthOk text valueOk encode itemOk wellFormed ended headed firstOf putValue putGroup more walk parse startsWith bytesOf bodyOf numberOf optional digits identifier fromDigitsAfter serialOf limitIn limitFirst dateFirst orUnset datedIn lastNameIn nameFirst nameBody orNoName nameOf nameOk wantedOf limitedIn maskedIn attributesIn createIn targetOf targetIn offsetOf rekeyIn aloneIn allocationIn revokeIn locateIn onlyNameIn orInvalid command line body recordOf placeAt withPlace serialAt stateAt nameAt nameField storedName wordsOf wordBytes filled blank firstFrom orElse find freePlace destroyedPlace newPlace
 worked = refl

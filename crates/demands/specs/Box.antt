@@ -13,6 +13,8 @@ pub record Call : Type 0 where
   pub strip : List ℕ
   pub clock : ℕ
   pub output : List ℕ
+  -- 02, L8: "a second buffer of the table's size"
+  pub undo : List ℕ
 
 -- a box says of a call and of what it left whether they belong together
 abbrev pub Box : Type 1
@@ -25,6 +27,7 @@ pub record Lent (c : Call) : Type 0 where
   pub strip : Bytes (c .strip)
   pub output : Bytes (c .output)
   pub clock : c .clock < 2 ^ 64
+  pub undo : Bytes (c .undo)
 
 -- 02, L7, "The lead's place count": the number of places of the table that is lent to a call
 abbrev pub placesOf : Call → ℕ

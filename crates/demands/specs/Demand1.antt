@@ -6,15 +6,16 @@ use lib.ListN.{length, drop}
 use Rattle.engine.specs.Effects.{Effect}
 use Rattle.demands.specs.Box.{Call, Box, Lent}
 
--- "one of ten numbered refusals"
+-- "one of ten numbered refusals", and 02, L8: "so demand 1 speaks of eleven"
 abbrev pub refusals : ℕ
-refusals = 10
+refusals = 11
 
 -- a call that is turned away: "length zero and every buffer untouched"
 pub record Untouched (c : Call) (e : Effect) : Type 0 where
   pub length : e .length ≡ 0
   pub table : e .table ≡ c .table
   pub output : e .output ≡ c .output
+  pub undo : e .undo ≡ c .undo
 
 -- a call that is answered: "a response of at most 6,360 bytes", and the output past it as it was
 pub record Within (c : Call) (e : Effect) : Type 0 where

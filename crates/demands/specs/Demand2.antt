@@ -2,7 +2,7 @@
 -- Assumes nothing. It speaks of the parse, the frame, the conditions in order, the record changes and the response reader.
 use Prim.Native.Nat.{ℕ, suc, _+_, _^_, _<_}
 use mathlib.Core.Path.{_≡_}
-use mathlib.Core.Bool.{Bool, true, false, not, _||_}
+use mathlib.Core.Bool.{Bool, true, false, not, _&&_, _||_}
 use mathlib.Core.Option.{Option, none, some}
 use mathlib.Core.List.{List, [], _∷_, map}
 use lib.ListN.{length, take}
@@ -19,10 +19,10 @@ use Rattle.rules.specs.declared.Reason.{Reason}
 use Rattle.rules.specs.Tests.{due}
 use Rattle.changes.specs.Dates.{ripened}
 use Rattle.batch_item.specs.Item.{Asked}
-use Rattle.frame.specs.Frame.{Frame, frameIn, versionOk, countOk, optionOf, optionOk, continue}
+use Rattle.frame.specs.Frame.{Frame, frameIn, versionOk, countOk, optionOf, optionOk, continue, undo}
 use Rattle.payload.specs.Payload.{command}
 use Rattle.plans.specs.declared.Outcome.{Outcome}
-use Rattle.plans.specs.declared.Outcome.the-variants.{Failed}
+use Rattle.plans.specs.declared.Outcome.the-variants.{Failed, Undone}
 use Rattle.plans.specs.Plans.{Env, Did, Plan, envAt, isFailed}
 use Rattle.act.specs.Act.{plan}
 use Rattle.answer.specs.Respond.{Answer, Response, respond}
@@ -41,7 +41,7 @@ unfoldable pub ofFrame : (Frame → Bool) → Option Frame → Bool
 ofFrame test none = false
 ofFrame test (some f) = test f
 
--- 01's table with 02's tenth line: the conditions of refusals 1 to 10; a clock below 1 is 0 or, by its 64 bits, negative
+-- 01's table with 02's lines: the conditions of refusals 1 to 11; a clock below 1 is 0 or, by its 64 bits, negative. 02, L8: "a wrong size is refusal 11, tested after 10 for every option"
 unfoldable pub refusalConditions : Call → List Bool
 refusalConditions c =
     ltb (length (c .output)) 6360
@@ -54,6 +54,7 @@ refusalConditions c =
     ∷ ofFrame (λ f. not (countOk f)) (frameOf c)
     ∷ ofFrame (λ f. not (optionOk (optionOf (f .header .option)))) (frameOf c)
     ∷ (eqb (c .clock) 0 || leb (2 ^ 63) (c .clock))
+    ∷ not (eqb (length (c .undo)) (length (c .table)))
     ∷ []
 
 -- "The lowest number that applies", numbered from k on; 0 where none does
@@ -124,13 +125,31 @@ pub data Chain (c : Call) (option : ℕ) : ℕ → ℕ → List ℕ → List Ask
 abbrev pub optionIn : Frame → ℕ
 optionIn f = optionOf (f .header .option)
 
--- the table that is left under an option, where the links lead from `start` to `reached`: the one reached
-abbrev pub settled : ℕ → List ℕ → List Link → List ℕ → List ℕ
-settled option start links reached = reached
+-- 02, L8: "if any item fails"
+unfoldable pub anyFails : List Link → Bool
+anyFails [] = false
+anyFails (l ∷ links) = isFailed (l .did .outcome) || anyFails links
+
+-- "option 3, Undo": whether what these links did is undone
+abbrev pub isUndone : ℕ → List Link → Bool
+isUndone option links = eqb option undo && anyFails links
+
+-- the table that is left under an option, where the links lead from `start` to `reached`: the one reached, and where they are undone "the table after the request is the table before it,
+-- apart from the latest clock and the due changes of L3", which is the one that the first item met
+unfoldable pub settled : ℕ → List ℕ → List Link → List ℕ → List ℕ
+settled option start links reached = ifb (isUndone option links) start reached
+
+-- the answer that an item of an undone batch gets: "those that had succeeded carry status 3 (Operation Undone) and no payload, the failed one its reason"; operation and ID as given
+unfoldable pub undoneFor : Link → Answer
+undoneFor l = record { operation = l .asked .operation; id = l .asked .id; outcome = ifb (isFailed (l .did .outcome)) (l .did .outcome) Undone }
 
 -- the answers that are given under an option: one for each link, in order
-abbrev pub answersFor : ℕ → List Link → List Answer
-answersFor option links = map answerFor links
+unfoldable pub answersFor : ℕ → List Link → List Answer
+answersFor option links = ifb (isUndone option links) (map undoneFor links) (map answerFor links)
+
+-- the second buffer: "what it holds after an accepted request with option 3 is the table before the first item, due changes and clock stored, and it is untouched by any other request"
+unfoldable pub keptFor : ℕ → List ℕ → List ℕ → List ℕ
+keptFor option start buffer = ifb (eqb option undo) start buffer
 
 -- "Time Stamp (420092) = the clock", and these answers
 abbrev pub meant : Call → ℕ → List Link → Response
@@ -153,6 +172,8 @@ pub record Answered (c : Call) (e : Effect) : Type 0 where
   pub begins : Begins c start
   pub chain : Chain c (optionIn frame) 0 0 start (frame .items) links reached
   pub left : e .table ≡ settled (optionIn frame) start links reached
+  -- and the second buffer
+  pub kept : e .undo ≡ keptFor (optionIn frame) start (c .undo)
   -- "an accepted request stores the one that counted"
   pub stored : latestClock (e .table) ≡ counted c
   -- (g) "The response has one spelling": its bytes are the encoding of the clock and these answers

@@ -23,7 +23,7 @@ use Rattle.changes.specs.Records.{inState, heirActivation, heirDeactivation}
 use Rattle.payload.specs.declared.Command.{Command}
 use Rattle.payload.specs.declared.Command.the-variants.{Unsupported, Invalid, Create, Rekey, GetUsageAllocation, Activate, Revoke, Destroy, GetAttributes, Get, Locate}
 use Rattle.plans.specs.declared.Outcome.{Outcome}
-use Rattle.plans.specs.declared.Outcome.the-variants.{Failed, Created, Done, Showed, Got, Located}
+use Rattle.plans.specs.declared.Outcome.the-variants.{Failed, Created, Done, Showed, Got, Located, Undone}
 use Rattle.act.specs.Act.{sought}
 use Rattle.plans.specs.Plans.{isFailed}
 use Rattle.engine.specs.Effects.{Effect}
@@ -116,7 +116,17 @@ asksName (GetAttributes target) = false
 asksName (Get target) = false
 asksName (Locate name) = true
 
--- the serial that an answer carries; 0 where it failed, or found nothing
+-- 02, L8: whether what an item did stands: "grants, identifiers and state changes in undone items count as never made"
+unfoldable pub isMade : Outcome → Bool
+isMade (Failed reason) = false
+isMade (Created serial) = true
+isMade (Done serial) = true
+isMade (Showed shown) = true
+isMade (Got key) = true
+isMade (Located serial) = true
+isMade Undone = false
+
+-- the serial that an answer carries; 0 where it failed, found nothing, or was undone
 unfoldable pub carries : Outcome → ℕ
 carries (Failed reason) = 0
 carries (Created serial) = serial
@@ -124,6 +134,7 @@ carries (Done serial) = serial
 carries (Showed shown) = shown .serial
 carries (Got key) = key .serial
 carries (Located serial) = serial
+carries Undone = 0
 
 -- the state in which an object begins: "Starts Pre-Active"; for Re-key, by 02, L4, "State follows from the dates as L3 applies them to a Pre-Active key", with the dates that it gives the replacement of a record
 unfoldable pub bornBy : ℕ → Command → Record → ℕ
@@ -198,9 +209,9 @@ module _ (n : ℕ) where
 
   -- ---- what one item may do, from the table t that it meets to the table u that it leaves
 
-  -- a state that changed, changed by a success that names the record, by a listed transition
+  -- a state that changed, changed by a success that stands and names the record, by a listed transition
   pub record Moved (ev : Event) (t u : List ℕ) (i : ℕ) : Type 0 where
-    pub done : isFailed (ev .answer .outcome) ≡ false
+    pub done : isMade (ev .answer .outcome) ≡ true
     pub named : names ev t i ≡ true
     pub way : listedFor ev t u i ≡ true
 
@@ -221,10 +232,10 @@ module _ (n : ℕ) where
     -- the answer is the item's own, so that units and identifiers are counted as they were asked for: "Operation as given, the ID if given"
     pub operation : ev .answer .operation ≡ ev .asked .operation
     pub id : ev .answer .id ≡ ev .asked .id
-    -- what was not understood is not answered with success, so that no units and no identifiers go past the log
+    -- what was not understood is not answered with success, undone or not, so that no units and no identifiers go past the log
     pub understood : isUnderstood (commandOf ev) ≡ false → isFailed (ev .answer .outcome) ≡ true
-    -- "A failed item changes nothing in the table"
-    pub failed : isFailed (ev .answer .outcome) ≡ true → u ≡ t
+    -- "A failed item changes nothing in the table", and one that was undone counts as never made
+    pub failed : isMade (ev .answer .outcome) ≡ false → u ≡ t
     -- "Records neither addressed, newly linked nor taken over stay": what an item newly links is the record that it names
     pub others : (i : ℕ) → i < n → names ev t i ≡ false → takes ev t i ≡ false → placeAt n u i ≡ placeAt n t i
     -- a record leaves its place only when a newer object takes it
@@ -232,19 +243,19 @@ module _ (n : ℕ) where
     -- "no state changes but by the listed transitions"
     pub moves : (i : ℕ) → i < n → takes ev t i ≡ false → (placeAt n u i .state ≡ placeAt n t i .state → ⊥) → Moved ev t u i
     -- and what is answered as activated, revoked or destroyed is so: "stay dead" begins with being dead
-    pub obeys : (i : ℕ) → i < n → names ev t i ≡ true → isFailed (ev .answer .outcome) ≡ false → movesState (commandOf ev) ≡ true → listedFor ev t u i ≡ true
+    pub obeys : (i : ℕ) → i < n → names ev t i ≡ true → isMade (ev .answer .outcome) ≡ true → movesState (commandOf ev) ≡ true → listedFor ev t u i ≡ true
     -- a place that is taken was there to be taken, and holds what was issued
     pub taken : (i : ℕ) → i < n → takes ev t i ≡ true → Taken ev t u i
     -- an identifier that is issued has its record
     pub stands : (issuedBy (commandOf ev) (ev .answer .outcome) ≡ 0 → ⊥) → (i : ℕ) × Stands (issuedBy (commandOf ev) (ev .answer .outcome)) u i
     -- a success that issues nothing and asks for no name "answers the identifier" of the record that it names
-    pub about : isFailed (ev .answer .outcome) ≡ false → issuedBy (commandOf ev) (ev .answer .outcome) ≡ 0 → asksName (commandOf ev) ≡ false → About ev t
+    pub about : isMade (ev .answer .outcome) ≡ true → issuedBy (commandOf ev) (ev .answer .outcome) ≡ 0 → asksName (commandOf ev) ≡ false → About ev t
     -- one that asks for a name answers that of a record that stands, or none
     pub located : asksName (commandOf ev) ≡ true → (carries (ev .answer .outcome) ≡ 0 → ⊥) → (i : ℕ) × Stands (carries (ev .answer .outcome)) t i
     -- only Get hands out a key
     pub hands : (handedBy (ev .answer .outcome) ≡ 0 → ⊥) → asksKey (commandOf ev) ≡ true
     -- "once an identifier is in a destroyed state, no later Get for it succeeds": what is handed out is not destroyed
-    pub alive : (i : ℕ) → i < n → names ev t i ≡ true → isFailed (ev .answer .outcome) ≡ false → asksKey (commandOf ev) ≡ true → isDestroyed (placeAt n t i .state) ≡ false
+    pub alive : (i : ℕ) → i < n → names ev t i ≡ true → isMade (ev .answer .outcome) ≡ true → asksKey (commandOf ev) ≡ true → isDestroyed (placeAt n t i .state) ≡ false
     -- no item moves the clock
     pub latest : latestClock u ≡ latestClock t
     -- "Once a newer object has taken the place, that identifier is granted nothing more": what does not stand is granted nothing

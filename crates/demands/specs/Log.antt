@@ -1,4 +1,5 @@
 -- What was asked and answered, read from the bytes of requests and responses alone. No definition here reads a table.
+-- 02, L8: "grants, identifiers and state changes in undone items count as never made": an undone answer issues, grants, hands out and destroys nothing.
 -- Assumes nothing.
 use Prim.Native.Nat.{ℕ, suc, _+_}
 use mathlib.Core.Bool.{Bool, false, _&&_, _||_}
@@ -16,7 +17,7 @@ use Rattle.payload.specs.declared.Command.{Command}
 use Rattle.payload.specs.declared.Command.the-variants.{Unsupported, Invalid, Create, Rekey, GetUsageAllocation, Activate, Revoke, Destroy, GetAttributes, Get, Locate}
 use Rattle.payload.specs.Payload.{command}
 use Rattle.plans.specs.declared.Outcome.{Outcome}
-use Rattle.plans.specs.declared.Outcome.the-variants.{Failed, Created, Done, Showed, Got, Located}
+use Rattle.plans.specs.declared.Outcome.the-variants.{Failed, Created, Done, Showed, Got, Located, Undone}
 use Rattle.act.specs.Act.{sought}
 use Rattle.answer.specs.Respond.{Answer, Response}
 use Rattle.answer.specs.Read.{answersIn}
@@ -35,7 +36,8 @@ commandOf e = command (e .asked .operation) (e .asked .payload)
 
 -- ---- events from bytes
 
--- "Create and Re-key set the placeholder, a failed item empties it, others keep it"; 02, L6: Locate "sets the placeholder when it finds one, and empties it when not"
+-- "Create and Re-key set the placeholder, a failed item empties it, others keep it"; 02, L6: Locate "sets the placeholder when it finds one, and empties it when not".
+-- What was undone carries no identifier that could be held
 unfoldable pub heldAfter : ℕ → Answer → Outcome → ℕ
 heldAfter held a (Failed reason) = 0
 heldAfter held a (Created serial) = serial
@@ -43,6 +45,7 @@ heldAfter held a (Done serial) = ifb (eqb (a .operation) rekey) serial held
 heldAfter held a (Showed shown) = held
 heldAfter held a (Got key) = held
 heldAfter held a (Located serial) = serial
+heldAfter held a Undone = 0
 
 -- item i with answer i, in order
 unfoldable pub paired : ℕ → List Asked → List Answer → List Event
@@ -88,12 +91,14 @@ issuedBy (Create wanted) (Done serial) = 0
 issuedBy (Create wanted) (Showed shown) = 0
 issuedBy (Create wanted) (Got key) = 0
 issuedBy (Create wanted) (Located serial) = 0
+issuedBy (Create wanted) Undone = 0
 issuedBy (Rekey target offset) (Done serial) = serial
 issuedBy (Rekey target offset) (Failed reason) = 0
 issuedBy (Rekey target offset) (Created serial) = 0
 issuedBy (Rekey target offset) (Showed shown) = 0
 issuedBy (Rekey target offset) (Got key) = 0
 issuedBy (Rekey target offset) (Located serial) = 0
+issuedBy (Rekey target offset) Undone = 0
 issuedBy Unsupported outcome = 0
 issuedBy Invalid outcome = 0
 issuedBy (GetUsageAllocation target amount) outcome = 0
@@ -108,7 +113,7 @@ issuedBy (Locate name) outcome = 0
 abbrev pub issues : ℕ → Event → Bool
 issues x e = eqb (issuedBy (commandOf e) (e .answer .outcome)) x
 
--- how often x was issued
+-- how often x was issued; 02, L8: "a serial from an undone item may be issued again"
 unfoldable pub issued : ℕ → List Event → ℕ
 issued x [] = 0
 issued x (e ∷ log) = let before = issued x log in ifb (issues x e) (suc before) before
@@ -121,6 +126,7 @@ grantBy x (GetUsageAllocation target amount) (Created serial) = 0
 grantBy x (GetUsageAllocation target amount) (Showed shown) = 0
 grantBy x (GetUsageAllocation target amount) (Got key) = 0
 grantBy x (GetUsageAllocation target amount) (Located serial) = 0
+grantBy x (GetUsageAllocation target amount) Undone = 0
 grantBy x Unsupported outcome = 0
 grantBy x Invalid outcome = 0
 grantBy x (Create wanted) outcome = 0
@@ -164,6 +170,7 @@ handedBy (Done serial) = 0
 handedBy (Showed shown) = 0
 handedBy (Got key) = key .serial
 handedBy (Located serial) = 0
+handedBy Undone = 0
 
 -- the serial that a successful answer to Destroy carries; 0 for every other answer
 unfoldable pub destroyedBy : ℕ → Outcome → ℕ
@@ -173,6 +180,7 @@ destroyedBy operation (Done serial) = ifb (eqb operation destroy) serial 0
 destroyedBy operation (Showed shown) = 0
 destroyedBy operation (Got key) = 0
 destroyedBy operation (Located serial) = 0
+destroyedBy operation Undone = 0
 
 -- whether x was destroyed
 unfoldable pub wasDestroyed : ℕ → List Event → Bool

@@ -36,7 +36,7 @@ use Rattle.keeps.proofs.Keeps.{Held, held-blank, keeps-born}
 use Rattle.keeps.proofs.Leaves.{Born, born-leaves}
 use Rattle.keeps.proofs.Dates.{keeps-began, began-last, began-latest, began-places}
 use Rattle.plans.specs.Plans.{Env, envAt}
-use Rattle.engine.proofs.Batches.{own-bytes, own-long}
+use Rattle.batch_keeps.proofs.Batches.{own-bytes, own-long}
 use Rattle.cases.proofs.Cases.{opened}
 use Rattle.wrong_boxes.proofs.Calling.{isByte, bytes-test}
 

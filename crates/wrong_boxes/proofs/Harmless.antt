@@ -28,7 +28,7 @@ use Rattle.table.specs.Records.{blank}
 use Rattle.values.specs.Values.{aboveZero}
 use Rattle.changes.specs.Records.{inState}
 use Rattle.changes.specs.Dates.{began}
-use Rattle.engine.specs.Batch.{Ran, running}
+use Rattle.batch.specs.Batch.{Ran, running}
 use Rattle.engine.specs.Effects.{Effect}
 use Rattle.engine.specs.Serving.{turnedAway}
 use Rattle.demands.specs.Box.{Call, Box, Lent, placesOf, counted}

@@ -35,7 +35,7 @@ use Rattle.plans.specs.declared.Outcome.the-variants.{Created}
 use Rattle.plans.specs.Plans.{Did, Plan, carried, createPlan, isFailed}
 use Rattle.act.specs.Act.{plan, step}
 use Rattle.engine.specs.Effects.{Effect}
-use Rattle.engine.specs.Batch.{Ran, answerTo, lastly, firstly, endsBatch, batch, running}
+use Rattle.batch.specs.Batch.{Ran, answerTo, lastly, firstly, endsBatch, batch, running}
 use Rattle.demands.specs.Box.{Call, counted}
 use Rattle.demands.specs.Demand2.{frameOf, ofFrame, refusalConditions, lowest}
 use Rattle.demands.specs.Log.{Event, logged}

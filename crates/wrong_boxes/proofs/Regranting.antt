@@ -46,7 +46,7 @@ use Rattle.plans.specs.Plans.{Did, failing, destroyPlan, allocationPlan, isFail
 use Rattle.act.specs.Act.{sought, onFound, step}
 use Rattle.answer.specs.Respond.{Answer}
 use Rattle.engine.specs.Effects.{Effect}
-use Rattle.engine.specs.Batch.{Ran, answerTo, firstly, batch, running}
+use Rattle.batch.specs.Batch.{Ran, answerTo, firstly, batch, running}
 use Rattle.demands.specs.Box.{Call, counted}
 use Rattle.demands.specs.Demand2.{frameOf}
 use Rattle.demands.specs.Log.{Event, commandOf, orNoItems, orNoAnswers, heldAfter, paired, itemsAsked, eventsOf, onto, logged, issuedBy, grantBy, granted}

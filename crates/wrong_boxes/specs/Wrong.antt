@@ -31,7 +31,7 @@ use Rattle.plans.specs.declared.Outcome.{Outcome}
 use Rattle.plans.specs.declared.Outcome.the-variants.{Failed, Created, Done, Showed, Got, Located}
 use Rattle.answer.specs.Respond.{Answer, respond}
 use Rattle.engine.specs.Effects.{Effect}
-use Rattle.engine.specs.Batch.{Ran, running}
+use Rattle.batch.specs.Batch.{Ran, running}
 use Rattle.engine.specs.Serving.{turnedAway, serving}
 use Rattle.demands.specs.Box.{Call, Box, Lent, placesOf, counted}
 use Rattle.demands.specs.Demand2.{frameOf, refusalConditions, lowest}
