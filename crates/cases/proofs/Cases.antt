@@ -37,15 +37,16 @@ use Rattle.target_read.specs.Target.{targetOf, targetIn}
 use Rattle.words.specs.Words.{wordsOf, wordBytes, wordsOk, filled}
 use Rattle.act.specs.Act.{sought, onFound, plan, step}
 use Rattle.plans.specs.Plans.{carried, shownOf, createPlan, rekeyPlan, allocationPlan, activatePlan, revokePlan, destroyPlan, showPlan, isFailed, keyOf, getPlan, serialFound, locatePlan}
-use Rattle.answer.specs.Read.{spelled, setDate, fixed, serialIn, limitsFirst, orNoLimits, linkFirst, orNoLink, linkIn, shownIn, createdIn, doneIn, showedIn, payloadIn, reasonAmong, failureIn, successIn, outcomeIn, answerIn, answersOf, headIn, shownOk, outcomeOk, answerOk, allowed, ifAllowed, answersIn, keyRead, keyBlockIn, keyIn, gotIn, keyOk, nameShown, locatedIn, nameShownOk}
+use Rattle.answer.specs.Read.{spelled, setDate, fixed, serialIn, limitsFirst, orNoLimits, linkFirst, orNoLink, linkIn, shownIn, createdIn, doneIn, showedIn, payloadIn, reasonAmong, failureIn, successIn, undoneIn, statusIn, outcomeIn, answerIn, answersOf, headIn, shownOk, outcomeOk, answerOk, allowed, ifAllowed, answersIn, keyRead, keyBlockIn, keyIn, gotIn, keyOk, nameShown, locatedIn, nameShownOk}
 use Rattle.answer.specs.Respond.{dateItems, limitItems, linkItems, attributeItems, outcomeItems, idItems, answerItems, batchItems, versionItems, headerItems, respond, materialOf, keyItems, nameItems, locatedItems}
 use Rattle.batch.specs.Batch.{endsBatch, batch, running}
-use Rattle.engine.specs.Serving.{answered, earlyRefusal, carryOut, serving}
-use Rattle.cases.specs.Cards.{sameItems, isRead, integerRead, integerMalformed, booleanMalformed, textOfEight, textOfNine, nested, callAt, tableFrom, answers, refuses, stateLeft, countLeft, depthEight, depthNine, depthRead, depthRefused, grantRequest, grantResponse, grantsCounted, overRequest, overResponse, grantTooLarge, lifeRequest, lifeResponse, compromiseRequest, compromiseResponse, destroyedInTurn, rekeyRequest, rekeyResponse, rekeyedTwice, stopRequest, stopResponse, stopsThere, continueRequest, continueResponse, goesOn, lastRequest, lastResponse, lastSerialIssued, pCases, allHold}
+use Rattle.settle.specs.Undo.{anyFailed, orUndone, settled, keptIn}
+use Rattle.engine.specs.Serving.{answered, earlyRefusal, lateRefusal, carryOut, serving}
+use Rattle.cases.specs.Cards.{sameItems, isRead, integerRead, integerMalformed, booleanMalformed, textOfEight, textOfNine, nested, callWith, tableFrom, answers, refuses, stateLeft, countLeft, depthEight, depthNine, depthRead, depthRefused, grantRequest, grantResponse, grantsCounted, overRequest, overResponse, grantTooLarge, lifeRequest, lifeResponse, compromiseRequest, compromiseResponse, destroyedInTurn, rekeyRequest, rekeyResponse, rekeyedTwice, stopRequest, stopResponse, stopsThere, continueRequest, continueResponse, goesOn, lastRequest, lastResponse, lastSerialIssued, pCases, allHold}
 
 -- the definitions that the cases compute with: who opens this opens them all
 unfoldable pub opened : Unit {0}
-unfolding wordsOf wordBytes wordsOk filled ifb _>>=_ _>>_ isSome be fromBeAfter fromBe all same startsWith ended bytesOf bodyOf numberOf optional encode itemOk wellFormed headed firstOf putValue putGroup more walk parse isOne message lengthOk text valueOk digits identifier fromDigitsAfter serialOf line body recordOf placeAt withPlace serialAt stateAt nameAt nameField storedName nameText nameOf nameOk sameName shapeRight findName isTaken nameBody nameFirst onlyNameIn orNoName lastNameIn lastSerial withLast placesSaid latestClock withClock blank firstFrom isNothing orElse find freePlace destroyedPlace newPlace sizeRight countRight latestRight freeRight zerosRight distinctRight issuedRight stateRight bitsRight maskRight limitRight tailRight wipedRight replacedRight replacementRight datesRight orderRight startedRight nameRight nameTextRight namesDiffer ifStands linksRight breaksFree breaksStanding orLater faultFrom firstFault sound tableRight isFull bornAt withBorn withHeir materialFrom newRecord heirActivation heirDeactivation offsetWrong heirDated heirOf linkedTo inState withDates movedTo withCount ripened isRipe ripeAt ripeFrom countedClock began startedState stoppedState datedState canRevoke canDestroy activateTests revokeTests destroyTests moveTests revokedState destroyedState movedState nextUnless nextState grantTests leftUnless granting due versionIn headerIn idOk idBytes itemIn itemsIn frameIn optionOf framing framed limitIn limitFirst dateFirst orUnset datedIn wantedOf limitedIn maskedIn attributesIn createIn targetOf targetIn offsetOf rekeyIn aloneIn allocationIn revokeIn locateIn orInvalid command sought carried shownOf createPlan rekeyPlan allocationPlan activatePlan revokePlan destroyPlan showPlan keyOf getPlan serialFound locatePlan onFound plan step isFailed spelled setDate fixed serialIn limitsFirst orNoLimits linkFirst orNoLink linkIn nameShown locatedIn nameShownOk shownIn createdIn doneIn showedIn keyRead keyBlockIn keyIn gotIn payloadIn reasonAmong failureIn successIn outcomeIn answerIn answersOf headIn shownOk keyOk outcomeOk answerOk allowed ifAllowed answersIn dateItems limitItems linkItems nameItems locatedItems attributeItems materialOf keyItems outcomeItems idItems answerItems batchItems versionItems headerItems respond endsBatch batch running answered earlyRefusal carryOut serving sameItems isRead integerRead integerMalformed booleanMalformed textOfEight textOfNine nested countedFrom callAt tableFrom answers refuses stateLeft countLeft depthEight depthNine depthRead depthRefused grantRequest grantResponse grantsCounted overRequest overResponse grantTooLarge lifeRequest lifeResponse compromiseRequest compromiseResponse destroyedInTurn rekeyRequest rekeyResponse rekeyedTwice stopRequest stopResponse stopsThere continueRequest continueResponse goesOn lastRequest lastResponse lastSerialIssued pCases allHold
+unfolding wordsOf wordBytes wordsOk filled ifb _>>=_ _>>_ isSome be fromBeAfter fromBe all same startsWith ended bytesOf bodyOf numberOf optional encode itemOk wellFormed headed firstOf putValue putGroup more walk parse isOne message lengthOk text valueOk digits identifier fromDigitsAfter serialOf line body recordOf placeAt withPlace serialAt stateAt nameAt nameField storedName nameText nameOf nameOk sameName shapeRight findName isTaken nameBody nameFirst onlyNameIn orNoName lastNameIn lastSerial withLast placesSaid latestClock withClock blank firstFrom isNothing orElse find freePlace destroyedPlace newPlace sizeRight countRight latestRight freeRight zerosRight distinctRight issuedRight stateRight bitsRight maskRight limitRight tailRight wipedRight replacedRight replacementRight datesRight orderRight startedRight nameRight nameTextRight namesDiffer ifStands linksRight breaksFree breaksStanding orLater faultFrom firstFault sound tableRight isFull bornAt withBorn withHeir materialFrom newRecord heirActivation heirDeactivation offsetWrong heirDated heirOf linkedTo inState withDates movedTo withCount ripened isRipe ripeAt ripeFrom countedClock began startedState stoppedState datedState canRevoke canDestroy activateTests revokeTests destroyTests moveTests revokedState destroyedState movedState nextUnless nextState grantTests leftUnless granting due versionIn headerIn idOk idBytes itemIn itemsIn frameIn optionOf framing framed limitIn limitFirst dateFirst orUnset datedIn wantedOf limitedIn maskedIn attributesIn createIn targetOf targetIn offsetOf rekeyIn aloneIn allocationIn revokeIn locateIn orInvalid command sought carried shownOf createPlan rekeyPlan allocationPlan activatePlan revokePlan destroyPlan showPlan keyOf getPlan serialFound locatePlan onFound plan step isFailed spelled setDate fixed serialIn limitsFirst orNoLimits linkFirst orNoLink linkIn nameShown locatedIn nameShownOk shownIn createdIn doneIn showedIn keyRead keyBlockIn keyIn gotIn payloadIn reasonAmong failureIn successIn undoneIn statusIn outcomeIn answerIn answersOf headIn shownOk keyOk outcomeOk answerOk allowed ifAllowed answersIn dateItems limitItems linkItems nameItems locatedItems attributeItems materialOf keyItems outcomeItems idItems answerItems batchItems versionItems headerItems respond endsBatch batch running anyFailed orUndone settled keptIn answered earlyRefusal lateRefusal carryOut serving sameItems isRead integerRead integerMalformed booleanMalformed textOfEight textOfNine nested countedFrom callWith tableFrom answers refuses stateLeft countLeft depthEight depthNine depthRead depthRefused grantRequest grantResponse grantsCounted overRequest overResponse grantTooLarge lifeRequest lifeResponse compromiseRequest compromiseResponse destroyedInTurn rekeyRequest rekeyResponse rekeyedTwice stopRequest stopResponse stopsThere continueRequest continueResponse goesOn lastRequest lastResponse lastSerialIssued pCases allHold
 opened = tt
 
 -- a list holds if its first n do, and those behind them

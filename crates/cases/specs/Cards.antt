@@ -73,9 +73,13 @@ nested (suc d) = group 0x420001 (nested d) nil
 
 -- ---- calls
 
--- a call at a clock, with "a strip of the bytes 0 to 255 twice" and 6,360 bytes of room
-unfoldable pub callAt : ℕ → List ℕ → List ℕ → Effect
-callAt clock t request = serving request t (countedFrom 0 512) clock (replicate 6360 0)
+-- a call at a clock with a second buffer, "a strip of the bytes 0 to 255 twice" and 6,360 bytes of room
+unfoldable pub callWith : List ℕ → ℕ → List ℕ → List ℕ → Effect
+callWith buffer clock t request = serving request t (countedFrom 0 512) clock (replicate 6360 0) buffer
+
+-- where the second buffer does not matter, it is a copy of the table
+abbrev pub callAt : ℕ → List ℕ → List ℕ → Effect
+callAt clock t request = callWith t clock t request
 
 -- "document 01's card and bench program move to clock 1"
 abbrev pub callOn : List ℕ → List ℕ → Effect
