@@ -18,14 +18,14 @@ use Rattle.engine.specs.Effects.{Effect}
 use Rattle.engine.specs.Serving.{turnedAway}
 use Rattle.demands.specs.Box.{Call, Lent}
 use Rattle.demands.specs.Demand2.{Demand2, Answered, frameOf, refusalConditions, lowest}
-use Rattle.wrong_boxes.specs.Wrong.{orRefused, withTable, responding, begunBy, ranUnder, Leaves, RefusesAll, DoesNothing, LeavesTable, allFailed, FailsAll, SameAnswer, AnswersFirst, RunsPastStop, withMaterialOf, SharesMaterial}
+use Rattle.wrong_boxes.specs.Wrong.{orRefused, withTable, responding, begunBy, keptBy, ranUnder, leftUnder, Leaves, RefusesAll, DoesNothing, LeavesTable, allFailed, FailsAll, SameAnswer, AnswersFirst, RunsPastStop, withMaterialOf, SharesMaterial}
 use Rattle.cases.specs.Cards.{lifeRequest}
 use Rattle.cases.proofs.Cases.{opened}
 use Rattle.demands.proofs.Ladder.{served, served-number}
 use Rattle.demands.proofs.Only.{AsDue, answered-due}
 use Rattle.wrong_boxes.proofs.Calling.{calling, accepted-is, lent-life, life-accepted, pairCall, lent-pair, pair-accepted, pastRequest, pastCall, lent-past, past-accepted}
 
-zero-one : {A : Type 0} → _≡_ {A = ℕ} 0 1 → A
+pub zero-one : {A : Type 0} → _≡_ {A = ℕ} 0 1 → A
 zero-one e = absurd (omega arith)
 
 -- ---- what demand 2 asks of a box that refuses as it should
@@ -34,11 +34,11 @@ module _ (made : Call → Effect) (d : Demand2 (λ c e. e ≡ orRefused c (made 
   given : Answered c (made c)
   given = d .answered c (made c) lent (accepted-is c (made c) taken) zero
 
-  as-due : AsDue c (made c)
+  pub as-due : AsDue c (made c)
   as-due = answered-due c (made c) lent given (served-number c ∙ taken)
 
 -- it gives a box that answers as it should the table that is due
-leaves-due : (made : Call → List ℕ → List ℕ) → Demand2 (Leaves made) → (c : Call) → Lent c → lowest 1 (refusalConditions c) ≡ 0 → made c (served c .table) ≡ served c .table
+pub leaves-due : (made : Call → List ℕ → List ℕ) → Demand2 (Leaves made) → (c : Call) → Lent c → lowest 1 (refusalConditions c) ≡ 0 → made c (served c .table) ≡ served c .table
 unfolding withTable
 leaves-due made d c lent taken = as-due (λ x. withTable (made x) (served x)) d c lent taken (served-number c ∙ taken) .table
 
@@ -81,12 +81,12 @@ begun-serial = refl
 
 -- a box that refuses everything refuses what has to be answered
 pub refuses-all : Demand2 RefusesAll → ⊥
-refuses-all d = zero-one (sym (life-accepted 1 refl) ∙ sym (d .number life (turnedAway (life .table) (life .output) 1) (lent-life 1 (lit< tt)) refl))
+refuses-all d = zero-one (sym (life-accepted 1 refl) ∙ sym (d .number life (turnedAway (life .table) (life .output) (life .undo) 1) (lent-life 1 (lit< tt)) refl))
 
 -- a box that does nothing gives no response
 pub does-nothing : Demand2 DoesNothing → ⊥
 does-nothing d =
-    let q = as-due (λ c. turnedAway (c .table) (c .output) 0) d life (lent-life 1 (lit< tt)) (life-accepted 1 refl) refl in
+    let q = as-due (λ c. turnedAway (c .table) (c .output) (c .undo) 0) d life (lent-life 1 (lit< tt)) (life-accepted 1 refl) refl in
     let z : _≡_ {A = ℕ} 0 416 = ap length (q .bytes) ∙ life-length in
     omega arith
 
@@ -105,7 +105,7 @@ pub same-answer : (bytes : List ℕ) (tableOf : Call → List ℕ) → Demand2 (
 same-answer bytes tableOf d = let z : _≡_ {A = ℕ} 1 2 = sym (clock-of 1 refl a1) ∙ ap clockIn same ∙ clock-of 2 refl a2 in omega arith
   where
     made : Call → Effect
-    made c = record { number = 0; length = length bytes; table = tableOf c; output = over bytes (c .output) }
+    made c = record { number = 0; length = length bytes; table = tableOf c; output = over bytes (c .output); undo = keptBy c (frameOf c) }
 
     clockIn : Option Response → ℕ
     clockIn none = 0
@@ -125,10 +125,10 @@ same-answer bytes tableOf d = let z : _≡_ {A = ℕ} 1 2 = sym (clock-of 1 refl
 
 -- a box that executes the whole batch at its first item and answers that one alone
 first : Call → Effect
-first c = responding c (take 1 (ranUnder (λ option. option) c (frameOf c) .answers)) (ranUnder (λ option. option) c (frameOf c) .table)
+first c = responding c (take 1 (leftUnder c (frameOf c) .answers)) (leftUnder c (frameOf c) .table)
 
 first-length : length (take (first life .length) (first life .output)) ≡ 168
-unfolding opened first ranUnder frameOf
+unfolding opened first leftUnder ranUnder frameOf
 first-length = refl
 
 pub answers-first : Demand2 AnswersFirst → ⊥

@@ -30,9 +30,9 @@ unfolding all isByte
 bytes-test [] h = tt
 bytes-test (x ∷ s) h = (ltb-true x 256 (and-l (ltb x 256) (all isByte s) h), bytes-test s (and-r (ltb x 256) (all isByte s) h))
 
--- a request on a table, with the strip 0 to 255 twice, a clock and 6,360 bytes of room
+-- a request on a table, with the strip 0 to 255 twice, a clock, 6,360 bytes of room and a copy of the table as second buffer
 abbrev pub callingOn : List ℕ → List ℕ → ℕ → Call
-callingOn t request clock = record { request = request; table = t; strip = countedFrom 0 512; clock = clock; output = replicate 6360 0 }
+callingOn t request clock = record { request = request; table = t; strip = countedFrom 0 512; clock = clock; output = replicate 6360 0; undo = t }
 
 -- on a blank table
 abbrev pub calling : List ℕ → ℕ → Call
@@ -46,6 +46,7 @@ lent-on t request clock b r h = record {
   strip = bytes-test (countedFrom 0 512) refl;
   output = bytes-test (replicate 6360 0) refl;
   clock = h;
+  undo = b;
 }
 
 pub lent-blank : (request : List ℕ) (clock : ℕ) → all isByte request ≡ true → clock < 2 ^ 64 → Lent (calling request clock)

@@ -14,7 +14,7 @@ use Rattle.demands.specs.Log.{itemsAsked, heldAfter, paired, orNoItems, orNoAns
 use Rattle.demands.specs.Demand3.{begins, calls, Demand3}
 use Rattle.demands.proofs.Follows.{in-order}
 use Rattle.cases.proofs.Cases.{opened}
-use Rattle.wrong_boxes.specs.Wrong.{responding, ranUnder, undeadFor, undead, handingOut, HandsDead}
+use Rattle.wrong_boxes.specs.Wrong.{responding, leftUnder, ranUnder, undeadFor, undead, handingOut, HandsDead}
 use Rattle.wrong_boxes.proofs.Calling.{isByte, calling, lent-blank, accepted-is}
 
 -- under Continue: a Create of 128 bits, a Destroy of "00000001", a Get of it
@@ -34,11 +34,11 @@ dead-accepted = refl
 
 -- what that box leaves
 handed : Effect
-handed = responding deadCall (handingOut (itemsAsked deadCall) (ranUnder (λ option. option) deadCall (frameOf deadCall) .answers)) (ranUnder (λ option. option) deadCall (frameOf deadCall) .table)
+handed = responding deadCall (handingOut (itemsAsked deadCall) (leftUnder deadCall (frameOf deadCall) .answers)) (leftUnder deadCall (frameOf deadCall) .table)
 
 -- the log of the call says that key 1 was handed out once after it was destroyed
 handed-once : handedDead 1 (logged deadCall handed []) ≡ 1
-unfolding opened deadRequest handed frameOf ranUnder undeadFor undead handingOut logged onto eventsOf paired heldAfter orNoItems orNoAnswers handedBy destroyedBy wasDestroyed handedDead
+unfolding opened deadRequest handed frameOf leftUnder ranUnder undeadFor undead handingOut logged onto eventsOf paired heldAfter orNoItems orNoAnswers handedBy destroyedBy wasDestroyed handedDead
 handed-once = refl
 
 pub hands-dead : Demand3 HandsDead → ⊥

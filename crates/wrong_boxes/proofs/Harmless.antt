@@ -18,7 +18,7 @@ use Rattle.octets.proofs.Bools.{and-l, and-i}
 use Rattle.octets.proofs.If.{on-if}
 use Rattle.ttlv.specs.Items.{Items, encode}
 use Rattle.batch_item.specs.Item.{Asked, idMost}
-use Rattle.frame.specs.Frame.{Frame, frameIn, batchMost}
+use Rattle.frame.specs.Frame.{Frame, frameIn, optionOf, batchMost}
 use Rattle.batch_item.proofs.Bounds.{AllBounded}
 use Rattle.answer.specs.Respond.{Answer, respond}
 use Rattle.answer.specs.Read.{outcomeOk, answerOk, allowed}
@@ -29,23 +29,24 @@ use Rattle.values.specs.Values.{aboveZero}
 use Rattle.changes.specs.Records.{inState}
 use Rattle.changes.specs.Dates.{began}
 use Rattle.batch.specs.Batch.{Ran, running}
+use Rattle.settle.specs.Undo.{settled}
+use Rattle.batch_keeps.proofs.Batches.{Leaves as Left}
 use Rattle.engine.specs.Effects.{Effect}
-use Rattle.engine.specs.Serving.{turnedAway}
 use Rattle.demands.specs.Box.{Call, Box, Lent, placesOf, counted}
 use Rattle.demands.specs.Demand1.{Demand1, Untouched, Within, refusals}
 use Rattle.demands.specs.Demand2.{frameOf, refusalConditions, lowest}
 use Rattle.demands.specs.Log.{Event, itemsAsked, answersGiven, eventsOf, onto, logged}
 use Rattle.demands.specs.Demand3.{Run, begins, calls, InOrder, Path, arrived, Opens, accepted, refused, Demand3}
-use Rattle.wrong_boxes.specs.Wrong.{orRefused, responding, begunBy, ranUnder, withTable, Leaves, RefusesAll, DoesNothing, failedAnswer, allFailed, FailsAll, SameAnswer, AnswersFirst, StampsGiven}
-use Rattle.demands.proofs.Ladder.{served, served-number, lowest-most, Accepted, requestOf, ranBy, Told, away, accepted as taken, told}
-use Rattle.demands.proofs.Meets.{counting-is, counting-above, bounded, count-facts, ran-leaves, meets-1}
+use Rattle.wrong_boxes.specs.Wrong.{orRefused, responding, begunBy, keptBy, ranUnder, leftUnder, withTable, Leaves, RefusesAll, DoesNothing, failedAnswer, allFailed, FailsAll, SameAnswer, AnswersFirst, StampsGiven, SaysDone}
+use Rattle.demands.proofs.Ladder.{served, served-number, lowest-most, Accepted, requestOf, startOf, ranBy, leftOf, turned, Told, away, accepted as taken, told}
+use Rattle.demands.proofs.Meets.{counting-is, counting-above, bounded, count-facts, ran-leaves, left-leaves, meets-1}
 use Rattle.demands.proofs.Ordered.{inv-order}
 use Rattle.demands.proofs.Runs.{events-away, asked-away, blank-books}
 
 -- ---- demand 3
 
 -- a box that only ever turns calls away, with whatever number, 0 included
-module _ (B : Box) (still : (c : Call) (e : Effect) → B c e → (k : ℕ) × (e ≡ turnedAway (c .table) (c .output) k)) where
+module _ (B : Box) (still : (c : Call) (e : Effect) → B c e → (k : ℕ) × (e ≡ turned c k)) where
   no-events : (c : Call) (e : Effect) → B c e → eventsOf c e ≡ []
   no-events c e b = let p = still c e b in ap (eventsOf c) (p .1) ∙ events-away c (p .0)
 
@@ -93,10 +94,10 @@ refuses-all-3 = still-meets-3 RefusesAll (λ c e b. (1, b))
 -- "or does nothing"
 pub does-nothing-3 : Demand3 DoesNothing
 unfolding orRefused
-does-nothing-3 = still-meets-3 DoesNothing (λ c e b. subst (λ (x : Effect). (k : ℕ) × (x ≡ turnedAway (c .table) (c .output) k)) (sym b) (away c))
+does-nothing-3 = still-meets-3 DoesNothing (λ c e b. subst (λ (x : Effect). (k : ℕ) × (x ≡ turned c k)) (sym b) (away c))
   where
-    away : (c : Call) → (k : ℕ) × (orRefused c (turnedAway (c .table) (c .output) 0) ≡ turnedAway (c .table) (c .output) k)
-    away c = on-if (λ (x : Effect). (k : ℕ) × (x ≡ turnedAway (c .table) (c .output) k)) (λ h. (0, refl)) (λ h. (lowest 1 (refusalConditions c), refl))
+    away : (c : Call) → (k : ℕ) × (orRefused c (turned c 0) ≡ turned c k)
+    away c = on-if (λ (x : Effect). (k : ℕ) × (x ≡ turned c k)) (λ h. (0, refl)) (λ h. (lowest 1 (refusalConditions c), refl))
 
 -- ---- demand 1
 
@@ -106,8 +107,8 @@ record Fits (c : Call) (e : Effect) : Type 0 where
   pub refused : (e .number ≡ 0 → ⊥) → Untouched c e
   pub answered : e .number ≡ 0 → Within c e
 
-fits-away : (c : Call) (k : ℕ) → k ≤ refusals → (k ≡ 0 → ⊥) → Fits c (turnedAway (c .table) (c .output) k)
-fits-away c k l z = record { numbered = l; refused = λ h. record { length = refl; table = refl; output = refl }; answered = λ h. absurd (z h) }
+fits-away : (c : Call) (k : ℕ) → k ≤ refusals → (k ≡ 0 → ⊥) → Fits c (turned c k)
+fits-away c k l z = record { numbered = l; refused = λ h. record { length = refl; table = refl; output = refl; undo = refl }; answered = λ h. absurd (z h) }
 
 fits-meets-1 : (made : Call → Effect) → ((c : Call) → Lent c → Fits c (made c)) → Demand1 (λ c e. e ≡ made c)
 fits-meets-1 made fits = record {
@@ -123,15 +124,15 @@ unfolding orRefused refusalConditions
 fits-or-refused c e w =
     on-if (Fits c)
     (λ h. (let p = w (eqb-true (lowest 1 (refusalConditions c)) 0 h) in record { numbered = omega (arith, p .0); refused = λ z. absurd (z (p .0)); answered = λ n. p .1 }))
-    (λ h. fits-away c (lowest 1 (refusalConditions c)) (let m : lowest 1 (refusalConditions c) < 1 + 10 = lowest-most 1 (refusalConditions c) (omega arith) in omega arith) (eqb-false (lowest 1 (refusalConditions c)) 0 h))
+    (λ h. fits-away c (lowest 1 (refusalConditions c)) (let m : lowest 1 (refusalConditions c) < 1 + 11 = lowest-most 1 (refusalConditions c) (omega arith) in omega arith) (eqb-false (lowest 1 (refusalConditions c)) 0 h))
 
 pub refuses-all-1 : Demand1 RefusesAll
-refuses-all-1 = fits-meets-1 (λ c. turnedAway (c .table) (c .output) 1) (λ c lent. fits-away c 1 (omega arith) (λ z. omega arith))
+refuses-all-1 = fits-meets-1 (λ c. turned c 1) (λ c lent. fits-away c 1 (omega arith) (λ z. omega arith))
 
 pub does-nothing-1 : Demand1 DoesNothing
 does-nothing-1 =
-    fits-meets-1 (λ c. orRefused c (turnedAway (c .table) (c .output) 0))
-    (λ c lent. fits-or-refused c (turnedAway (c .table) (c .output) 0) (λ h. (refl, record { short = omega arith; room = omega arith; same-room = refl; past = refl })))
+    fits-meets-1 (λ c. orRefused c (turned c 0))
+    (λ c lent. fits-or-refused c (turned c 0) (λ h. (refl, record { short = omega arith; room = omega arith; same-room = refl; past = refl })))
 
 -- what our definitions leave keeps within the room
 within-served : (c : Call) → Lent c → served c .number ≡ 0 → Within c (served c)
@@ -156,7 +157,7 @@ told-accepted c e (taken a) z = a
 
 -- bytes over the front of the output
 abbrev writing : (Call → List ℕ) → (Call → List ℕ) → Call → Effect
-writing bytes tableOf c = record { number = 0; length = length (bytes c); table = tableOf c; output = over (bytes c) (c .output) }
+writing bytes tableOf c = record { number = 0; length = length (bytes c); table = tableOf c; output = over (bytes c) (c .output); undo = keptBy c (frameOf c) }
 
 -- a box that refuses as it should, writes bytes that are short enough where a request is accepted, and leaves whatever table
 writing-1 : (bytes tableOf : Call → List ℕ) → ((c : Call) → Lent c → Accepted c → length (bytes c) ≤ 6360) → Demand1 (λ c e. e ≡ orRefused c (writing bytes tableOf c))
@@ -232,31 +233,51 @@ pub fails-all-1 : Demand1 FailsAll
 fails-all-1 = responding-1 (λ c. allFailed (frameOf c)) begunBy failed-fine
 
 -- the first answer alone
+abbrev leftRightly : Call → Ran
+leftRightly c = leftUnder c (frameOf c)
+
+-- it is what is left of the batch that is due
+left-rightly : (c : Call) (a : Accepted c) → leftRightly c ≡ leftOf c a
+unfolding leftUnder ranUnder
+left-rightly c a =
+    ap (leftUnder c) (frame-is c a)
+    ∙ ap (λ (k : ℕ).
+    let start = began (placesOf c) k (c .table) in
+    settled (requestOf (a .frame) .option) start (running (placesOf c) (c .strip) start (requestOf (a .frame)))) (sym (counting-is c))
+
+-- a batch of an accepted call, run or undone
+leaves-fine : (c : Call) (lent : Lent c) (a : Accepted c) (ran : Ran)
+    → Left (placesOf c) (c .strip) (optionOf (a .frame .header .option)) (lent .strip) (startOf c) (a .frame .items) ran → Fine (ran .answers)
+leaves-fine c lent a ran l = record {
+  ok = l .ok;
+  some = l .some (count-facts c lent a .0);
+  few = omega (arith, l .few, count-facts c lent a .1);
+}
+
+left-fine : (c : Call) → Lent c → (a : Accepted c) → Fine (leftRightly c .answers)
+left-fine c lent a = subst (λ (r : Ran). Fine (r .answers)) (sym (left-rightly c a)) (leaves-fine c lent a (leftOf c a) (left-leaves c lent a))
+
+pub answers-first-1 : Demand1 AnswersFirst
+answers-first-1 = responding-1 (λ c. take 1 (leftRightly c .answers)) (λ c. leftRightly c .table) (λ c lent a. fine-first _ (left-fine c lent a))
+
+-- the answers of an undone batch as they went
 abbrev ranRightly : Call → Ran
 ranRightly c = ranUnder (λ option. option) c (frameOf c)
 
--- it is the batch that is due
+-- they are those of the batch that is due
 ran-rightly : (c : Call) (a : Accepted c) → ranRightly c ≡ ranBy c a
 unfolding ranUnder
 ran-rightly c a =
     ap (ranUnder (λ option. option) c) (frame-is c a)
     ∙ ap (λ (k : ℕ). running (placesOf c) (c .strip) (began (placesOf c) k (c .table)) (requestOf (a .frame))) (sym (counting-is c))
 
-ran-fine : (c : Call) → Lent c → (a : Accepted c) → Fine (ranBy c a .answers)
-ran-fine c lent a = record {
-  ok = ran-leaves c lent a .ok;
-  some = ran-leaves c lent a .some (count-facts c lent a .0);
-  few = omega (arith, ran-leaves c lent a .few, count-facts c lent a .1);
-}
-
-first-fine : (c : Call) → Lent c → Accepted c → Fine (take 1 (ranRightly c .answers))
-first-fine c lent a = subst (λ (r : Ran). Fine (take 1 (r .answers))) (sym (ran-rightly c a)) (fine-first _ (ran-fine c lent a))
-
-pub answers-first-1 : Demand1 AnswersFirst
-answers-first-1 = responding-1 (λ c. take 1 (ranRightly c .answers)) (λ c. ranRightly c .table) first-fine
+pub says-done-1 : Demand1 SaysDone
+says-done-1 =
+    responding-1 (λ c. ranRightly c .answers) (λ c. leftRightly c .table)
+    (λ c lent a. subst (λ (r : Ran). Fine (r .answers)) (sym (ran-rightly c a)) (leaves-fine c lent a (ranBy c a) (ran-leaves c lent a)))
 
 -- the clock that was given in place of the one that counts
 pub stamps-given-1 : Demand1 StampsGiven
 stamps-given-1 =
-    writing-1 (λ c. encode (respond (record { clock = c .clock; answers = ranRightly c .answers }))) (λ c. ranRightly c .table)
-    (λ c lent a. fine-short (c .clock) (ranRightly c .answers) (a .clock) (subst (λ (r : Ran). Fine (r .answers)) (sym (ran-rightly c a)) (ran-fine c lent a)))
+    writing-1 (λ c. encode (respond (record { clock = c .clock; answers = leftRightly c .answers }))) (λ c. leftRightly c .table)
+    (λ c lent a. fine-short (c .clock) (leftRightly c .answers) (a .clock) (left-fine c lent a))

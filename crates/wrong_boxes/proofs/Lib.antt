@@ -10,3 +10,4 @@ pub mod Regranting
 pub mod Waking
 pub mod Handing
 pub mod Turning
+pub mod Undoing

@@ -7,7 +7,9 @@ use mathlib.Core.Path.{_≡_, refl, sym, ap, ap₂, _∙_}
 use mathlib.Core.Bool.{Bool, true, false}
 use mathlib.Core.Option.{Option, none, some}
 use mathlib.Core.List.{List, [], _∷_, _++_}
-use lib.Dec.{lit<}
+use lib.ListN.{length}
+use lib.Dec.{eqb, lit<}
+use borrow.Author.Tests.{eq-eqb}
 use Rattle.hex.specs.Texts.{hex}
 use Rattle.octets.specs.If.{ifb}
 use Rattle.octets.specs.Octets.{all, countedFrom}
@@ -26,7 +28,7 @@ use Rattle.rules.specs.Tests.{due}
 use Rattle.changes.specs.Changes.{isFull, nextSerial}
 use Rattle.changes.specs.Dates.{began}
 use Rattle.batch_item.specs.Item.{Asked}
-use Rattle.frame.specs.Frame.{Frame, frameIn, optionOf}
+use Rattle.frame.specs.Frame.{Frame, frameIn, optionOf, undo}
 use Rattle.target_read.specs.declared.Target.the-variants.{Serial}
 use Rattle.payload.specs.declared.Command.{Command}
 use Rattle.payload.specs.declared.Command.the-variants.{Create, GetUsageAllocation, Destroy}
@@ -36,11 +38,12 @@ use Rattle.plans.specs.Plans.{Did, Plan, carried, createPlan, isFailed}
 use Rattle.act.specs.Act.{plan, step}
 use Rattle.engine.specs.Effects.{Effect}
 use Rattle.batch.specs.Batch.{Ran, answerTo, lastly, firstly, endsBatch, batch, running}
+use Rattle.settle.specs.Undo.{settled}
 use Rattle.demands.specs.Box.{Call, counted}
 use Rattle.demands.specs.Demand2.{frameOf, ofFrame, refusalConditions, lowest}
 use Rattle.demands.specs.Log.{Event, logged}
 use Rattle.demands.specs.Demand3.{Run, begins, calls}
-use Rattle.wrong_boxes.specs.Wrong.{ranUnder, regranting, Regrants}
+use Rattle.wrong_boxes.specs.Wrong.{leftUnder, ranUnder, regranting, Regrants}
 use Rattle.cases.proofs.Cases.{opened}
 use Rattle.wrong_boxes.proofs.Calling.{isByte, callingOn, calling, lent-on, accepted-is}
 use Rattle.wrong_boxes.proofs.Filling.{wanted, wanted-free, own, grown, Filled, filled-blank, filled-room, filled-more, begunAt, filled-begun}
@@ -108,7 +111,11 @@ grant-command = refl
 
 pub accepted-on : (request t : List ℕ) → sound smallCount t ≡ true → lowest 1 (refusalConditions (calling request 1)) ≡ 0 → lowest 1 (refusalConditions (callingOn t request 1)) ≡ 0
 unfolding refusalConditions frameOf
-accepted-on request t right e = rw (right-of t smallCount refl right ∙ sym (blank-right smallCount refl)) e
+accepted-on request t right e = rw (right-of t smallCount refl right ∙ sym (blank-right smallCount refl), same-size t ∙ sym (same-size (blank smallCount))) e
+  where
+    -- the second buffer is as large as the table
+    same-size : (s : List ℕ) → eqb (length s) (length s) ≡ true
+    same-size s = eq-eqb (length s) (length s) refl
 
 create-accepted : lowest 1 (refusalConditions (calling createRequest 1)) ≡ 0
 unfolding opened createItem createRequest frameOf ofFrame refusalConditions lowest
@@ -127,6 +134,19 @@ unfolding opened isByte createItem takeRequest
 take-bytes = refl
 
 -- ---- batches
+
+-- neither asks for option 3, under which alone a batch is undone
+create-option : eqb (optionOf (frameFrom createRequest .header .option)) undo ≡ false
+unfolding opened createItem createRequest frameOr frameFrom
+create-option = refl
+
+pub take-option : eqb (optionOf (frameFrom takeRequest .header .option)) undo ≡ false
+unfolding opened createItem takeRequest frameOr frameFrom
+take-option = refl
+
+pub never-undone : (option : ℕ) (start : List ℕ) (ran : Ran) → eqb option undo ≡ false → settled option start ran ≡ ran
+unfolding settled
+never-undone option start ran h = ifb-false _ _ _ (and-no (eqb option undo) _ h)
 
 module _ (option i holder : ℕ) (t : List ℕ) (asked : Asked) (did : Did) (is : step (own i) holder t asked ≡ did) where
   abbrev pub behind : List Asked → Ran
@@ -185,11 +205,12 @@ ran-small k t request f option items =
     ap₂ (λ (n clock : ℕ). batch n (countedFrom 0 512) option 0 0 (began n clock t) items) (facts smallCount t (f .held) .count) (counted-one k t request f)
 
 create-ran : (k : ℕ) (t : List ℕ) → Filled k t → isFull smallCount (begunAt t) ≡ false
-    → ranUnder (λ option. option) (createCall t) (frameOf (createCall t)) ≡ lastly (answerTo createAsked (created 0 (begunAt t))) (grown 0 (begunAt t))
-unfolding frameOf ranUnder running
+    → leftUnder (createCall t) (frameOf (createCall t)) ≡ lastly (answerTo createAsked (created 0 (begunAt t))) (grown 0 (begunAt t))
+unfolding frameOf leftUnder ranUnder running
 create-ran k t f room =
     let option = optionOf (frameFrom createRequest .header .option) in
-    ap (ranUnder (λ option. option) (createCall t)) create-read
+    ap (leftUnder (createCall t)) create-read
+    ∙ never-undone option _ _ create-option
     ∙ ran-small k t createRequest f option (createAsked ∷ [])
     ∙ batch-last option 0 0 (begunAt t) createAsked (created 0 (begunAt t)) (create-step 0 0 (begunAt t) room)
 

@@ -50,15 +50,15 @@ use Rattle.batch.specs.Batch.{Ran, answerTo, firstly, batch, running}
 use Rattle.demands.specs.Box.{Call, counted}
 use Rattle.demands.specs.Demand2.{frameOf}
 use Rattle.demands.specs.Log.{Event, commandOf, orNoItems, orNoAnswers, heldAfter, paired, itemsAsked, eventsOf, onto, logged, issuedBy, grantBy, granted}
-use Rattle.demands.specs.Demand3.{Run, namedBy, names, takes, movesState, codeOf, listed, listedBy, Tame, DueOnly, Path, arrived, went, Demand3}
+use Rattle.demands.specs.Demand3.{Run, namedBy, names, takes, movesState, isMade, codeOf, listed, listedBy, Tame, DueOnly, Path, arrived, went, Demand3}
 use Rattle.demands.proofs.Logged.{granted-more}
 use Rattle.demands.proofs.Follows.{opens-due, due-serial}
-use Rattle.wrong_boxes.specs.Wrong.{stamping, responding, ranUnder, TakesFrom, GrantsTaken, asksForGone, regranted, regranting, Regrants}
+use Rattle.wrong_boxes.specs.Wrong.{stamping, responding, leftUnder, ranUnder, TakesFrom, GrantsTaken, asksForGone, regranted, regranting, Regrants}
 use Rattle.cases.proofs.Cases.{opened}
 use Rattle.wrong_boxes.proofs.Calling.{callingOn, lent-on, accepted-is}
 use Rattle.wrong_boxes.proofs.Granting.{grants-taken}
 use Rattle.wrong_boxes.proofs.Filling.{wanted, own, grown, has-room, grown-born, firstKey, Filled, begunAt, filled-begun, takes-first}
-use Rattle.wrong_boxes.proofs.Reaching.{createItem, createRequest, takeRequest, frameOr, frameFrom, itemAt, createAsked, destroyAsked, grantAsked, take-read, create-command, destroy-command, grant-command, counted-one, ran-small, accepted-on, take-accepted, take-bytes, batch-last, batch-on, decided, planned, created, create-step, reached}
+use Rattle.wrong_boxes.proofs.Reaching.{createItem, createRequest, takeRequest, frameOr, frameFrom, itemAt, createAsked, destroyAsked, grantAsked, take-read, create-command, destroy-command, grant-command, counted-one, ran-small, accepted-on, take-accepted, take-bytes, take-option, never-undone, batch-last, batch-on, decided, planned, created, create-step, reached}
 
 -- ---- the last call, on a full table
 
@@ -275,11 +275,12 @@ module _ (log : List Event) (t : List ℕ) (run : Run smallCount Regrants log t)
   abbrev takeLeft : Effect
   takeLeft = responding takeCall takenAnswers (left opening full now-one)
 
-  ran : ranUnder (λ option. option) takeCall (frameOf takeCall) ≡ ranRightly opening full now-one
-  unfolding frameOf ranUnder running
+  ran : leftUnder takeCall (frameOf takeCall) ≡ ranRightly opening full now-one
+  unfolding frameOf leftUnder ranUnder running
   ran =
       let option = optionOf (frameFrom takeRequest .header .option) in
-      ap (ranUnder (λ option. option) takeCall) take-read
+      ap (leftUnder takeCall) take-read
+      ∙ never-undone option _ _ take-option
       ∙ ran-small 64 t takeRequest f option (destroyAsked ∷ createAsked ∷ grantAsked ∷ [])
       ∙ take-ran opening full now-one option
 
@@ -334,7 +335,7 @@ module _ (log : List Event) (t : List ℕ) (run : Run smallCount Regrants log t)
       first-named = ap (λ (c : Command). isAt 0 (find smallCount start (namedBy 0 c))) destroy-command ∙ ap (isAt 0) start-found
 
       first-dead : isDestroyed (stateAt u 0) ≡ true
-      unfolding isFailed movesState codeOf
+      unfolding isMade movesState codeOf
       first-dead =
           let way = tame .obeys 0 (lit< tt) first-named refl (ap movesState destroy-command) in
           let same = ap₂ (λ (o : ℕ) (c : Command). listed o (codeOf c) (placeAt smallCount start 0 .state) (placeAt smallCount u 0 .state)) destroy-operation destroy-command in

@@ -28,7 +28,7 @@ use Rattle.demands.specs.Box.{Call, Box, Lent, counted}
 use Rattle.demands.specs.Demand2.{Demand2, Answered, frameOf, ofFrame, refusalConditions, lowest}
 use Rattle.demands.specs.Log.{Event, commandOf, heldAfter, paired, orNoItems, orNoAnswers, eventsOf, logged, issuedBy}
 use Rattle.demands.specs.Demand3.{Run, begins, calls, codeOf, takes, listed, listedBy, Tame, DueOnly, Path, arrived, went, Goes, Demand3}
-use Rattle.wrong_boxes.specs.Wrong.{withTable, stamping, ranUnder, Leaves, woken, StampsGiven, StoresGiven, Revives}
+use Rattle.wrong_boxes.specs.Wrong.{withTable, stamping, leftUnder, ranUnder, Leaves, woken, StampsGiven, StoresGiven, Revives}
 use Rattle.dated_cases.specs.Cards.{datedRequest, showRequest}
 use Rattle.dated_cases.proofs.Cases.{dated-opened}
 use Rattle.demands.proofs.Ladder.{served}
@@ -50,7 +50,7 @@ unfolding dated-opened frameOf ofFrame refusalConditions lowest
 earlier-accepted = refl
 
 stamped : Effect
-stamped = stamping 5 earlier (ranUnder (λ option. option) earlier (frameOf earlier) .answers) (ranUnder (λ option. option) earlier (frameOf earlier) .table)
+stamped = stamping 5 earlier (leftUnder earlier (frameOf earlier) .answers) (leftUnder earlier (frameOf earlier) .table)
 
 -- the Time Stamp of a response
 clockIn : Option Response → ℕ
@@ -58,7 +58,7 @@ clockIn none = 0
 clockIn (some r) = r .clock
 
 stamped-clock : clockIn (message (take (stamped .length) (stamped .output)) >>= answersIn) ≡ 5
-unfolding dated-opened stamped ranUnder frameOf clockIn
+unfolding dated-opened stamped leftUnder ranUnder frameOf clockIn
 stamped-clock = refl
 
 counts-nine : counted earlier ≡ 9

@@ -17,12 +17,11 @@ use Rattle.soundness.specs.Checked.{isAt}
 use Rattle.rules.specs.Numbers.{revoke, destroy}
 use Rattle.ttlv.specs.Items.{nil}
 use Rattle.plans.specs.declared.Outcome.the-variants.{Done}
-use Rattle.plans.specs.Plans.{isFailed}
 use Rattle.engine.specs.Effects.{Effect}
 use Rattle.demands.specs.Box.{Call, Lent}
 use Rattle.demands.specs.Demand2.{frameOf, ofFrame, refusalConditions, lowest}
 use Rattle.demands.specs.Log.{Event, commandOf, heldAfter, paired, orNoItems, orNoAnswers, eventsOf, logged, issuedBy}
-use Rattle.demands.specs.Demand3.{begins, calls, namedBy, movesState, codeOf, takes, listed, Tame, Path, arrived, went, Demand3}
+use Rattle.demands.specs.Demand3.{begins, calls, namedBy, movesState, isMade, codeOf, takes, listed, Tame, Path, arrived, went, Demand3}
 use Rattle.wrong_boxes.specs.Wrong.{withTable, woken, Wakes, LeavesAlive}
 use Rattle.cases.specs.Cards.{lifeRequest, compromiseRequest}
 use Rattle.cases.proofs.Cases.{opened}
@@ -63,7 +62,7 @@ record Seen : Type 0 where
   pub code : ℕ
   pub named : ℕ
   pub issued : ℕ
-  pub failed : Bool
+  pub made : Bool
   pub moves : Bool
   pub serial : ℕ
   pub state : ℕ
@@ -75,7 +74,7 @@ seenOf ev none v = record {
   code = codeOf (commandOf ev);
   named = namedBy (ev .held) (commandOf ev);
   issued = issuedBy (commandOf ev) (ev .answer .outcome);
-  failed = isFailed (ev .answer .outcome);
+  made = isMade (ev .answer .outcome);
   moves = movesState (commandOf ev);
   serial = serialAt v 0;
   state = placeAt smallCount v 0 .state;
@@ -93,7 +92,7 @@ seenOn c e = seen (eventsOf c e) (e .table)
 
 -- a success that moves the key with serial 1, which is left Active at place 0
 abbrev wakingBy : ℕ → ℕ → Seen
-wakingBy operation code = record { none = false; operation = operation; code = code; named = 1; issued = 0; failed = false; moves = true; serial = 1; state = 2 }
+wakingBy operation code = record { none = false; operation = operation; code = code; named = 1; issued = 0; made = true; moves = true; serial = 1; state = 2 }
 
 -- no item does it that has no transition to Active
 module _ (operation code : ℕ) (never : (from : ℕ) → listed operation code from 2 ≡ false) where
@@ -116,7 +115,7 @@ module _ (operation code : ℕ) (never : (from : ℕ) → listed operation code 
       way : listed operation code (placeAt smallCount u 0 .state) 2 ≡ true
       way =
           sym (ap (λ (x : Seen). listed (x .operation) (x .code) (placeAt smallCount u 0 .state) (x .state)) e)
-          ∙ l .tame .obeys 0 (lit< tt) (ap (isAt 0) found) (ap (λ (x : Seen). x .failed) e) (ap (λ (x : Seen). x .moves) e)
+          ∙ l .tame .obeys 0 (lit< tt) (ap (isAt 0) found) (ap (λ (x : Seen). x .made) e) (ap (λ (x : Seen). x .moves) e)
 
   no-waking : {log events : List Event} {t v : List ℕ} → Path smallCount log t events v → seen events v ≡ wakingBy operation code → ⊥
   unfolding seen seenOf
@@ -145,7 +144,7 @@ alive : Effect
 alive = withTable (λ due. ifb (eqb (stateAt due 0) 5) (woken due) due) (served life)
 
 alive-seen : seenOn life alive ≡ wakingBy destroy 0
-unfolding opened alive withTable woken noEvent eventsOf paired heldAfter orNoItems orNoAnswers lastOr isEmpty seenOn seen seenOf codeOf namedBy issuedBy movesState
+unfolding opened alive withTable woken noEvent eventsOf paired heldAfter orNoItems orNoAnswers lastOr isEmpty seenOn seen seenOf codeOf namedBy issuedBy movesState isMade
 alive-seen = refl
 
 pub leaves-alive : Demand3 LeavesAlive → ⊥
@@ -174,7 +173,7 @@ unfolding opened next first-left withTable woken frameOf ofFrame refusalConditio
 next-accepted = refl
 
 next-seen : seenOn next next-left ≡ wakingBy revoke 2
-unfolding opened next-left next first-left withTable woken noEvent eventsOf paired heldAfter orNoItems orNoAnswers lastOr isEmpty seenOn seen seenOf codeOf namedBy issuedBy movesState
+unfolding opened next-left next first-left withTable woken noEvent eventsOf paired heldAfter orNoItems orNoAnswers lastOr isEmpty seenOn seen seenOf codeOf namedBy issuedBy movesState isMade
 next-seen = refl
 
 revoke-not : (from : ℕ) → listed revoke 2 from 2 ≡ false

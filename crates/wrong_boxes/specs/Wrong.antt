@@ -1,4 +1,4 @@
--- Boxes that 01 warns of. All but the first refuse as they should, and are wrong where a request is accepted.
+-- Boxes that 01 and 02 warn of. All but the first refuse as they should, and are wrong where a request is accepted.
 -- Each is shown to break the demand that is named above it; which demands it meets is said where that is shown.
 -- Assumes nothing.
 use Prim.Native.Nat.{ℕ}
@@ -28,10 +28,11 @@ use Rattle.payload.specs.declared.Command.the-variants.{Unsupported, Invalid, C
 use Rattle.payload.specs.Payload.{command}
 use Rattle.plans.specs.declared.Key.{Key}
 use Rattle.plans.specs.declared.Outcome.{Outcome}
-use Rattle.plans.specs.declared.Outcome.the-variants.{Failed, Created, Done, Showed, Got, Located}
+use Rattle.plans.specs.declared.Outcome.the-variants.{Failed, Created, Done, Showed, Got, Located, Undone}
 use Rattle.answer.specs.Respond.{Answer, respond}
 use Rattle.engine.specs.Effects.{Effect}
 use Rattle.batch.specs.Batch.{Ran, running}
+use Rattle.settle.specs.Undo.{settled, keptIn}
 use Rattle.engine.specs.Serving.{turnedAway, serving}
 use Rattle.demands.specs.Box.{Call, Box, Lent, placesOf, counted}
 use Rattle.demands.specs.Demand2.{frameOf, refusalConditions, lowest}
@@ -42,37 +43,48 @@ use Rattle.demands.specs.Demand3.{Run, Stands, namedBy, takes, Path, Opens}
 
 -- the refusal that is due, or else what the box does
 unfoldable pub orRefused : Call → Effect → Effect
-orRefused c e = ifb (eqb (lowest 1 (refusalConditions c)) 0) e (turnedAway (c .table) (c .output) (lowest 1 (refusalConditions c)))
+orRefused c e = ifb (eqb (lowest 1 (refusalConditions c)) 0) e (turnedAway (c .table) (c .output) (c .undo) (lowest 1 (refusalConditions c)))
 
 -- what a call should leave
 abbrev pub rightly : Call → Effect
-rightly c = serving (c .request) (c .table) (c .strip) (c .clock) (c .output)
+rightly c = serving (c .request) (c .table) (c .strip) (c .clock) (c .output) (c .undo)
 
--- these answers under a Time Stamp, and this table
+-- the table that the first item should meet
+abbrev pub begunBy : Call → List ℕ
+begunBy c = began (placesOf c) (counted c) (c .table)
+
+-- what the second buffer should hold behind an accepted call
+unfoldable pub keptBy : Call → Option Frame → List ℕ
+keptBy c none = c .undo
+keptBy c (some f) = keptIn (optionOf (f .header .option)) (begunBy c) (c .undo)
+
+-- these answers under a Time Stamp, and this table; the second buffer as it should be
 abbrev pub stamping : ℕ → Call → List Answer → List ℕ → Effect
 stamping clock c answers t = record {
   number = 0;
   length = length (encode (respond (record { clock = clock; answers = answers })));
   table = t;
   output = over (encode (respond (record { clock = clock; answers = answers }))) (c .output);
+  undo = keptBy c (frameOf c);
 }
 
 -- under that of the clock that counts
 abbrev pub responding : Call → List Answer → List ℕ → Effect
 responding c answers t = stamping (counted c) c answers t
 
--- the table that the first item should meet
-abbrev pub begunBy : Call → List ℕ
-begunBy c = began (placesOf c) (counted c) (c .table)
-
 -- the batch of a call, run under an option
 unfoldable pub ranUnder : (ℕ → ℕ) → Call → Option Frame → Ran
 ranUnder option c none = record { answers = []; table = begunBy c }
 ranUnder option c (some f) = running (placesOf c) (c .strip) (begunBy c) (record { option = option (optionOf (f .header .option)); items = f .items })
 
+-- what should be left of it under its own option
+unfoldable pub leftUnder : Call → Option Frame → Ran
+leftUnder c none = record { answers = []; table = begunBy c }
+leftUnder c (some f) = settled (optionOf (f .header .option)) (begunBy c) (ranUnder (λ option. option) c (some f))
+
 -- an outcome with another table
 unfoldable pub withTable : (List ℕ → List ℕ) → Effect → Effect
-withTable change e = record { number = e .number; length = e .length; table = change (e .table); output = e .output }
+withTable change e = record { number = e .number; length = e .length; table = change (e .table); output = e .output; undo = e .undo }
 
 -- a box that answers as it should, and leaves the table that is made of the call and of the table that it should leave. It meets demand 1
 abbrev pub Leaves : (Call → List ℕ → List ℕ) → Box
@@ -82,11 +94,11 @@ Leaves made c e = e ≡ orRefused c (withTable (made c) (rightly c))
 
 -- "a box that refuses everything": number 1, whatever comes. It meets demands 1 and 3
 abbrev pub RefusesAll : Box
-RefusesAll c e = e ≡ turnedAway (c .table) (c .output) 1
+RefusesAll c e = e ≡ turnedAway (c .table) (c .output) (c .undo) 1
 
 -- a box that "does nothing": it says that it answered, and leaves everything as it was. It meets demands 1 and 3
 abbrev pub DoesNothing : Box
-DoesNothing c e = e ≡ orRefused c (turnedAway (c .table) (c .output) 0)
+DoesNothing c e = e ≡ orRefused c (turnedAway (c .table) (c .output) (c .undo) 0)
 
 -- "due items must succeed and alter the record": it answers as it should, and leaves the table as it was
 abbrev pub LeavesTable : Box
@@ -96,7 +108,7 @@ LeavesTable = Leaves (λ c due. c .table)
 abbrev pub failedAnswer : Asked → Answer
 failedAnswer asked = record { operation = asked .operation; id = asked .id; outcome = Failed InvalidField }
 
--- every item failed: all under Continue, the first alone under Stop
+-- every item failed: all under Continue, the first alone under Stop and Undo
 unfoldable pub allFailed : Option Frame → List Answer
 allFailed none = []
 allFailed (some f) = ifb (eqb (optionOf (f .header .option)) continue) (map failedAnswer (f .items)) (take 1 (map failedAnswer (f .items)))
@@ -107,11 +119,11 @@ FailsAll c e = e ≡ orRefused c (responding c (allFailed (frameOf c)) (begunBy 
 
 -- "One answer for all": the same bytes for every accepted request, whatever it does to the table
 abbrev pub SameAnswer : List ℕ → (Call → List ℕ) → Box
-SameAnswer bytes tableOf c e = e ≡ orRefused c (record { number = 0; length = length bytes; table = tableOf c; output = over bytes (c .output) })
+SameAnswer bytes tableOf c e = e ≡ orRefused c (record { number = 0; length = length bytes; table = tableOf c; output = over bytes (c .output); undo = keptBy c (frameOf c) })
 
 -- "A box that executes the whole batch at its first item and answers that one alone"
 abbrev pub AnswersFirst : Box
-AnswersFirst c e = e ≡ orRefused c (responding c (take 1 (ranUnder (λ option. option) c (frameOf c) .answers)) (ranUnder (λ option. option) c (frameOf c) .table))
+AnswersFirst c e = e ≡ orRefused c (responding c (take 1 (leftUnder c (frameOf c) .answers)) (leftUnder c (frameOf c) .table))
 
 -- "under Stop the table shows nothing past a failure": it runs every item, and answers as under Stop
 abbrev pub RunsPastStop : Box
@@ -127,7 +139,17 @@ SharesMaterial = Leaves (λ c due. withPlace smallCount due 0 (withMaterialOf (p
 
 -- "A clock earlier than the latest seen counts as the latest .. in the Time Stamp": it does all as it should, and stamps the clock that it was given
 abbrev pub StampsGiven : Box
-StampsGiven c e = e ≡ orRefused c (stamping (c .clock) c (ranUnder (λ option. option) c (frameOf c) .answers) (ranUnder (λ option. option) c (frameOf c) .table))
+StampsGiven c e = e ≡ orRefused c (stamping (c .clock) c (leftUnder c (frameOf c) .answers) (leftUnder c (frameOf c) .table))
+
+-- ---- boxes that demands 2 and 3 shut out
+
+-- 02, L8, "the table after the request is the table before it": it answers as it should, and leaves what the items of an undone batch did
+abbrev pub KeepsUndone : Box
+KeepsUndone = Leaves (λ c due. ranUnder (λ option. option) c (frameOf c) .table)
+
+-- "those that had succeeded carry status 3 (Operation Undone)": it leaves the table that it should, and answers the items of an undone batch as they went
+abbrev pub SaysDone : Box
+SaysDone c e = e ≡ orRefused c (responding c (ranUnder (λ option. option) c (frameOf c) .answers) (leftUnder c (frameOf c) .table))
 
 -- ---- boxes that demand 3 shuts out
 
@@ -187,7 +209,7 @@ regranting c ran = responding c (regranted (ran .table) (itemsAsked c) (ran .ans
 -- "Once a newer object has taken the place, that identifier is granted nothing more": a box that does all as it should, but forgets this one thing.
 -- Units that are asked for an identifier that was issued, and whose record does not stand behind the batch, are granted
 abbrev pub Regrants : Box
-Regrants c e = e ≡ orRefused c (regranting c (ranUnder (λ option. option) c (frameOf c)))
+Regrants c e = e ≡ orRefused c (regranting c (leftUnder c (frameOf c)))
 
 -- the key of identifier x, whatever its bytes
 abbrev pub someKey : ℕ → Key
@@ -201,6 +223,7 @@ undeadFor x (Done serial) = Done serial
 undeadFor x (Showed shown) = Showed shown
 undeadFor x (Got key) = Got key
 undeadFor x (Located serial) = Located serial
+undeadFor x Undone = Undone
 
 unfoldable pub undead : Command → Outcome → Outcome
 undead Unsupported o = o
@@ -224,7 +247,7 @@ handingOut (asked ∷ items) (a ∷ answers) =
 
 -- a box that "hands out a destroyed key": it runs as it should under Continue, and answers a Get of a destroyed key with a key
 abbrev pub HandsDead : Box
-HandsDead c e = e ≡ orRefused c (responding c (handingOut (itemsAsked c) (ranUnder (λ option. option) c (frameOf c) .answers)) (ranUnder (λ option. option) c (frameOf c) .table))
+HandsDead c e = e ≡ orRefused c (responding c (handingOut (itemsAsked c) (leftUnder c (frameOf c) .answers)) (leftUnder c (frameOf c) .table))
 
 -- the key at place 0 made Active
 unfoldable pub woken : List ℕ → List ℕ
