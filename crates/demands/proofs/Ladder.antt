@@ -34,6 +34,10 @@ use Rattle.demands.specs.Demand2.{frameOf, ofFrame, refusalConditions, l
 abbrev pub served : Call → Effect
 served c = serving (c .request) (c .table) (c .strip) (c .clock) (c .output) (c .undo)
 
+-- what a call leaves that is turned away with a number
+abbrev pub turned : Call → ℕ → Effect
+turned c number = turnedAway (c .table) (c .output) (c .undo) number
+
 -- two outcomes with the same number, length, table, output and second buffer
 pub same-effect : (e f : Effect) → e .number ≡ f .number → e .length ≡ f .length → e .table ≡ f .table → e .output ≡ f .output → e .undo ≡ f .undo → e ≡ f
 same-effect e f n l t o u =
@@ -104,7 +108,7 @@ frame-number clock t strip out buffer (some f) = framing-number clock t strip ou
 -- the number of a call, by its early refusal
 abbrev numbered : Call → ℕ → ℕ
 numbered c early =
-    ifb (eqb early 0) (carryOut (c .clock) (c .table) (c .strip) (c .output) (c .undo) (framing (message (c .request) >>= frameIn))) (turnedAway (c .table) (c .output) (c .undo) early) .number
+    ifb (eqb early 0) (carryOut (c .clock) (c .table) (c .strip) (c .output) (c .undo) (framing (message (c .request) >>= frameIn))) (turned c early) .number
 
 rung : (c : Call) (k : ℕ) (b : Bool) (later : ℕ) {rest : ℕ} → numbered c later ≡ rest → numbered c (ifb b (suc k) later) ≡ ifb b (suc k) rest
 unfolding ifb
@@ -175,10 +179,7 @@ leftOf c a = settled (requestOf (a .frame) .option) (startOf c) (ranBy c a)
 abbrev pub keptBy : (c : Call) → Accepted c → List ℕ
 keptBy c a = keptIn (requestOf (a .frame) .option) (startOf c) (c .undo)
 
--- what a refused call leaves, and an accepted one
-abbrev pub turned : Call → ℕ → Effect
-turned c number = turnedAway (c .table) (c .output) (c .undo) number
-
+-- what an accepted call leaves
 abbrev pub answeredBy : (c : Call) → Accepted c → Effect
 answeredBy c a = answered (counting c) (c .output) (keptBy c a) (leftOf c a)
 
@@ -188,7 +189,7 @@ pub data Told (c : Call) : Effect → Type 0 where
   accepted : (a : Accepted c) → Told c (answeredBy c a)
 
 module _ (c : Call) where
-  -- where the sizes and the table are right, the frame that the request was read as decides
+  -- what a call leaves by its frame, where no early refusal applies
   abbrev decided : Framed → Effect
   decided x = carryOut (c .clock) (c .table) (c .strip) (c .output) (c .undo) x
 
@@ -198,6 +199,7 @@ module _ (c : Call) where
   by-late x zero h = h refl
   by-late x (suc k) h = subst (Told c) (sym (ifb-false _ x _ (ne-eqb (suc k) 0 (λ z. omega arith)))) (away k)
 
+  -- where the sizes and the table are right, the frame that the request was read as decides
   by-frame : roomLeast ≤ length (c .output) → length (c .strip) ≡ stripSize → tableRight (c .table) ≡ true
       → (items : Items) → message (c .request) ≡ some items → (o : Option Frame) → frameIn items ≡ o
       → Told c (decided (framing o))

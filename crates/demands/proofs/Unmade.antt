@@ -3,14 +3,14 @@
 use Prim.Native.Nat.{ℕ, _+_, _<_}
 use native.Mathlib.Omega.{arith}
 use mathlib.Core.Path.{_≡_, refl, sym, ap, subst, _∙_}
-use mathlib.Core.Bool.{true, false, not, _&&_, _||_, true≢false}
+use mathlib.Core.Bool.{true, false, not, true≢false}
 use mathlib.Core.List.{List, [], _∷_, map}
 use lib.Dec.{eqb}
 use borrow.Author.Tests.{ne-eqb}
 use Rattle.octets.specs.If.{ifb}
 use Rattle.octets.proofs.If.{ifb-true, ifb-false, on-if}
 use Rattle.octets.proofs.Bools.{and-no}
-use Rattle.table.specs.Records.{placeAt, lastSerial}
+use Rattle.table.specs.Records.{placeAt}
 use Rattle.search.specs.Search.{newPlace}
 use Rattle.soundness.specs.Checked.{isAt}
 use Rattle.batch_item.specs.Item.{Asked}
@@ -27,8 +27,7 @@ use Rattle.settle.specs.Undo.{orUndone, undoneTo}
 use Rattle.demands.specs.Log.{Event, commandOf, paired, onto, issuedBy, issued, grantBy, granted, limit, handedBy, destroyedBy, wasDestroyed, handedDead}
 use Rattle.demands.specs.Demand3.{isUnderstood, isMade, carries, takes, Tame}
 use Rattle.demands.proofs.Counted.{no-issue, no-grant}
-use Rattle.demands.proofs.Logged.{granted-more, issued-before, limit-before, Balanced, Inv}
-use Rattle.demands.proofs.Dead.{Dead}
+use Rattle.demands.proofs.Logged.{granted-more, issued-before, limit-before, Balanced}
 use Rattle.demands.proofs.Tame.{kind-understood}
 use Rattle.demands.proofs.Paired.{paired-end, Books, Travelled, stood, onward}
 
@@ -63,15 +62,15 @@ undone-grants x (Get target) = refl
 undone-grants x (Locate name) = refl
 
 -- an answer to a command of which the log counts nothing
-pub record Silent (operation : ℕ) (c : Command) (o : Outcome) : Type 0 where
-  pub issues : issuedBy c o ≡ 0
-  pub grants : (x : ℕ) → grantBy x c o ≡ 0
-  pub hands : handedBy o ≡ 0
-  pub destroys : destroyedBy operation o ≡ 0
-  pub carried : carries o ≡ 0
+record Silent (operation : ℕ) (c : Command) (o : Outcome) : Type 0 where
+  issues : issuedBy c o ≡ 0
+  grants : (x : ℕ) → grantBy x c o ≡ 0
+  hands : handedBy o ≡ 0
+  destroys : destroyedBy operation o ≡ 0
+  carried : carries o ≡ 0
 
 -- what counts as never made is silent
-pub silent : (operation : ℕ) (c : Command) (o : Outcome) → isMade o ≡ false → Silent operation c o
+silent : (operation : ℕ) (c : Command) (o : Outcome) → isMade o ≡ false → Silent operation c o
 unfolding isMade handedBy destroyedBy carries
 silent operation c (Failed reason) m = record { issues = no-issue c reason; grants = λ x. no-grant x c reason; hands = refl; destroys = refl; carried = refl }
 silent operation c (Created serial) m = absurd (true≢false m)
@@ -191,19 +190,21 @@ unmade-granted x (more {ev} u rest) log = unmade-granted x rest (ev ∷ log) ∙
 
 -- ---- a batch that is undone
 
-orUndone-unmade : (o : Outcome) → isMade (orUndone o) ≡ false
+-- whatever became of an item, its answer counts as never made then
+undone-unmade : (o : Outcome) → isMade (orUndone o) ≡ false
 unfolding orUndone isFailed isMade ifb
-orUndone-unmade (Failed reason) = refl
-orUndone-unmade (Created serial) = refl
-orUndone-unmade (Done serial) = refl
-orUndone-unmade (Showed shown) = refl
-orUndone-unmade (Got key) = refl
-orUndone-unmade (Located serial) = refl
-orUndone-unmade Undone = refl
+undone-unmade (Failed reason) = refl
+undone-unmade (Created serial) = refl
+undone-unmade (Done serial) = refl
+undone-unmade (Showed shown) = refl
+undone-unmade (Got key) = refl
+undone-unmade (Located serial) = refl
+undone-unmade Undone = refl
 
-orUndone-failed : (o : Outcome) → isFailed o ≡ true → isFailed (orUndone o) ≡ true
+-- and what failed failed
+undone-failed : (o : Outcome) → isFailed o ≡ true → isFailed (orUndone o) ≡ true
 unfolding orUndone
-orUndone-failed o f = ap isFailed (ifb-true (isFailed o) o Undone f) ∙ f
+undone-failed o f = ap isFailed (ifb-true (isFailed o) o Undone f) ∙ f
 
 module _ (n : ℕ) (strip : List ℕ) (option : ℕ) where
   -- each of its events counts as never made
@@ -216,7 +217,7 @@ module _ (n : ℕ) (strip : List ℕ) (option : ℕ) where
     where
       own : (did : Did) → (isUnderstood (command (asked .operation) (asked .payload)) ≡ false → isFailed (did .outcome) ≡ true)
           → Unmade (record { held = held; asked = asked; answer = undoneTo (answerTo asked did) })
-      own did fails = record { operation = refl; id = refl; understood = λ y. orUndone-failed (did .outcome) (fails y); unmade = orUndone-unmade (did .outcome) }
+      own did fails = record { operation = refl; id = refl; understood = λ y. undone-failed (did .outcome) (fails y); unmade = undone-unmade (did .outcome) }
 
       turn : (did : Did) → (isUnderstood (command (asked .operation) (asked .payload)) ≡ false → isFailed (did .outcome) ≡ true)
           → ((next : ℕ) → AllUnmade (paired next later (map undoneTo (batch n strip option (i + 1) (did .holder) (did .table) later .answers))))
