@@ -5,3 +5,4 @@ pub mod Trying
 pub mod Telling
 pub mod Settling
 pub mod Unique
+pub mod Said

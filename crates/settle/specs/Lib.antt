@@ -2,3 +2,4 @@
 -- Assumes nothing.
 pub mod Undo
 pub mod Trials
+pub mod Said
