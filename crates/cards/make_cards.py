@@ -2828,7 +2828,7 @@ def cards_of_sixteen_items(s):
     as_before(s, "L8 after the first of sixteen fails")
     s.card("L8 the last of sixteen fails", *[(create(), undone(CREATE))] * 15, LOST, option=UNDO)
     as_before(s, "L8 after the last of sixteen fails")
-    s.about("L8: the longest response under Undo: sixteen times 392 bytes. With a seventeenth part of that undone, nothing past the shorter response is written.")
+    s.about("L8: the longest response under Undo: sixteen times 392 bytes. With fifteen of them undone, nothing past the shorter response is written.")
     s.blank()
     s.put(0, lead(3)[:4])
     dates = dict(activation=1, deactivation=9)

@@ -18,7 +18,7 @@ use support::{engines, pattern, requests, tables, unhex, Case, Effect};
 const OBJECT_NOT_FOUND: u32 = 0x37;
 const WRONG_STATE: u32 = 0x43;
 
-/// What a clock of 5 makes of `keys`: place 5 is to start by it.
+/// By a clock of 5, key 8 of `keys` is to start.
 const CLOCK: i64 = 5;
 
 /// Keys 1 to 6 in states 1 to 6, key 7 with a limit and a name, Active, and key 8, which is to start at 3.

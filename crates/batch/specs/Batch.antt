@@ -1,4 +1,4 @@
--- 01, "Message frame": a batch carried out item by item, under Continue or Stop.
+-- 01, "Message frame": a batch carried out item by item: to its end under Continue, else up to the first item that fails.
 -- Assumes nothing. There is no byte of output in it.
 use Prim.Native.Nat.{ℕ, _+_, _*_}
 use mathlib.Core.Bool.{Bool, not, _&&_}

@@ -6,7 +6,7 @@ use lib.ListN.{length, drop}
 use Rattle.engine.specs.Effects.{Effect}
 use Rattle.demands.specs.Box.{Call, Box, Lent}
 
--- "one of ten numbered refusals", and 02, L8: "so demand 1 speaks of eleven"
+-- 00's numbered refusals; 02, L8: "so demand 1 speaks of eleven"
 abbrev pub refusals : ℕ
 refusals = 11
 

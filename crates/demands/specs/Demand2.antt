@@ -130,7 +130,7 @@ unfoldable pub anyFails : List Link → Bool
 anyFails [] = false
 anyFails (l ∷ links) = isFailed (l .did .outcome) || anyFails links
 
--- "option 3, Undo": whether what these links did is undone
+-- "Makers want option 3": whether what these links did is undone
 abbrev pub isUndone : ℕ → List Link → Bool
 isUndone option links = eqb option undo && anyFails links
 
