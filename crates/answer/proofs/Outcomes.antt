@@ -80,7 +80,7 @@ succeeded-back operation payload = rw (spelled-back 4 resultStatus enumeration s
 
 undone-back : (operation : ℕ) → outcomeIn operation (outcomeItems Undone) ≡ some Undone
 unfolding outcomeIn statusIn outcomeItems undoneIn ifb ended _>>=_ _>>_
-undone-back operation = rw (spelled-back 4 resultStatus enumeration operationUndone nil (omega arith))
+undone-back operation = rw (spelled-back 4 resultStatus enumeration operationUndone _ (omega arith))
 
 -- the operations that answer an identifier alone do not create
 not-create : (operation : ℕ) → answersDone operation ≡ true → eqb operation create ≡ false
