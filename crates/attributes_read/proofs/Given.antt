@@ -22,7 +22,7 @@ use Rattle.fields.specs.declared.BodyField.the-variants.{Body, NoBody}
 use Rattle.fields.proofs.Lift.{number-rest, body-rest}
 use Rattle.fields.proofs.Runs.{tail, tail-none, run-behind, body-some, body-none, optional-there, optional-absent}
 use Rattle.last_field.proofs.Steps.{stops, goes, fails, holds, number-goes, number-stops}
-use Rattle.values.specs.Values.{aboveZero}
+use Rattle.values.specs.Values.{protects, aboveZero}
 use Rattle.rules.specs.declared.Attributes.{Attributes}
 use Rattle.tags.specs.Tags.{usageLimits}
 use Rattle.names.specs.declared.Name.{Name}
@@ -98,38 +98,42 @@ unfolding limitRead limitsEnd
 end-invalid next none h = refl
 end-invalid next (some limit) h = let z : _≡_ {A = ℕ} 0 1 = cc in absurd (omega arith)
 
-module _ (s : List ℕ) (run : isRun s ≡ true) where
-  body-is : (b : BodyField) → bodyAt s usageLimits ≡ b → startsAt s usageLimits ≡ true → {unit total next : ℕ} → limitsBody s b ≡ Limits unit total next
-      → Given s (optional usageLimits limitFirst (treeOf s)) next (LimitIs unit total)
+module _ (mask : ℕ) (s : List ℕ) (run : isRun s ≡ true) where
+  body-is : (b : BodyField) → bodyAt s usageLimits ≡ b → startsAt s usageLimits ≡ true → protects mask ≡ true → {unit total next : ℕ} → limitsBody s b ≡ Limits unit total next
+      → Given s (optional usageLimits (limitFirst mask) (treeOf s)) next (LimitIs unit total)
   unfolding limitsBody limitFirst
-  body-is (Body m) e y {unit} {total} {next} h =
+  body-is (Body m) e y p {unit} {total} {next} h =
       let i = end-is (limitIn (treeOf (part s 8 (m - 8)))) h in
       let f : bodyAt s usageLimits ≡ Body next = e ∙ ap (λ (x : ℕ). Body x) (i .4) in
       let read : limitIn (treeOf (part s 8 (next - 8))) ≡ some (i .0) = ap (λ (x : ℕ). limitIn (treeOf (part s 8 (x - 8)))) (sym (i .4)) ∙ i .1 in
-      there s run usageLimits limitFirst (body-rest s run usageLimits f) y (goes _ (body-some s run usageLimits f) ∙ goes _ read) (limit-is (i .0) (i .2) (i .3))
-  body-is NoBody e y h = let z : _≡_ {A = ℕ} 0 1 = cc in absurd (omega arith)
+      there s run usageLimits (limitFirst mask) (body-rest s run usageLimits f) y (holds _ p ∙ goes _ (body-some s run usageLimits f) ∙ goes _ read) (limit-is (i .0) (i .2) (i .3))
+  body-is NoBody e y p h = let z : _≡_ {A = ℕ} 0 1 = cc in absurd (omega arith)
 
-  body-not : (b : BodyField) → bodyAt s usageLimits ≡ b → limitsBody s b ≡ InvalidLimits → limitFirst (treeOf s) ≡ none
+  body-not : (b : BodyField) → bodyAt s usageLimits ≡ b → protects mask ≡ true → limitsBody s b ≡ InvalidLimits → limitFirst mask (treeOf s) ≡ none
   unfolding limitsBody limitFirst
-  body-not (Body m) e h = goes _ (body-some s run usageLimits e) ∙ stops _ (end-none m (limitIn (treeOf (part s 8 (m - 8)))) h)
-  body-not NoBody e h = stops _ (body-none s run usageLimits e)
+  body-not (Body m) e p h = holds _ p ∙ goes _ (body-some s run usageLimits e) ∙ stops _ (end-none m (limitIn (treeOf (part s 8 (m - 8)))) h)
+  body-not NoBody e p h = holds _ p ∙ stops _ (body-none s run usageLimits e)
 
-  pub limits-is : {unit total next : ℕ} → limitsAt s ≡ Limits unit total next → Given s (optional usageLimits limitFirst (treeOf s)) next (LimitIs unit total)
+  pub limits-is : {unit total next : ℕ} → limitsAt mask s ≡ Limits unit total next → Given s (optional usageLimits (limitFirst mask) (treeOf s)) next (LimitIs unit total)
   unfolding limitsAt wantedOf
   limits-is {unit} {total} {next} h =
       on-bool (startsAt s usageLimits)
-      (λ y. body-is (bodyAt s usageLimits) refl y (sym (ifb-true _ _ _ y) ∙ h))
+      (λ y. on-bool (protects mask)
+      (λ p. body-is (bodyAt s usageLimits) refl y p (sym (ifb-true _ _ _ p) ∙ sym (ifb-true _ _ _ y) ∙ h))
+      (λ p. let q : InvalidLimits ≡ Limits unit total next = sym (ifb-false _ _ _ p) ∙ sym (ifb-true _ _ _ y) ∙ h in let z : _≡_ {A = ℕ} 0 1 = cc in absurd (omega arith)))
       (λ n. let q : Limits 0 0 0 ≡ Limits unit total next = sym (ifb-false _ _ _ n) ∙ h in
       let u : 0 ≡ unit = cc in
       let t : 0 ≡ total = cc in
       let z : next ≡ 0 = cc in
-      absent s run usageLimits limitFirst z n (λ bits mask activation deactivation name. ap₂ (λ (x : ℕ) (y : ℕ). wants bits mask x y activation deactivation name) u t))
+      absent s run usageLimits (limitFirst mask) z n (λ bits any activation deactivation name. ap₂ (λ (x : ℕ) (y : ℕ). wants bits any x y activation deactivation name) u t))
 
-  pub limits-not : limitsAt s ≡ InvalidLimits → optional usageLimits limitFirst (treeOf s) ≡ none
-  unfolding limitsAt
+  pub limits-not : limitsAt mask s ≡ InvalidLimits → optional usageLimits (limitFirst mask) (treeOf s) ≡ none
+  unfolding limitsAt limitFirst
   limits-not h =
       on-bool (startsAt s usageLimits)
-      (λ y. optional-there s run usageLimits limitFirst y ∙ stops _ (body-not (bodyAt s usageLimits) refl (sym (ifb-true _ _ _ y) ∙ h)))
+      (λ y. optional-there s run usageLimits (limitFirst mask) y ∙ on-bool (protects mask)
+      (λ p. stops _ (body-not (bodyAt s usageLimits) refl p (sym (ifb-true _ _ _ p) ∙ sym (ifb-true _ _ _ y) ∙ h)))
+      (λ p. stops _ (fails _ p)))
       (λ n. let q : Limits 0 0 0 ≡ InvalidLimits = sym (ifb-false _ _ _ n) ∙ h in let z : _≡_ {A = ℕ} 0 1 = cc in absurd (omega arith))
 
 -- ---- a date

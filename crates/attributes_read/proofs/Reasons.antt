@@ -25,13 +25,13 @@ unfolding limitReason limitRead readReason
 limit-reason none = refl
 limit-reason (some limit) = refl
 
-pub limits-reason : (s : List ℕ) (run : isRun s ≡ true) → limitsReason (limitsAt s) ≡ readReason (optional usageLimits limitFirst (treeOf s))
+pub limits-reason : (mask : ℕ) (s : List ℕ) (run : isRun s ≡ true) → limitsReason (limitsAt mask s) ≡ readReason (optional usageLimits (limitFirst mask) (treeOf s))
 unfolding limitsReason readReason
-limits-reason s run = go (limitsAt s) refl
+limits-reason mask s run = go (limitsAt mask s) refl
   where
-    go : (r : LimitsRead) → limitsAt s ≡ r → limitsReason r ≡ readReason (optional usageLimits limitFirst (treeOf s))
-    go (Limits unit total next) e = sym (ap readReason (limits-is s run e .read))
-    go InvalidLimits e = sym (ap readReason (limits-not s run e))
+    go : (r : LimitsRead) → limitsAt mask s ≡ r → limitsReason r ≡ readReason (optional usageLimits (limitFirst mask) (treeOf s))
+    go (Limits unit total next) e = sym (ap readReason (limits-is mask s run e .read))
+    go InvalidLimits e = sym (ap readReason (limits-not mask s run e))
 
 pub date-reason : (s : List ℕ) (run : isRun s ≡ true) (tag : ℕ) → dateReason (dateAt s tag) ≡ readReason (optional tag (dateFirst tag) (treeOf s))
 unfolding dateReason readReason

@@ -124,17 +124,17 @@ module _ (bits mask unit total : ℕ) where
       rw (p, q, r)
 
 module _ (s : List ℕ) (run : isRun s ≡ true) (bits mask : ℕ) where
-  pub limited-none : limitsAt s ≡ InvalidLimits → limitedIn bits mask (treeOf s) ≡ none
+  pub limited-none : limitsAt mask s ≡ InvalidLimits → limitedIn bits mask (treeOf s) ≡ none
   unfolding limitedIn
-  limited-none e = stops _ (limits-not s run e)
+  limited-none e = stops _ (limits-not mask s run e)
 
   -- the limit is known: what is left is the dates and the name
-  pub limited-dated : {unit total next : ℕ} → limitsAt s ≡ Limits unit total next → limitedIn bits mask (treeOf s) ≡ withDated bits mask unit total (datedIn (treeOf (tail s next)))
+  pub limited-dated : {unit total next : ℕ} → limitsAt mask s ≡ Limits unit total next → limitedIn bits mask (treeOf s) ≡ withDated bits mask unit total (datedIn (treeOf (tail s next)))
   unfolding limitedIn _>>=_
   limited-dated {unit} {total} {next} e = goes _ (g .read) ∙ go (datedIn (treeOf (tail s next)))
     where
-      g : Given s (optional usageLimits limitFirst (treeOf s)) next (LimitIs unit total)
-      g = limits-is s run e
+      g : Given s (optional usageLimits (limitFirst mask) (treeOf s)) next (LimitIs unit total)
+      g = limits-is mask s run e
 
       go : (o : Option (ℕ × ℕ × Name)) → (o >>= λ (activation, deactivation, name). some (wantedOf bits mask (g .given) activation deactivation name)) ≡ withDated bits mask unit total o
       go none = refl

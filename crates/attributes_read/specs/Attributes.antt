@@ -1,4 +1,4 @@
--- 01, "Operations", Create, and 02, L3 and L6: what Attributes holds, and the values allowed in it.
+-- 01, "Operations", Create, and 02, L3, L6 and L9: what Attributes holds, and the values allowed in it.
 -- Assumes nothing. "One of wrong shape or with a value not allowed here fails with Invalid Field."
 use Prim.Native.Nat.{ℕ}
 use mathlib.Core.Option.{Option, none, some}
@@ -8,7 +8,7 @@ use Rattle.ttlv_types.specs.Types.{integer, longInteger, enumeration, dateTime}
 use Rattle.ttlv.specs.Items.{Items, ended}
 use Rattle.fields.specs.Fields.{bodyOf, numberOf, optional}
 use Rattle.tags.specs.Tags.{activationDate, cryptographicAlgorithm, cryptographicLength, cryptographicUsageMask, deactivationDate, usageLimits, usageLimitsTotal, usageLimitsUnit}
-use Rattle.values.specs.Values.{bitsOk, maskOk, unitOk, totalOk, aboveZero, inOrder}
+use Rattle.values.specs.Values.{bitsOk, maskOk, protects, unitOk, totalOk, aboveZero, inOrder}
 use Rattle.rules.specs.declared.Attributes.{Attributes}
 use Rattle.names.specs.declared.Name.{Name}
 use Rattle.name_read.specs.Name.{lastNameIn}
@@ -32,9 +32,10 @@ limitIn t = do
   ended s
   some (record { unit = unit; total = total })
 
--- a Usage Limits structure in front
-unfoldable pub limitFirst : Items → Option (Limit × Items)
-limitFirst t = do
+-- a Usage Limits structure in front, of a key with this mask: "Create with Usage Limits and a mask with none of Sign (1), Encrypt (4) and MAC Generate (80 hex) now fails with Invalid Field" (L9)
+unfoldable pub limitFirst : ℕ → Items → Option (Limit × Items)
+limitFirst mask t = do
+  protects mask
   (body, rest) ← bodyOf usageLimits t
   limit ← limitIn body
   some (limit, rest)
@@ -70,7 +71,7 @@ wantedOf bits mask (some limit) activation deactivation name =
 -- behind the mask, for a key of this length and mask: "[Usage Limits]", the dates and the name
 unfoldable pub limitedIn : ℕ → ℕ → Items → Option Attributes
 limitedIn bits mask t = do
-  (limit, r) ← optional usageLimits limitFirst t
+  (limit, r) ← optional usageLimits (limitFirst mask) t
   (activation, deactivation, name) ← datedIn r
   some (wantedOf bits mask limit activation deactivation name)
 

@@ -12,7 +12,7 @@ use Rattle.fields.specs.declared.NumberField.{NumberField}
 use Rattle.fields.specs.declared.NumberField.the-variants.{Number, NoNumber}
 use Rattle.fields.specs.declared.BodyField.{BodyField}
 use Rattle.fields.specs.declared.BodyField.the-variants.{Body, NoBody}
-use Rattle.values.specs.Values.{aboveZero}
+use Rattle.values.specs.Values.{protects, aboveZero}
 use Rattle.tags.specs.Tags.{usageLimits}
 use Rattle.rules.specs.declared.Attributes.{Attributes}
 use Rattle.names.specs.declared.Name.{Name}
@@ -42,9 +42,9 @@ unfoldable pub limitsBody : List ℕ → BodyField → LimitsRead
 limitsBody s (Body next) = limitsEnd next (limitIn (treeOf (part s 8 (next - 8))))
 limitsBody s NoBody = InvalidLimits
 
--- Usage Limits at the front of s and where it ends: unit 0 and total 0, which end at 0, where none is given
-unfoldable pub limitsAt : List ℕ → LimitsRead
-limitsAt s = ifb (startsAt s usageLimits) (limitsBody s (bodyAt s usageLimits)) (Limits 0 0 0)
+-- Usage Limits at the front of s, behind this mask, and where it ends: unit 0 and total 0, which end at 0, where none is given
+unfoldable pub limitsAt : ℕ → List ℕ → LimitsRead
+limitsAt mask s = ifb (startsAt s usageLimits) (ifb (protects mask) (limitsBody s (bodyAt s usageLimits)) InvalidLimits) (Limits 0 0 0)
 
 -- a number that is a date
 unfoldable pub dateField : NumberField → DateRead

@@ -82,10 +82,10 @@ fn read_limit(s: &[u8]) -> LimitRead
     }
 }
 
-// Usage Limits, if it is given.
-fn read_limits(s: &[u8]) -> LimitsRead
+// Usage Limits, if it is given, behind this mask: a limit is for a key that can apply protection.
+fn read_limits(s: &[u8], mask: u32) -> LimitsRead
     requires { ⌜ isRun (now s) ≡ true ⌝ }
-    ensures { λ r. ⌜ r ≡ limitsAt (now (s .entry)) ⌝ }
+    ensures { λ r. ⌜ r ≡ limitsAt mask (now (s .entry)) ⌝ }
 {
     if !fields::starts_with(s, tags::USAGE_LIMITS) {
         return LimitsRead::Limits {
@@ -93,6 +93,9 @@ fn read_limits(s: &[u8]) -> LimitsRead
             total: 0,
             next: 0,
         };
+    }
+    if !values::protects(mask as u64) {
+        return LimitsRead::InvalidField;
     }
     let BodyField::Body { next } = fields::body_field(s, tags::USAGE_LIMITS) else {
         return LimitsRead::InvalidField;
@@ -161,7 +164,7 @@ fn read_limited(s: &[u8], bits: u16, mask: u32) -> AttributesRead
     requires { ⌜ isRun (now s) ≡ true ⌝ }
     ensures { λ r. ⌜ r ≡ attributesRead (limitedIn bits mask (treeOf (now (s .entry)))) ⌝ }
 {
-    let LimitsRead::Limits { unit, total, next } = read_limits(s) else {
+    let LimitsRead::Limits { unit, total, next } = read_limits(s, mask) else {
         return AttributesRead::InvalidField;
     };
     let DatedRead::Dated {

@@ -117,10 +117,10 @@ dated-ok t h =
       name-ok (d .1) e4,
     )
 
-first-ok : (t : Items) (a : Limit × Items) → limitFirst t ≡ some a → (unitOk (a .0 .unit) ≡ true) × (totalOk (a .0 .total) ≡ true)
+first-ok : (mask : ℕ) (t : Items) (a : Limit × Items) → limitFirst mask t ≡ some a → (unitOk (a .0 .unit) ≡ true) × (totalOk (a .0 .total) ≡ true)
 unfolding limitFirst
-first-ok t a h =
-    on-bind h λ b e1 h1. on-bind h1 λ limit e2 h2.
+first-ok mask t a h =
+    on-test h λ protected h0. on-bind h0 λ b e1 h1. on-bind h1 λ limit e2 h2.
     subst (λ (p : Limit × Items). (unitOk (p .0 .unit) ≡ true) × (totalOk (p .0 .total) ≡ true)) (some-is h2) (limit-ok (b .0) limit e2)
 
 masked-ok : (bits : ℕ) (t : Items) (wanted : Attributes) → bitsOk bits ≡ true → maskedIn bits t ≡ some wanted → Allowed wanted
@@ -129,10 +129,10 @@ masked-ok bits t wanted good h =
     on-bind h λ m e1 h1. on-test h1 λ mask h2. on-bind h2 λ l e2 h3. on-bind h3 λ dates e3 h4.
     let right = dated-ok (l .1) e3 in
     subst Allowed (some-is h4)
-    (on-optional usageLimits limitFirst (m .1) (λ (p : Option Limit × Items). Allowed (wantedOf bits (m .0) (p .0) (dates .0) (dates .1) (dates .2))) e2
+    (on-optional usageLimits (limitFirst (m .0)) (m .1) (λ (p : Option Limit × Items). Allowed (wantedOf bits (m .0) (p .0) (dates .0) (dates .1) (dates .2))) e2
     (wanted-ok bits (m .0) (dates .0) (dates .1) (dates .2) good mask (right .0) (right .1) none (λ limit z. absurd (not-some z)))
     (λ x rest e. wanted-ok bits (m .0) (dates .0) (dates .1) (dates .2) good mask (right .0) (right .1) (some x)
-    (λ limit z. subst (λ (y : Limit). (unitOk (y .unit) ≡ true) × (totalOk (y .total) ≡ true)) (some-is z) (first-ok (m .1) (x, rest) e))))
+    (λ limit z. subst (λ (y : Limit). (unitOk (y .unit) ≡ true) × (totalOk (y .total) ≡ true)) (some-is z) (first-ok (m .0) (m .1) (x, rest) e))))
 
 attributes-ok : (t : Items) (wanted : Attributes) → attributesIn t ≡ some wanted → Allowed wanted
 unfolding attributesIn

@@ -41,6 +41,11 @@ create-limited : commandOf 0x01 (parse 6 (hex "42005705 00000004 00000002 000000
 unfolding opened
 create-limited = refl
 
+-- the same with mask 8, Decrypt alone: a limit is for a key that can apply protection
+create-unprotected : commandOf 0x01 (parse 6 (hex "42005705 00000004 00000002 00000000 42012501 00000058 42002805 00000004 00000003 00000000 42002A02 00000004 00000080 00000000 42002C02 00000004 00000008 00000000 42009501 00000020 42009703 00000008 00000000 00000064 42009805 00000004 00000002 00000000")) ≡ some Invalid
+unfolding opened
+create-unprotected = refl
+
 create-free : commandOf 0x01 (parse 6 (hex "42005705 00000004 00000002 00000000 42012501 00000030 42002805 00000004 00000003 00000000 42002A02 00000004 00000100 00000000 42002C02 00000004 0000000C 00000000")) ≡ some (Create (record { bits = 256; mask = 12; unit = 0; total = 0; activation = 0; deactivation = 0; name = noName }))
 unfolding opened
 create-free = refl

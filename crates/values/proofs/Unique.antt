@@ -4,6 +4,7 @@ use mathlib.Core.Path.{sym, _∙_}
 use Rattle.outcomes.specs.Outcomes.{OneAnswer}
 use Rattle.values.proofs.bits_ok.Reads as bits-ok-reads
 use Rattle.values.proofs.mask_ok.Reads as mask-ok-reads
+use Rattle.values.proofs.protects.Reads as protects-reads
 use Rattle.values.proofs.unit_ok.Reads as unit-ok-reads
 use Rattle.values.proofs.total_ok.Reads as total-ok-reads
 use Rattle.values.proofs.not_negative.Reads as not-negative-reads
@@ -15,6 +16,9 @@ bits-ok-unique κs a r r′ s s′ p q = p ∙ sym q
 
 pub mask-ok-unique : OneAnswer mask-ok-reads.Post
 mask-ok-unique κs a r r′ s s′ p q = p ∙ sym q
+
+pub protects-unique : OneAnswer protects-reads.Post
+protects-unique κs a r r′ s s′ p q = p ∙ sym q
 
 pub unit-ok-unique : OneAnswer unit-ok-reads.Post
 unit-ok-unique κs a r r′ s s′ p q = p ∙ sym q

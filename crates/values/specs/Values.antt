@@ -1,6 +1,6 @@
 -- 01, "Sound" and "Create", and 02, L3: the values that a sound table allows; Create allows the same ("as a sound table allows"). Dates and clocks are their 64 bits.
 -- Assumes nothing.
-use Prim.Native.Nat.{ℕ, _^_}
+use Prim.Native.Nat.{ℕ, _^_, _/_, _%_}
 use mathlib.Core.Bool.{Bool, _&&_, _||_}
 use lib.Dec.{leb, ltb, eqb}
 
@@ -11,6 +11,14 @@ bitsOk bits = eqb bits 128 || eqb bits 192 || eqb bits 256
 -- "mask at most 00FFFFFF hex"
 abbrev pub maskOk : ℕ → Bool
 maskOk mask = leb mask 0x00FFFFFF
+
+-- whether a mask has this bit, which is a power of 2
+abbrev pub hasBit : ℕ → ℕ → Bool
+hasBit bit mask = eqb (mask / bit % 2) 1
+
+-- 02, L9: "Sign (1), Encrypt (4) and MAC Generate (80 hex)": a mask with one of them is one of a key that can apply protection. Create alone asks it, and a sound table does not
+abbrev pub protects : ℕ → Bool
+protects mask = hasBit 1 mask || hasBit 4 mask || hasBit 0x80 mask
 
 -- "unit 1 or 2"
 abbrev pub unitOk : ℕ → Bool

@@ -1,7 +1,7 @@
 // The values that a key may have. The soundness check and the reader of Create go by the same
-// tests. Assumes nothing: any number gets an answer.
+// tests, and Create by one more. Assumes nothing: any number gets an answer.
 ghost use mathlib.Core.Path.{_≡_};
-ghost use Rattle.values.specs.Values.{bitsOk, maskOk, unitOk, totalOk, notNegative, aboveZero, inOrder};
+ghost use Rattle.values.specs.Values.{bitsOk, maskOk, protects, unitOk, totalOk, notNegative, aboveZero, inOrder};
 
 // A length in bits.
 pub fn bits_ok(bits: u64) -> bool
@@ -15,6 +15,21 @@ pub fn mask_ok(mask: u64) -> bool
     ensures { λ r. ⌜ r ≡ maskOk mask ⌝ }
 {
     mask <= 0x00FFFFFF
+}
+
+// The bits of a usage mask with which a key can apply protection.
+const SIGN: u64 = 1;
+
+const ENCRYPT: u64 = 4;
+
+const MAC_GENERATE: u64 = 0x80;
+
+// Whether a mask has one of them: Create takes a usage limit for no other. The soundness check does
+// not ask it.
+pub fn protects(mask: u64) -> bool
+    ensures { λ r. ⌜ r ≡ protects mask ⌝ }
+{
+    (mask / SIGN % 2 == 1) | (mask / ENCRYPT % 2 == 1) | (mask / MAC_GENERATE % 2 == 1)
 }
 
 // The unit of a usage limit.

@@ -56,11 +56,11 @@ Total c = c .unit .given .0 .1 .0
 abbrev Next : tie.After-unit → ℕ
 Next c = c .unit .given .0 .1 .1 .0
 
-measured : (c : tie.After-unit) → limitsAt (S c) ≡ Limits (Unit c) (Total c) (Next c)
+measured : (c : tie.After-unit) → limitsAt (Mask c) (S c) ≡ Limits (Unit c) (Total c) (Next c)
 measured c = sym (c .before .before .read-limits .ensures) ∙ c .unit .given .1
 
-limit : (c : tie.After-unit) → Given (S c) (optional usageLimits limitFirst (treeOf (S c))) (Next c) (LimitIs (Unit c) (Total c))
-limit c = limits-is (S c) (start c .pre) (measured c)
+limit : (c : tie.After-unit) → Given (S c) (optional usageLimits (limitFirst (Mask c)) (treeOf (S c))) (Next c) (LimitIs (Unit c) (Total c))
+limit c = limits-is (Mask c) (S c) (start c .pre) (measured c)
 
 left : (c : tie.After-unit) → limitedIn (Bits c) (Mask c) (treeOf (S c)) ≡ withDated (Bits c) (Mask c) (Unit c) (Total c) (datedIn (treeOf (tail (S c) (Next c))))
 left c = limited-dated (S c) (start c .pre) (Bits c) (Mask c) (measured c)

@@ -1,4 +1,4 @@
--- `attributes_read::read_limits`. By the tag at the front, then by the structure, then by what it holds.
+-- `attributes_read::read_limits`. By the tag at the front, then by the mask, then by the structure, then by what it holds.
 -- Assumes nothing.
 use mathlib.Core.Path.{_≡_, sym, ap, _∙_}
 use Prim.Native.Nat.{ℕ}
@@ -6,6 +6,7 @@ use native.Mathlib.Omega.{arith}
 use mathlib.Core.Bool.{true}
 use mathlib.Core.List.{List}
 use borrow.Author.Tests.{not-true, not-false}
+use Rattle.octets.specs.If.{ifb}
 use Rattle.octets.proofs.If.{ifb-true, ifb-false}
 use Rattle.ttlv.specs.Tree.{isRun}
 use Rattle.ttlv.proofs.Tree.{Rest}
@@ -13,8 +14,10 @@ use Rattle.fields.specs.Found.{bodyAt}
 use Rattle.fields.specs.declared.BodyField.{BodyField}
 use Rattle.fields.specs.declared.BodyField.the-variants.{Body}
 use Rattle.fields.proofs.Lift.{body-rest, body-is-run}
+use Rattle.values.specs.Values.{protects}
 use Rattle.tags.specs.Tags.{usageLimits}
 use Rattle.attributes_read.specs.Readers.{limitsBody, limitsAt}
+use Rattle.attributes_read.specs.declared.LimitsRead.the-variants.{InvalidField}
 use Rattle.attributes_read.proofs.Given.{end-limited, end-invalid}
 use borrow.Author.Needs.{needs}
 use Rattle.attributes_read.proofs.read_limits.Statement.{statement}
@@ -27,7 +30,7 @@ returns : tie.Need-returns
 unfolding limitsAt
 returns c = sym (ifb-false _ _ _ (sym (c .before .starts-with .ensures) ∙ not-true _ (c .if1 .taken)))
 
--- ---- Usage Limits is there: the items, and what a structure gives
+-- ---- Usage Limits is there: the items, and what the mask gives
 
 abbrev start : tie.Else1 → tie.Start
 start c = c .before .before .before
@@ -35,12 +38,29 @@ start c = c .before .before .before
 abbrev S : tie.Else1 → List ℕ
 S c = start c .args .s .now
 
+abbrev Mask : tie.Else1 → ℕ
+Mask c = start c .args .mask
+
 run : (c : tie.Else1) → isRun (S c) ≡ true
 run c = start c .pre
 
-given : (c : tie.Else1) {b : BodyField} → bodyAt (S c) usageLimits ≡ b → limitsAt (S c) ≡ limitsBody (S c) b
+there : (c : tie.Else1) → limitsAt (Mask c) (S c) ≡ ifb (protects (Mask c)) (limitsBody (S c) (bodyAt (S c) usageLimits)) InvalidField
 unfolding limitsAt
-given c e = ifb-true _ _ _ (sym (c .before .starts-with .ensures) ∙ not-false _ (c .if1 .left)) ∙ ap (limitsBody (S c)) e
+there c = ifb-true _ _ _ (sym (c .before .starts-with .ensures) ∙ not-false _ (c .if1 .left))
+
+protects-requires : tie.Need-protects-requires
+protects-requires c κs = search needs
+
+returns-2 : tie.Need-returns-2
+returns-2 c = let asked = c .before in sym (there (asked .before) ∙ ifb-false _ _ _ (sym (asked .protects .ensures) ∙ not-true _ (c .if2 .taken)))
+
+-- ---- the mask protects: what a structure gives
+
+abbrev at-first : tie.Else2 → tie.Else1
+at-first c = c .before .before
+
+given : (c : tie.Else2) {b : BodyField} → bodyAt (S (at-first c)) usageLimits ≡ b → limitsAt (Mask (at-first c)) (S (at-first c)) ≡ limitsBody (S (at-first c)) b
+given c e = there (at-first c) ∙ ifb-true _ _ _ (sym (c .before .protects .ensures) ∙ not-false _ (c .if2 .left)) ∙ ap (limitsBody (S (at-first c))) e
 
 body-field-requires : tie.Need-body-field-requires
 body-field-requires c κs = search needs
@@ -51,14 +71,17 @@ enum-known-next c = search needs
 enum-told : tie.Need-enum-told
 enum-told c = search needs
 
-returns-2 : tie.Need-returns-2
+returns-3 : tie.Need-returns-3
 unfolding limitsBody
-returns-2 c = let at-body = c .before .before in sym (given (at-body .before) (sym (at-body .body-field .ensures) ∙ c .enum-told .given .1))
+returns-3 c = let at-body = c .before .before in sym (given (at-body .before) (sym (at-body .body-field .ensures) ∙ c .enum-told .given .1))
 
 -- ---- it is a structure
 
+abbrev at-second : tie.After-next → tie.Else2
+at-second c = c .before .before .before
+
 abbrev at-else : tie.After-next → tie.Else1
-at-else c = c .before .before .before
+at-else c = at-first (at-second c)
 
 abbrev End : tie.After-next → ℕ
 End c = c .next .given .0 .0
@@ -92,17 +115,17 @@ enum-told-2 c = search needs
 abbrev at-next : tie.After-read-limit → tie.After-next
 at-next c = c .before .before .before
 
-returns-3 : tie.Need-returns-3
-unfolding limitsBody
-returns-3 c =
-    let read = c .before .before in
-    sym (given (at-else (at-next read)) (body (at-next read)) ∙ end-invalid _ _ (sym (read .read-limit .ensures) ∙ c .enum-told2 .given .1))
-
 returns-4 : tie.Need-returns-4
 unfolding limitsBody
 returns-4 c =
+    let read = c .before .before in
+    sym (given (at-second (at-next read)) (body (at-next read)) ∙ end-invalid _ _ (sym (read .read-limit .ensures) ∙ c .enum-told2 .given .1))
+
+returns-5 : tie.Need-returns-5
+unfolding limitsBody
+returns-5 c =
     let read = c .before .before .before in
-    sym (given (at-else (at-next read)) (body (at-next read)) ∙ end-limited _ _ (sym (read .read-limit .ensures) ∙ c .before .unit .given .1))
+    sym (given (at-second (at-next read)) (body (at-next read)) ∙ end-limited _ _ (sym (read .read-limit .ensures) ∙ c .before .unit .given .1))
 
 pub read-limits-spec : {M : Type 1} → statement M
 read-limits-spec =
@@ -110,15 +133,17 @@ read-limits-spec =
     (tie.spec
     starts-with-requires
     returns
+    protects-requires
+    returns-2
     body-field-requires
     enum-known-next
     enum-told
-    returns-2
+    returns-3
     sub-read-limit
     part-read-limit-start
     part-read-limit-end
     read-limit-requires
     enum-known-unit
     enum-told-2
-    returns-3
-    returns-4)
+    returns-4
+    returns-5)
