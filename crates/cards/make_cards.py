@@ -731,12 +731,13 @@ def cards_of_create(s):
     trillion = 1_000_000_000_000
     s.card(
         "Create at its edges",
-        (create(limit(1, 1), bits=128, mask=0), created(ONE)),
+        (create(limit(1, 1), bits=128, mask=4), created(ONE)),
         (create(bits=192, mask=0x00FFFFFF), created(TWO)),
         (create(limit(trillion, 2), bits=256, mask=1), created(THREE)),
+        (create(mask=0), created(FOUR)),
     )
-    s.table("lines after Create at its edges", line_at(0), line(1, 1, 1, 128) + line(2, 1, 0, 192) + line(3, 1, 2, 256))
-    bodies = body(1, 1, 0, fresh(0, 16)) + body(0, 0, 0x00FFFFFF, fresh(1, 24)) + body(trillion, trillion, 1, fresh(2, 32))
+    s.table("lines after Create at its edges", line_at(0), line(1, 1, 1, 128) + line(2, 1, 0, 192) + line(3, 1, 2, 256) + line(4, 1))
+    bodies = body(1, 1, 4, fresh(0, 16)) + body(0, 0, 0x00FFFFFF, fresh(1, 24)) + body(trillion, trillion, 1, fresh(2, 32)) + body(0, 0, 0, fresh(3, 16))
     s.table("bodies after Create at its edges", body_at(0), bodies)
     s.about("Create: Invalid Field.")
     s.blank()
@@ -773,6 +774,7 @@ def cards_of_create(s):
         ("unit before total", [key, wanted(structure(USAGE_LIMITS, unit, total))]),
         ("a count in the limits", [key, wanted(with_count)]),
         ("two limits", [key, wanted(limit(9, 1), limit(9, 1))]),
+        ("a limit of 1 and mask 0", [key, wanted(limit(1, 1), mask=0)]),
     ]:
         s.fails(f"Create with {name}", ask(CREATE, *payload), CREATE, INVALID_FIELD)
     s.table("lead after Creates with invalid fields", 0, lead(0))
@@ -3201,6 +3203,106 @@ def cards_of_the_lowest_number(s):
     s.card("none", (item, named(ACTIVATE, ONE)), option=CONTINUE)
 
 
+# ---- L9: a limit only for a key that can apply protection
+
+SIGN, ENCRYPT, MAC_GENERATE = 0x01, 0x04, 0x80
+ALL_OTHERS = 0x00FFFF7A  # the 24 bits of a mask but these three
+UNPROTECTED = (0x00, 0x02, 0x08, 0x40, 0x100, ALL_OTHERS)
+
+
+def cards_of_masks_without_protection(s):
+    s.about("L9: Create with Usage Limits and a mask with none of Sign (1), Encrypt (4) and MAC Generate (80): Invalid Field, and nothing is stored.")
+    s.blank()
+    for mask in UNPROTECTED:
+        s.fails(f"L9 Create with a limit and mask {mask:08X}", create(limit(100, 2), mask=mask), CREATE, INVALID_FIELD)
+    s.table("L9 lead and first line after limits without protection", 0, lead(0) + bytes(16))
+    s.about("L9: the same masks without a limit.")
+    s.card("L9 Create without a limit", *[(create(mask=mask), created(name_of(serial))) for serial, mask in enumerate(UNPROTECTED, 1)])
+    s.table("L9 bodies without a limit", body_at(0), b"".join(body(0, 0, mask, fresh(item, 16)) for item, mask in enumerate(UNPROTECTED)))
+
+
+def cards_of_masks_with_protection(s):
+    s.about("L9: one of the three is enough, alone, with the others of them, and with all other bits.")
+    s.blank()
+    masks = [SIGN, ENCRYPT, MAC_GENERATE, 0x85, 0x00FFFFFF, ALL_OTHERS + SIGN, ALL_OTHERS + ENCRYPT, ALL_OTHERS + MAC_GENERATE]
+    for serial, mask in enumerate(masks, 1):
+        s.card(f"L9 Create with a limit and mask {mask:08X}", (create(limit(100, 2), mask=mask), created(name_of(serial))))
+    s.table("L9 lines with a limit", line_at(0), b"".join(line(serial, 1, 2) for serial in range(1, 9)) + bytes(16))
+    s.table("L9 bodies with a limit", body_at(0), b"".join(body(100, 100, mask, fresh(0, 16)) for mask in masks))
+    s.about("L9: each of the 24 bits alone, under Continue: the three succeed, and no other.")
+    s.blank()
+    answers = {SIGN: created(ONE), ENCRYPT: created(TWO), MAC_GENERATE: created(THREE)}
+    pairs = [(create(limit(9, 1), mask=1 << bit), answers.get(1 << bit, failed(CREATE, INVALID_FIELD))) for bit in range(24)]
+    s.card("L9 bits 0 to 15 alone", *pairs[:16], option=CONTINUE)
+    s.card("L9 bits 16 to 23 alone", *pairs[16:], option=CONTINUE)
+    s.table("L9 lead and lines after each bit alone", 0, lead(3) + b"".join(line(serial, 1, 1) for serial in (1, 2, 3)) + bytes(16))
+    made = [(SIGN, 0), (ENCRYPT, 2), (MAC_GENERATE, 7)]
+    s.table("L9 bodies after each bit alone", body_at(0), b"".join(body(9, 9, mask, fresh(item, 16)) for mask, item in made))
+
+
+def cards_of_the_order_of_limits(s):
+    s.about("L9: Invalid Field is told with Create's other values: before a name that is taken, and before a table that is full or has no serial left.")
+    full_table(s)
+    s.put(body_at(0) + NAME_IN, name_field("pump"))
+    s.card(
+        "L9 full table, a limit without protection",
+        (create(limit(9, 1), mask=8), failed(CREATE, INVALID_FIELD)),
+        (create(limit(9, 1), called("pump"), mask=8), failed(CREATE, INVALID_FIELD)),
+        (create(limit(9, 1), called("pump"), mask=ENCRYPT), failed(CREATE, NON_UNIQUE_NAME)),
+        (create(called("pump"), mask=8), failed(CREATE, NON_UNIQUE_NAME)),
+        (create(limit(9, 1), mask=ENCRYPT), failed(CREATE, SERVER_LIMIT_EXCEEDED)),
+        (create(mask=8), failed(CREATE, SERVER_LIMIT_EXCEEDED)),
+        option=CONTINUE,
+    )
+    s.table("L9 lead of the full table", 0, lead(64))
+    s.blank()
+    s.put(0, lead(0xFFFFFFFF)[:4])
+    s.fails("L9 last serial FFFFFFFF, a limit without protection", create(limit(9, 1), mask=8), CREATE, INVALID_FIELD)
+    s.about("L9: the name of a Create that failed so is not taken. Under Stop nothing behind it is answered.")
+    s.blank()
+    s.card(
+        "L9 a name with a limit without protection",
+        (create(limit(9, 1), starts(5), ends(9), called("tap"), mask=8), failed(CREATE, INVALID_FIELD)),
+        (locate("tap"), found_none()),
+        (create(limit(9, 1), starts(5), ends(9), called("tap"), mask=MAC_GENERATE), created(ONE)),
+        (locate("tap"), found(ONE)),
+        option=CONTINUE,
+    )
+    s.table("L9 body with a limit, dates and a name", body_at(0), body(9, 9, MAC_GENERATE, fresh(2, 16), 5, 9, "tap"))
+    s.card("L9 a limit without protection, Stop", (create(limit(9, 1), mask=2), failed(CREATE, INVALID_FIELD)), (locate("tap"), None), option=STOP)
+
+
+def cards_of_old_limits(s):
+    s.about("L9: tables that hold such keys stay sound: keys 1 to 3, Active, of 100 with 50 left, with masks 8, 0 and all others. They are shown and granted.")
+    s.blank()
+    s.put(0, lead(3)[:4])
+    masks = [0x08, 0x00, ALL_OTHERS]
+    for place, mask in enumerate(masks):
+        s.key(place, line(place + 1, 2, 2), body(100, 50, mask, material(2)))
+    names = [ONE, TWO, THREE]
+    s.card("L9 old limits shown", *[(attributes(name), shown(name, 2, mask=mask, limit=(100, 50, 2))) for name, mask in zip(names, masks)])
+    s.card("L9 old limits granted", *[(allocate(name, 50), named(ALLOCATE, name)) for name in names])
+    s.fails("L9 old limit, one more", allocate(ONE, 1), ALLOCATE, USAGE_LIMIT_EXCEEDED)
+    s.table("L9 bodies of old limits, granted", body_at(0), b"".join(body(100, 0, mask, material(2)) for mask in masks))
+    s.about("L9: Re-key copies them, with a full count; their replacements are activated, granted and replaced in turn; a Create of the same fails in between.")
+    heirs = [name_of(serial) for serial in (4, 5, 6)]
+    s.card("L9 old limits replaced", *[(rekey(name), named(REKEY, heir)) for name, heir in zip(names, heirs)])
+    s.table("L9 lines of old limits, replaced", line_at(0), b"".join(line(serial, 2, 2, replacement=serial + 3) for serial in (1, 2, 3)))
+    s.table("L9 lines of their replacements", line_at(3), b"".join(line(serial, 1, 2, replaced=serial - 3) for serial in (4, 5, 6)) + bytes(16))
+    s.table("L9 bodies of their replacements", body_at(3), b"".join(body(100, 100, mask, fresh(item, 16)) for item, mask in enumerate(masks)))
+    s.card(
+        "L9 the replacement of an old limit",
+        (activate(FOUR), named(ACTIVATE, FOUR)),
+        (allocate(FOUR, 60), named(ALLOCATE, FOUR)),
+        (attributes(FOUR), shown(FOUR, 2, mask=8, limit=(100, 40, 2), replaced=ONE, activation=1)),
+        (rekey(FIVE), named(REKEY, name_of(7))),
+        (create(limit(100, 2), mask=8), failed(CREATE, INVALID_FIELD)),
+        (attributes(name_of(7)), shown(name_of(7), 1, mask=0, limit=(100, 100, 2), replaced=FIVE)),
+        option=CONTINUE,
+    )
+    s.table("L9 lead after old limits", 0, lead(7))
+
+
 # ---- the script itself
 
 
@@ -3372,6 +3474,10 @@ def all_cards():
         cards_of_wrong_frames,
         cards_of_refusals_7_to_9,
         cards_of_the_lowest_number,
+        cards_of_masks_without_protection,
+        cards_of_masks_with_protection,
+        cards_of_the_order_of_limits,
+        cards_of_old_limits,
         cards_of_bad_lines,
     ]:
         cards(s)
