@@ -1,4 +1,4 @@
--- 01, "Sound" and "Create", and 02, L3: the values that a sound table allows; Create allows the same ("as a sound table allows"). Dates and clocks are their 64 bits.
+-- 01, "Sound" and "Create", and 02, L3 and L9: the values that a sound table allows; Create allows the same ("as a sound table allows"), and a limit only for some masks. Dates and clocks are their 64 bits.
 -- Assumes nothing.
 use Prim.Native.Nat.{ℕ, _^_, _/_, _%_}
 use mathlib.Core.Bool.{Bool, _&&_, _||_}
