@@ -112,7 +112,7 @@ fn read_create(payload: &[Item]) -> Option<Wanted> {
 }
 
 /// Cryptographic Algorithm = 3, Cryptographic Length, Cryptographic Usage Mask, [Usage Limits], [Activation Date],
-/// [Deactivation Date], [Name]; deactivation is not before activation
+/// [Deactivation Date], [Name]; deactivation is not before activation, and limits are for keys that can apply protection
 fn read_wanted(attributes: &[Item]) -> Option<Wanted> {
     let [algorithm, length, mask, rest @ ..] = attributes else {
         return None;
@@ -129,8 +129,17 @@ fn read_wanted(attributes: &[Item]) -> Option<Wanted> {
         (Some(activation), Some(deactivation)) => activation <= deactivation,
         _ => true,
     };
+    let limit_allowed = limit.is_none() || can_protect(mask);
     let wanted = Wanted { length: length as u16, mask: mask as u32, limit, activation, deactivation, name };
-    (allowed && in_order && rest.is_empty()).then_some(wanted)
+    (allowed && limit_allowed && in_order && rest.is_empty()).then_some(wanted)
+}
+
+/// Whether a key with this mask can apply protection: whether Sign, Encrypt or MAC Generate is among its uses.
+fn can_protect(mask: i32) -> bool {
+    const SIGN: i32 = 0x01;
+    const ENCRYPT: i32 = 0x04;
+    const MAC_GENERATE: i32 = 0x80;
+    [SIGN, ENCRYPT, MAC_GENERATE].into_iter().any(|usage| mask & usage == usage)
 }
 
 /// Attributes { Name }

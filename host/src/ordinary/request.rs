@@ -34,6 +34,9 @@ pub enum Order<'a> {
     Attributes(Target<'a>),
 }
 
+/// The uses of a key that a limit can count: Sign, Encrypt and MAC Generate.
+const PROTECTING: u32 = 0x01 | 0x04 | 0x80;
+
 /// The text of the identifier, if one is given.
 pub type Target<'a> = Option<&'a [u8]>;
 
@@ -171,6 +174,7 @@ impl Wanted {
             && algorithm == 3
             && matches!(length, 128 | 192 | 256)
             && mask <= 0x00FF_FFFF
+            && (unit == 0 || mask & PROTECTING != 0)
             && attributes.is_empty();
         allowed.then_some(Wanted { length: length as u16, mask, unit, total, dates, name })
     }
