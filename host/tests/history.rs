@@ -15,6 +15,7 @@ use junctionmoth::model::ttlv::{self, Item};
 use junctionmoth::{LARGE_COUNT, SMALL_COUNT};
 use std::collections::{BTreeMap, BTreeSet};
 use support::holders::Holders;
+use support::limits::is_older;
 use support::names::near;
 use support::rng::Rng;
 use support::{engines, requests, undo, Case, Effect};
@@ -195,10 +196,10 @@ impl Ledger {
         self.again += u64::from(self.taken_back.remove(&serial));
     }
 
-    /// For every record that stands, granted and left make the total, and the dates are those that were set; one that
-    /// was Deactivated is neither Pre-Active nor Active again. The stored clock is the largest that was accepted. An
-    /// Active key has begun and a Deactivated one has ended; a replacement is never behind its dates. Names stand where they
-    /// were given or moved to, and no two are the same.
+    /// For every record that stands, granted and left make the total, which only a key that can apply protection has, and
+    /// the dates are those that were set; one that was Deactivated is neither Pre-Active nor Active again. The stored clock
+    /// is the largest that was accepted. An Active key has begun and a Deactivated one has ended; a replacement is never
+    /// behind its dates. Names stand where they were given or moved to, and no two are the same.
     fn compare(&mut self, table: &Table) {
         assert_eq!(table.latest, self.largest_clock);
         assert!(self.holders == Holders::of(table), "names are not where the ledger has them");
@@ -209,6 +210,7 @@ impl Ledger {
             let issued = self.issued.get(&record.serial).expect("every record was issued");
             assert_eq!(issued.granted + record.count, issued.total, "serial {}", record.serial);
             assert_eq!(record.total, issued.total);
+            assert!(!is_older(record), "serial {} has a limit, and mask {:X}", record.serial, record.mask);
             assert_eq!((record.activation, record.deactivation), (issued.activation, issued.deactivation));
             let (begun, ended) = issued.come_by(table.latest);
             assert!(record.state != 2 || begun, "serial {} is Active too early", record.serial);

@@ -3,6 +3,7 @@
 
 use super::above::Above;
 use super::holders::{self, Holders};
+use super::limits;
 use super::names;
 use super::texts::{self, Fault};
 use super::undo::{self, Watch};
@@ -42,7 +43,7 @@ const CHANGES: [(u8, u8); 9] = [(1, 2), (1, 4), (1, 5), (2, 3), (2, 4), (3, 4), 
 /// The changes of state that dates can bring about before the first item: these must occur, and no others.
 const DUE: [(u8, u8); 3] = [(1, 2), (2, 3), (1, 3)];
 
-/// Things that must occur beside those lists, and beside those about names.
+/// Things that must occur beside those lists, and beside those about names, Undo and limits.
 const EVENTS: [&str; 63] = [
     "answered with fewer items than asked",
     "batch of 16 answered whole",
@@ -194,6 +195,9 @@ impl Coverage {
         }
         self.count_names(&start, &after, &case.request, response);
         self.count_targets(&start, &asked, &results);
+        for event in limits::of_answer(&start, &asked, response) {
+            self.note_if(event, true);
+        }
         if statuses[0] != 3 {
             self.above.count_first(&start, &asked[0], results[0]);
         }
@@ -391,6 +395,9 @@ impl Coverage {
     /// Counts a replacement: its dates are copied or moved, and its state is what they make of a Pre-Active key.
     fn count_replacement(&mut self, old: &Record, new: &Record, offset: Option<u32>, clock: i64) {
         assert_eq!(dates(new), moved_dates(old, offset, clock), "the dates of a replacement");
+        if let Some(event) = limits::of_replacement(old, new, offset) {
+            self.note_if(event, true);
+        }
         let begun = is_due(new.activation, clock);
         let ended = is_due(new.deactivation, clock);
         let [first, second, third] = match offset {
@@ -487,7 +494,7 @@ impl Coverage {
                 self.line(format!("{name}: Invalid Field for its name alone: {fault:?}"), count);
             }
         }
-        for event in EVENTS.into_iter().chain(holders::EVENTS).chain(undo::EVENTS) {
+        for event in EVENTS.into_iter().chain(holders::EVENTS).chain(undo::EVENTS).chain(limits::EVENTS) {
             let count = self.events.remove(event);
             self.line(event.to_string(), count);
         }

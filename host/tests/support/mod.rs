@@ -5,6 +5,7 @@
 pub mod above;
 pub mod coverage;
 pub mod holders;
+pub mod limits;
 pub mod names;
 pub mod requests;
 pub mod rng;

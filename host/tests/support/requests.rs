@@ -1,5 +1,6 @@
 //! Requests: such as the box accepts, aimed at a table, and such as it turns away.
 
+use super::limits;
 use super::names::{any_name, name_around, near, wrong_location, wrong_name, FEW};
 use super::rng::Rng;
 use super::texts::{any_text, no_text};
@@ -100,13 +101,23 @@ fn locating(rng: &mut Rng, table: &Table) -> Vec<Node> {
     }
 }
 
+/// A mask that is allowed, mostly with a use that a limit can count.
+fn any_mask(rng: &mut Rng) -> i32 {
+    match rng.below(12) {
+        0..=3 => 4,
+        4..=8 => rng.pick(&limits::PROTECTING),
+        9..=10 => rng.next() as i32 & 0x00FF_FFFF,
+        _ => rng.pick(&limits::OTHERS),
+    }
+}
+
 fn unnamed(rng: &mut Rng, table: &Table) -> Vec<Node> {
     let any = rng.next() as i32;
     let length = rng.pick(&[128, 192, 256]);
-    let mask = rng.pick(&[0, 4, 0x00FF_FFFF, any & 0x00FF_FFFF]);
+    let mask = any_mask(rng);
     let total = rng.between(1, 1_000_000_000_000) as i64;
     let total = rng.pick(&[1, 100, 1_000_000_000_000, total]);
-    let limit = rng.pick(&[None, Some((total, 1)), Some((total, 2))]);
+    let limit = if rng.one_in(4) { None } else { Some((total, rng.pick(&[1, 2]))) };
     match rng.below(30) {
         0 => create(rng.pick(&[0, -128, 127, 129, 64, 320, 0x1_0080, any]), mask, limit),
         1 => create(length, rng.pick(&[0x0100_0000, -1, i32::MIN, i32::MAX]), limit),
@@ -328,7 +339,8 @@ pub fn renewals(rng: &mut Rng, table: &Table) -> Node {
         items.push(item(0x01, None, creation(rng, table)));
         items.push(item(0x04, None, rekeying(rng, table, None)));
         let used = rng.pick(&[0x04, 0x0A, 0x0B, 0x11, 0x12, 0x14]);
-        items.push(item(used, None, payload(rng, table, used)));
+        let use_of_it = if used == 0x04 { rekeying(rng, table, None) } else { payload(rng, table, used) };
+        items.push(item(used, None, use_of_it));
     }
     request(rng.pick(&[Some(1), Some(2), Some(3)]), items)
 }

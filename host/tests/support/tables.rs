@@ -1,5 +1,6 @@
 //! Tables of both place counts: sound ones of many kinds, and such that break one rule of soundness.
 
+use super::limits;
 use super::names::name_around;
 use super::requests::date_around;
 use super::rng::Rng;
@@ -118,8 +119,9 @@ fn record(rng: &mut Rng, serial: u32, mix: Mix) -> Record {
         Mix::Destroyed => rng.pick(&[5, 6, 5, 6, 1]),
     };
     let length = rng.pick(&[128, 192, 256]);
-    let mask = rng.next() as u32 & 0x00FF_FFFF;
-    let mask = rng.pick(&[0, 4, 0x00FF_FFFF, mask]);
+    let any = rng.next() as u32 & 0x00FF_FFFF;
+    let (protecting, other) = (rng.pick(&limits::PROTECTING) as u32, rng.pick(&limits::OTHERS) as u32);
+    let mask = rng.pick(&[4, protecting, 0x00FF_FFFF, any, 0, other]);
     let unit = rng.below(3) as u8;
     let (total, count) = if unit == 0 { (0, 0) } else { limit(rng) };
     let mut material = [0; 32];
