@@ -76,7 +76,7 @@ fn created(mask: i32, limit: Option<(i64, u32)>) -> Option<u32> {
     reason
 }
 
-/// An Active key with a limit of 100 of which 60 are left, as tables hold it whose Create asked for no use.
+/// An Active key with a limit of 100 of which 60 are left, and with any mask, as an older table may hold it.
 fn older(serial: u32, mask: i32) -> Record {
     let material = [7; 32];
     let (unit, length, total, count) = (2, 256, 100, 60);

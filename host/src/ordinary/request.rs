@@ -34,7 +34,7 @@ pub enum Order<'a> {
     Attributes(Target<'a>),
 }
 
-/// The uses of a key that a limit can count: Sign, Encrypt and MAC Generate.
+/// The uses that apply protection: Sign, Encrypt and MAC Generate. A limit needs one of them in the mask.
 const PROTECTING: u32 = 0x01 | 0x04 | 0x80;
 
 /// The text of the identifier, if one is given.
