@@ -195,7 +195,7 @@ impl Coverage {
         }
         self.count_names(&start, &after, &case.request, response);
         self.count_targets(&start, &asked, &results);
-        for event in limits::of_answer(&start, &asked, response) {
+        for event in limits::of_answer(&start, &after, &asked, response) {
             self.note_if(event, true);
         }
         if statuses[0] != 3 {
@@ -395,9 +395,8 @@ impl Coverage {
     /// Counts a replacement: its dates are copied or moved, and its state is what they make of a Pre-Active key.
     fn count_replacement(&mut self, old: &Record, new: &Record, offset: Option<u32>, clock: i64) {
         assert_eq!(dates(new), moved_dates(old, offset, clock), "the dates of a replacement");
-        if let Some(event) = limits::of_replacement(old, new, offset) {
-            self.note_if(event, true);
-        }
+        limits::compare_limits(old, new);
+        assert_eq!(new.count, new.total, "nothing of a replacement is granted");
         let begun = is_due(new.activation, clock);
         let ended = is_due(new.deactivation, clock);
         let [first, second, third] = match offset {

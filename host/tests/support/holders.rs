@@ -2,6 +2,7 @@
 //! have the same name, Locate answers the one that has it, Get Attributes shows it, and Re-key moves it.
 //! Each call's events are those that the coverage asks for.
 
+use super::limits;
 use super::names::{fault, Fault};
 use super::undo;
 use junctionmoth::model::frame::{self, BatchItem};
@@ -200,6 +201,9 @@ impl Holders {
             "Create with a name that is taken, something else invalid: Invalid Field",
             taken && item.operation == CREATE,
         );
+        let mask = item.operation == CREATE && limits::fails_for_its_mask(&item.payload);
+        batch.see(limits::TAKEN, mask && taken);
+        batch.see(limits::NO_PLACE, mask && self.place_for_new().is_none());
     }
 
     fn create(&mut self, batch: &mut Batch, wanted: &Wanted, answer: Answer) {

@@ -15,6 +15,11 @@ pub const PROTECTING: [i32; 7] = [0x01, 0x04, 0x80, 0x85, 0x00FF_FFFF, 0x0C, 0x0
 /// Masks without one: none, those beside the three, and all but the three.
 pub const OTHERS: [i32; 6] = [0, 0x02, 0x08, 0x40, 0x0100, 0x00FF_FF7A];
 
+/// What comes before which: told by who follows the names and the places, see `fails_for_its_mask`.
+pub const TAKEN: &str = "Create with a limit and no protecting use, a name that is taken: Invalid Field";
+pub const NO_PLACE: &str = "Create with a limit and no protecting use, no place left: Invalid Field";
+const LAST_SERIAL: &str = "Create with a limit and no protecting use, last serial FFFFFFFF: Invalid Field";
+
 /// Things that must occur.
 pub const EVENTS: [&str; 20] = [
     "Create with a limit and Sign alone",
@@ -28,12 +33,12 @@ pub const EVENTS: [&str; 20] = [
     "Create with a limit and 40 hex alone: Invalid Field",
     "Create with a limit and MAC Verify alone: Invalid Field",
     "Create with a limit and every use but the three: Invalid Field",
-    "Create with a limit and no protecting use, nothing left to issue: Invalid Field",
-    "Create with a limit and no protecting use, a name that is taken: Invalid Field",
+    TAKEN,
+    NO_PLACE,
+    LAST_SERIAL,
     "Create without a limit, no use",
     "Create without a limit, every use but the three",
     "Re-key of a key with a limit and no protecting use",
-    "Re-key with Offset, of a key with a limit and no protecting use",
     "grant from a key with a limit and no protecting use",
     "no grant from a key with a limit and no protecting use: Usage Limit Exceeded",
     "Get Attributes of a key with a limit and no protecting use",
@@ -50,12 +55,12 @@ pub fn is_older(record: &Record) -> bool {
     record.unit != 0 && !protects(record.mask)
 }
 
-/// What the items of an answered call show; the table is the one that the first of them met.
-pub fn of_answer(start: &Table, asked: &[BatchItem], response: &[u8]) -> Vec<&'static str> {
+/// What the items of an answered call show, between the table that the first of them met and the one that was left.
+pub fn of_answer(start: &Table, after: &Table, asked: &[BatchItem], response: &[u8]) -> Vec<&'static str> {
     let message = ttlv::read(response).expect("a response is one well-formed item");
     let answers = &message.structure(RESPONSE_MESSAGE).expect("a Response Message")[1..];
     let mut events = Vec::new();
-    for (index, (item, answer)) in asked.iter().zip(answers).enumerate() {
+    for (item, answer) in asked.iter().zip(answers) {
         let fields = answer.structure(BATCH_ITEM).expect("a Batch Item");
         let reason = fields.iter().find_map(|field| field.enumeration(RESULT_REASON));
         let payload = fields.last().and_then(|last| last.structure(RESPONSE_PAYLOAD));
@@ -64,11 +69,10 @@ pub fn of_answer(start: &Table, asked: &[BatchItem], response: &[u8]) -> Vec<&'s
             if reason.is_some() || payload.is_some() {
                 events.extend(of_create(mask, limited, reason));
             }
-            if index == 0 && limited && !protects(mask) {
-                events.extend(before_what(start, &item.payload));
-            }
+            let last = limited && !protects(mask) && start.last == u32::MAX;
+            events.extend(last.then_some(LAST_SERIAL));
         }
-        events.extend(of_target(start, item, reason, payload));
+        events.extend(of_target(start, after, item, reason, payload));
     }
     events
 }
@@ -106,25 +110,29 @@ fn of_create(mask: u32, limited: bool, reason: Option<u32>) -> Option<&'static s
     (reason == invalid.then_some(InvalidField as u32)).then_some(event)
 }
 
-/// Which reasons a Create that is first in its batch would have had, were its mask another.
-fn before_what(start: &Table, fields: &[Item]) -> Vec<&'static str> {
-    let attributes = fields.last().and_then(|last| last.structure(ATTRIBUTES)).unwrap_or_default();
-    let name = attributes.iter().find_map(|attribute| attribute.structure(NAME)?.first()?.text(NAME_VALUE));
-    let taken = name.is_some_and(|name| start.find_name(name.as_bytes()).is_some());
-    let live = |record: &Record| !record.is_free() && record.state < 5;
-    let full = start.last == u32::MAX || start.places.iter().all(live);
-    let full = full.then_some("Create with a limit and no protecting use, nothing left to issue: Invalid Field");
-    let taken = taken.then_some("Create with a limit and no protecting use, a name that is taken: Invalid Field");
-    full.into_iter().chain(taken).collect()
+/// Whether the payload of a Create is invalid for nothing but its mask, beside its limit.
+pub fn fails_for_its_mask(fields: &[Item]) -> bool {
+    right_but_for_mask(fields).is_some_and(|(mask, limited)| limited && !protects(mask))
 }
 
 /// An item that names a key of an older table, and is not undone. Limit and mask of a key never change, so it does not
 /// matter what stood before it in the batch.
-fn of_target(start: &Table, item: &BatchItem, reason: Option<u32>, shown: Option<&[Item]>) -> Option<&'static str> {
+fn of_target(
+    start: &Table,
+    after: &Table,
+    item: &BatchItem,
+    reason: Option<u32>,
+    shown: Option<&[Item]>,
+) -> Option<&'static str> {
     let order = payload::read(item.operation, &item.payload);
     let Ok(Order::Target(Target::Identifier(text), action)) = order else { return None };
     let key = start.standing().find(|record| identifier(record.serial) == text).filter(|key| is_older(key))?;
     match (action, reason) {
+        (Action::Rekey(_), None) => {
+            let new = shown?.iter().find_map(|field| field.text(UNIQUE_IDENTIFIER)).expect("an identifier");
+            compare_limits(key, after.standing().find(|record| identifier(record.serial) == new)?);
+            Some("Re-key of a key with a limit and no protecting use")
+        }
         (Action::GetAttributes, None) => {
             assert!(shows_limit(shown?, key), "the limit and the mask of {text} are not shown");
             Some("Get Attributes of a key with a limit and no protecting use")
@@ -148,14 +156,8 @@ fn shows_limit(shown: &[Item], key: &Record) -> bool {
     mask == Some(key.mask as i32) && total == Some(key.total as i64)
 }
 
-/// A Re-key that is alone in its batch: the replacement has the limit of its key, with nothing granted, and the mask,
-/// whatever it is.
-pub fn of_replacement(old: &Record, new: &Record, offset: Option<u32>) -> Option<&'static str> {
-    let copied = (old.unit, old.total, old.total, old.mask, old.length);
-    assert_eq!((new.unit, new.total, new.count, new.mask, new.length), copied, "limit and mask of a replacement");
-    let event = match offset {
-        None => "Re-key of a key with a limit and no protecting use",
-        Some(_) => "Re-key with Offset, of a key with a limit and no protecting use",
-    };
-    is_older(old).then_some(event)
+/// That a replacement has the limit of its key, and the mask, whatever it is.
+pub fn compare_limits(old: &Record, new: &Record) {
+    let copied = (old.unit, old.total, old.mask, old.length);
+    assert_eq!((new.unit, new.total, new.mask, new.length), copied, "limit and mask of a replacement");
 }
