@@ -1,9 +1,10 @@
 # make run: the README's sample request through the bench program, request and response shown as trees of items.
 # make test: the gate.
+# make quick: what changed since the last commit (SINCE=COMMIT: since that one), in minutes: see tools/quick.
 SHELL := /bin/bash
 .SHELLFLAGS := -eu -o pipefail -c
 
-.PHONY: run test
+.PHONY: run test quick
 
 run:
 	rt check bench tree
@@ -15,3 +16,6 @@ run:
 
 test:
 	.ci/run
+
+quick:
+	tools/quick $(SINCE)

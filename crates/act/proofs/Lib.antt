@@ -4,5 +4,4 @@ pub mod Went
 pub mod Plans
 pub mod Reasons
 pub mod Returns
-pub mod Kept
 pub mod Unique

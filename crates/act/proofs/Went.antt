@@ -25,7 +25,8 @@ use Rattle.rules.specs.Numbers.{activate, revoke, destroy}
 use Rattle.rules.specs.Tests.{due}
 use Rattle.rules.specs.States.{activateTests, revokeTests, destroyTests, moveTests, movedState, nextUnless, nextState, grantTests, leftUnless, granting}
 use Rattle.date_rules.specs.Dates.{isLate}
-use Rattle.changes.specs.Records.{offsetWrong, movedTo, withCount}
+use Rattle.changes.specs.Records.{movedTo, withCount}
+use Rattle.heirs.specs.Heirs.{offsetWrong}
 use Rattle.changes.specs.Changes.{isFull}
 use Rattle.batch_item.specs.Item.{Asked}
 use Rattle.target_read.specs.declared.Target.{Target}

@@ -21,7 +21,8 @@ use Rattle.plans.specs.Plans.{Did, emptyHolder, envAt}
 use Rattle.act.proofs.Plans.{step-performs}
 use Rattle.answer.specs.Respond.{Answer}
 use Rattle.batch.specs.declared.ItemDone.{ItemDone}
-use Rattle.batch.specs.Batch.{Ran, answerTo, lastly, firstly, endsBatch, batch, firstItem, stripSize}
+use Rattle.batch.specs.Batch.{Ran, answerTo, lastly, firstly, endsBatch, batch, firstItem}
+use Rattle.calls.specs.Effects.{stripSize}
 use Rattle.batch.specs.Runs.{askedIn, askedFrom, doing, RunsOne, ItemIs, RanIs, ranOver, Runs}
 use Rattle.batch.proofs.Left.{Left, Next, all-left, no-more, next-index, rest-left}
 use Rattle.batch.proofs.Written.{Written, none-written, all-written, room-next, more-written}

@@ -1,21 +1,16 @@
 -- 01, "Message frame": a batch carried out item by item: to its end under Continue, else up to the first item that fails.
 -- Assumes nothing. There is no byte of output in it.
-use Prim.Native.Nat.{ℕ, _+_, _*_}
+use Prim.Native.Nat.{ℕ, _+_}
 use mathlib.Core.Bool.{Bool, not, _&&_}
 use mathlib.Core.List.{List, [], _∷_}
 use lib.Dec.{eqb}
 use Rattle.octets.specs.If.{ifb}
-use Rattle.table.specs.Layout.{materialSize}
 use Rattle.batch_item.specs.Item.{Asked}
-use Rattle.frame.specs.Frame.{Request, batchMost, continue}
+use Rattle.frame.specs.Frame.{Request, continue}
 use Rattle.plans.specs.declared.Outcome.{Outcome}
 use Rattle.plans.specs.Plans.{Did, emptyHolder, envAt, isFailed}
 use Rattle.act.specs.Act.{step}
 use Rattle.answer.specs.Respond.{Answer}
-
--- "fresh strip not 512 bytes": 32 bytes for each of 16 items
-abbrev pub stripSize : ℕ
-stripSize = materialSize * batchMost
 
 -- the answers in order, and the table behind them
 pub record Ran : Type 0 where

@@ -23,7 +23,8 @@ use Rattle.answer.specs.Front.{longestItem}
 use Rattle.batch.specs.declared.Carried.{Carried}
 use Rattle.batch.specs.declared.ItemDone.{ItemDone}
 use Rattle.batch.specs.declared.BatchDone.{BatchDone}
-use Rattle.batch.specs.Batch.{Ran, answerTo, firstItem, batch, stripSize}
+use Rattle.batch.specs.Batch.{Ran, answerTo, firstItem, batch}
+use Rattle.calls.specs.Effects.{stripSize}
 
 -- ---- one item
 

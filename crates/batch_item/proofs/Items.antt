@@ -140,6 +140,3 @@ module _ (u : List ℕ) (run : isRun u ≡ true) where
           (λ y. eqb-true (length u) 0 y)
           (λ n. absurd (not-some (sym (items-other u run (eqb-false (length u) 0 n) e) ∙ h)))
       go (Body next) e = absurd (none-read (itemIn (treeOf (part u 8 (next - 8)))) (itemsIn (treeOf (drop next u))) (sym (items-group u run e) ∙ h))
-
-  pub nothing-left : u ≡ [] → itemsIn (treeOf u) ≡ some []
-  nothing-left e = items-end u run (ap length e)

@@ -19,7 +19,8 @@ use Rattle.plans.specs.Plans.{isFailed}
 use Rattle.answer.specs.Respond.{Answer}
 use Rattle.answer.specs.Read.{serialOk, linkOk, shownOk, keyOk, answersDone, isSupported, outcomeOk, answerOk}
 use Rattle.batch.specs.Batch.{Ran}
-use Rattle.settle.specs.Undo.{isUndone, orUndone, undoneTo, settled}
+use Rattle.settle.specs.Undo.{isUndone, settled}
+use Rattle.undone_answers.specs.Undone.{orUndone, undoneTo}
 use Rattle.octets.proofs.If.{on-if}
 use Rattle.octets.specs.Octets.{Bytes}
 use Rattle.batch_keeps.proofs.Batches.{Leaves}

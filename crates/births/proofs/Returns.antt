@@ -17,11 +17,12 @@ use Rattle.name_search.specs.Names.{isTaken}
 use Rattle.rules.specs.declared.Reason.the-variants.{InvalidField, ObjectDestroyed, PermissionDenied, ServerLimitExceeded, NonUniqueName}
 use Rattle.rules.specs.declared.Attributes.{Attributes}
 use Rattle.rules.specs.declared.Offset.{Offset}
-use Rattle.changes.specs.declared.HeirDates.{HeirDates}
-use Rattle.changes.specs.declared.HeirDates.the-variants.{Dated, OffsetWrong}
-use Rattle.changes.specs.Records.{newRecord, heirActivation, heirDeactivation, offsetWrong, heirDates, heirDated, heirOf, linkedTo}
+use Rattle.heirs.specs.declared.HeirDates.{HeirDates}
+use Rattle.heirs.specs.declared.HeirDates.the-variants.{Dated, OffsetWrong}
+use Rattle.heirs.specs.Heirs.{heirActivation, heirDeactivation, offsetWrong, heirDates, heirDated, heirOf, linkedTo}
+use Rattle.new_records.specs.New.{newRecord}
 use Rattle.changes.specs.Changes.{serialMost, nextSerial, bornAt, withBorn, withHeir}
-use Rattle.changes.proofs.Heirs.{wrong-offset, right-offset}
+use Rattle.heirs.proofs.Heirs.{wrong-offset, right-offset}
 use Rattle.plans.specs.declared.Outcome.the-variants.{Created, Done}
 use Rattle.plans.specs.declared.Performed.{Performed}
 use Rattle.plans.specs.Plans.{Did, emptyHolder, carriedOut, createPlan, rekeyPlan, inPlaces, leaves, failed}

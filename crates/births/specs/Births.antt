@@ -12,7 +12,8 @@ use Rattle.table.specs.Records.{placeAt, withPlace, lastSerial, latestClock}
 use Rattle.search.specs.Search.{newPlace}
 use Rattle.rules.specs.declared.Reason.the-variants.{ServerLimitExceeded}
 use Rattle.rules.specs.declared.Attributes.{Attributes}
-use Rattle.changes.specs.Records.{newRecord, heirDated, linkedTo}
+use Rattle.heirs.specs.Heirs.{heirDated, linkedTo}
+use Rattle.new_records.specs.New.{newRecord}
 use Rattle.changes.specs.Changes.{serialMost, nextSerial, bornAt}
 use Rattle.plans.specs.declared.Outcome.the-variants.{Created, Done}
 use Rattle.plans.specs.Plans.{Did, failing}

@@ -7,7 +7,7 @@ ghost use Rattle.search.specs.declared.Found.the-variants.{At};
 ghost use Rattle.changes.specs.Changes.{bornAt};
 ghost use Rattle.plans.specs.Plans.{emptyHolder, createPlan, rekeyPlan, carriedOut, inPlaces, leaves};
 ghost use Rattle.births.specs.Births.{TwoPlaces, placeForNew, linkedAt, creating, replacing};
-use changes::HeirDates;
+use heirs::HeirDates;
 use plans::Outcome;
 use plans::Performed;
 use rules::Attributes;
@@ -45,7 +45,7 @@ fn put_heir(t: &mut [u8], n: usize, i: usize, place: usize, heir: Record)
     ensures { λ _. ⌜ now (t .exit) ≡ bornAt n (linkedAt n (now (t .entry)) i heir) heir (At place) ⌝ }
 {
     let old = records::load(t, n, i);
-    let linked = changes::linked_to(heir.serial, old);
+    let linked = heirs::linked_to(heir.serial, old);
     records_write::store(t, n, i, linked);
     put_born(t, n, place, heir);
 }
@@ -58,7 +58,7 @@ fn create_new(t: &mut [u8], n: usize, wanted: Attributes, fresh: &[u8]) -> Perfo
     match place_for_new(t, n) {
         Found::At(i) => {
             let serial = table::last_serial(t) + 1;
-            let born = changes::new_record(serial, wanted, fresh);
+            let born = new_records::new_record(serial, wanted, fresh);
             put_born(t, n, i, born);
             Performed {
                 outcome: Outcome::Created { serial },
@@ -99,7 +99,7 @@ fn replace_at(
         Found::At(place) => {
             let serial = table::last_serial(t) + 1;
             let clock = table::latest_clock(t);
-            let heir = changes::heir_of(serial, clock, activation, deactivation, old, fresh);
+            let heir = heirs::heir_of(serial, clock, activation, deactivation, old, fresh);
             put_heir(t, n, i, place, heir);
             Performed {
                 outcome: Outcome::Done { serial },
@@ -122,7 +122,7 @@ pub fn rekey_at(t: &mut [u8], n: usize, i: usize, offset: Offset, fresh: &[u8]) 
     if old.replacement != 0 {
         return plans::fail(Reason::PermissionDenied);
     }
-    match changes::heir_dates(table::latest_clock(t), offset, old) {
+    match heirs::heir_dates(table::latest_clock(t), offset, old) {
         HeirDates::Dated {
             activation,
             deactivation,

@@ -7,10 +7,10 @@ ghost use Rattle.cardslib.specs.Usual.{usualSetting};
 use commands::Buffer;
 use commands::Done;
 use commands::Setting;
-use commands::Verb;
 use hex_text::Bytes;
 use script::Number;
 use script::Span;
+use script_verbs::Verb;
 use table::Layout;
 
 // The most bytes of a request in a script, of the strip, of the output and of the second buffer.
@@ -189,7 +189,7 @@ fn carry_out(
     s: Setting,
 ) -> Done {
     let gap = lines::find(line, b' ');
-    let verb = commands::verb_of(&line[..gap]);
+    let verb = script_verbs::verb_of(&line[..gap]);
     let from = lines::past(line, gap);
     let rest = &line[from..];
     match verb {

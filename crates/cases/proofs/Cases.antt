@@ -23,7 +23,9 @@ use Rattle.search.specs.Search.{firstFrom, isNothing, orElse, find, freePlace, 
 use Rattle.record_rules.specs.Rules.{stateRight, bitsRight, maskRight, limitRight, tailRight, wipedRight, replacedRight, replacementRight, datesRight, orderRight, startedRight, nameRight, nameTextRight}
 use Rattle.soundness.specs.Sound.{sizeRight, countRight, latestRight, freeRight, zerosRight, distinctRight, issuedRight, ifStands, linksRight, breaksFree, breaksStanding, orLater, faultFrom, firstFault, sound}
 use Rattle.changes.specs.Changes.{isFull, bornAt, withBorn, withHeir}
-use Rattle.changes.specs.Records.{materialFrom, newRecord, heirActivation, heirDeactivation, offsetWrong, heirDated, heirOf, linkedTo, inState, withDates, movedTo, withCount}
+use Rattle.changes.specs.Records.{inState, withDates, movedTo, withCount}
+use Rattle.heirs.specs.Heirs.{heirActivation, heirDeactivation, offsetWrong, heirDated, heirOf, linkedTo}
+use Rattle.new_records.specs.New.{materialFrom, newRecord}
 use Rattle.changes.specs.Dates.{ripened, isRipe, ripeAt, ripeFrom, countedClock, began}
 use Rattle.date_rules.specs.Dates.{startedState, stoppedState, datedState}
 use Rattle.rules.specs.States.{canRevoke, canDestroy, activateTests, revokeTests, destroyTests, moveTests, revokedState, destroyedState, movedState, nextUnless, nextState, grantTests, leftUnless, granting}
@@ -40,8 +42,10 @@ use Rattle.plans.specs.Plans.{carried, shownOf, createPlan, rekeyPlan, allocati
 use Rattle.answer.specs.Read.{spelled, setDate, fixed, serialIn, limitsFirst, orNoLimits, linkFirst, orNoLink, linkIn, shownIn, createdIn, doneIn, showedIn, payloadIn, reasonAmong, failureIn, successIn, undoneIn, statusIn, outcomeIn, answerIn, answersOf, headIn, shownOk, outcomeOk, answerOk, allowed, ifAllowed, answersIn, keyRead, keyBlockIn, keyIn, gotIn, keyOk, nameShown, locatedIn, nameShownOk}
 use Rattle.answer.specs.Respond.{dateItems, limitItems, linkItems, attributeItems, outcomeItems, idItems, answerItems, batchItems, versionItems, headerItems, respond, materialOf, keyItems, nameItems, locatedItems}
 use Rattle.batch.specs.Batch.{endsBatch, batch, running}
-use Rattle.settle.specs.Undo.{anyFailed, orUndone, settled, keptIn}
-use Rattle.engine.specs.Serving.{answered, earlyRefusal, lateRefusal, carryOut, serving}
+use Rattle.settle.specs.Undo.{anyFailed, settled, keptIn}
+use Rattle.undone_answers.specs.Undone.{orUndone}
+use Rattle.engine.specs.Serving.{answered, carryOut, serving}
+use Rattle.refusals.specs.Refusals.{earlyRefusal, lateRefusal}
 use Rattle.cases.specs.Cards.{sameItems, isRead, integerRead, integerMalformed, booleanMalformed, textOfEight, textOfNine, nested, callWith, tableFrom, answers, refuses, stateLeft, countLeft, depthEight, depthNine, depthRead, depthRefused, grantRequest, grantResponse, grantsCounted, overRequest, overResponse, grantTooLarge, lifeRequest, lifeResponse, compromiseRequest, compromiseResponse, destroyedInTurn, rekeyRequest, rekeyResponse, rekeyedTwice, stopRequest, stopResponse, stopsThere, continueRequest, continueResponse, goesOn, lastRequest, lastResponse, lastSerialIssued, pCases, allHold}
 
 -- the definitions that the cases compute with: who opens this opens them all

@@ -10,7 +10,7 @@ use Rattle.octets.specs.Maybe.{isSome}
 use Rattle.octets.specs.Octets.{fromBe, part, same, countedFrom}
 use Rattle.ttlv.specs.Items.{Items, nil, value, group, encode}
 use Rattle.ttlv.specs.Parse.{message}
-use Rattle.engine.specs.Effects.{Effect}
+use Rattle.calls.specs.Effects.{Effect}
 use Rattle.engine.specs.Serving.{serving}
 use Rattle.hex.specs.Texts.{hex}
 

@@ -1,6 +1,5 @@
--- The laws of material and of the dates of a replacement, what the sweep leaves, and the uniqueness of the answers.
+-- What a move and the sweep leave, and the uniqueness of the answers.
 -- Assumes nothing.
-pub mod Material
-pub mod Unique
-pub mod Heirs
+pub mod Moves
 pub mod Sweep
+pub mod Unique

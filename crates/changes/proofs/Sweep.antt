@@ -2,26 +2,24 @@
 -- Assumes nothing.
 use Prim.Native.Nat.{ℕ, zero, suc, _+_, _-_, _^_, _≤_, _<_}
 use native.Mathlib.Omega.{arith}
-use native.Mathlib.Decide.{ℕ-discrete}
 use mathlib.Core.Path.{_≡_, refl, sym, ap, subst, _∙_}
 use mathlib.Core.Logic.{_⊎_, inl, inr, ⊎-elim}
 use mathlib.Core.Bool.{Bool, true, false, not, _&&_}
 use mathlib.Core.List.{List}
 use lib.ListN.{length}
 use lib.Dec.{eqb}
-use borrow.Author.Tests.{eqb-true, not-false, ne-eqb}
+use borrow.Author.Tests.{eqb-true, not-false}
 use Rattle.octets.specs.If.{ifb}
-use Rattle.octets.proofs.If.{on-if, on-bool, ifb-true, ifb-false}
-use Rattle.octets.proofs.Bools.{and-i}
+use Rattle.octets.proofs.If.{on-if, on-bool}
 use Rattle.table.specs.declared.Record.{Record}
 use Rattle.table.specs.Layout.{sizeOf}
-use Rattle.table.specs.Records.{placeAt, withPlace, isFree, serialAt, lastSerial, latestClock, withClock}
+use Rattle.table.specs.Records.{placeAt, isFree, lastSerial, latestClock, withClock}
 use Rattle.table.proofs.Lines.{InRange}
 use Rattle.table.proofs.Places.{length-with, place-same, place-other}
 use Rattle.table.proofs.Lead.{last-with, latest-with, length-clock}
 use Rattle.rules.specs.Numbers.{active, deactivated}
 use Rattle.date_rules.specs.Dates.{startedState, stoppedState, datedState}
-use Rattle.date_rules.proofs.Dating.{Dating, still, starts, stops, passes, dating}
+use Rattle.date_rules.proofs.Dating.{still, starts, stops, passes, dating}
 use Rattle.changes.specs.Records.{inState}
 use Rattle.changes.specs.Dates.{stateBy, ripened, isRipe, ripeAt, ripeFrom, began}
 

@@ -2,24 +2,8 @@
 -- Assumes nothing.
 use mathlib.Core.Path.{sym, _∙_}
 use Rattle.outcomes.specs.Outcomes.{OneAnswer}
-use Rattle.changes.proofs.new_record.Reads as new-record-reads
-use Rattle.changes.proofs.heir_dates.Reads as heir-dates-reads
-use Rattle.changes.proofs.heir_of.Reads as heir-of-reads
-use Rattle.changes.proofs.linked_to.Reads as linked-to-reads
 use Rattle.changes.proofs.moved_to.Reads as moved-to-reads
 use Rattle.changes.proofs.with_count.Reads as with-count-reads
-
-pub new-record-unique : OneAnswer new-record-reads.Post
-new-record-unique κs a r r′ s s′ p q = p ∙ sym q
-
-pub heir-dates-unique : OneAnswer heir-dates-reads.Post
-heir-dates-unique κs a r r′ s s′ p q = p ∙ sym q
-
-pub heir-of-unique : OneAnswer heir-of-reads.Post
-heir-of-unique κs a r r′ s s′ p q = p ∙ sym q
-
-pub linked-to-unique : OneAnswer linked-to-reads.Post
-linked-to-unique κs a r r′ s s′ p q = p ∙ sym q
 
 pub moved-to-unique : OneAnswer moved-to-reads.Post
 moved-to-unique κs a r r′ s s′ p q = p ∙ sym q

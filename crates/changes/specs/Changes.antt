@@ -9,7 +9,7 @@ use Rattle.search.specs.declared.Found.{Found}
 use Rattle.search.specs.declared.Found.the-variants.{At, Nothing}
 use Rattle.table.specs.Records.{placeAt, withPlace, lastSerial, withLast}
 use Rattle.search.specs.Search.{isNothing, newPlace}
-use Rattle.changes.specs.Records.{linkedTo}
+use Rattle.heirs.specs.Heirs.{linkedTo}
 
 -- "the last serial is 4,294,967,295"
 abbrev pub serialMost : ℕ

@@ -3,16 +3,12 @@
 use mathlib.Core.Path.{sym, _∙_}
 use Rattle.outcomes.specs.Outcomes.{OneAnswer}
 use Rattle.commands.proofs.script_room.Reads as script-room
-use Rattle.commands.proofs.verb_of.Reads as verb-of
 use Rattle.commands.proofs.places_in.Reads as places-in
 use Rattle.commands.proofs.set_clock.Reads as set-clock
 use Rattle.commands.proofs.lend.Reads as lend
 
 pub script-room-unique : OneAnswer script-room.Post
 script-room-unique κs a r r′ s s′ p q = p ∙ sym q
-
-pub verb-of-unique : OneAnswer verb-of.Post
-verb-of-unique κs a r r′ s s′ p q = p ∙ sym q
 
 pub places-in-unique : OneAnswer places-in.Post
 places-in-unique κs a r r′ s s′ p q = p ∙ sym q

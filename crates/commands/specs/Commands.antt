@@ -1,50 +1,19 @@
--- The commands of a script by their names, and how a request is served from there on.
+-- How a request of a script is served from a line on.
 -- Assumes nothing.
 use Prim.Native.Nat.{ℕ}
 use mathlib.Core.Bool.{true, false}
 use mathlib.Core.List.{List, [], _∷_}
 use Rattle.octets.specs.If.{ifb}
-use Rattle.octets.specs.Octets.{same}
-use Rattle.hex.specs.Texts.{codes}
 use Rattle.table.specs.Layout.{smallCount, placesOk}
 use Rattle.script.specs.Numbers.{numberIn}
 use Rattle.script.specs.declared.Number.{Number}
 use Rattle.script.specs.declared.Number.the-variants.{Is, NoNumber}
 use Rattle.script.specs.declared.Clock.{Clock}
 use Rattle.script.specs.declared.Clock.the-variants.{At, NoClock}
-use Rattle.commands.specs.declared.Verb.{Verb}
-use Rattle.commands.specs.declared.Verb.the-variants.{Blank, Put, Clock as ClockVerb, Room, Strip, Size, Request, Table, Output, Undo, Second, Unknown}
 use Rattle.commands.specs.declared.Buffer.{Buffer}
 use Rattle.commands.specs.declared.Buffer.the-variants.{Table as TableBuffer, Strip as StripBuffer, Output as OutputBuffer, Second as SecondBuffer}
 use Rattle.commands.specs.declared.Setting.{Setting}
 use Rattle.commands.specs.declared.Done.{Done}
-
--- a command and its name
-pub record Named : Type 0 where
-  pub name : List ℕ
-  pub verb : Verb
-
-abbrev pub verbs : List Named
-verbs = record { name = codes "blank"; verb = Blank }
-    ∷ record { name = codes "put"; verb = Put }
-    ∷ record { name = codes "clock"; verb = ClockVerb }
-    ∷ record { name = codes "room"; verb = Room }
-    ∷ record { name = codes "strip"; verb = Strip }
-    ∷ record { name = codes "size"; verb = Size }
-    ∷ record { name = codes "request"; verb = Request }
-    ∷ record { name = codes "table"; verb = Table }
-    ∷ record { name = codes "output"; verb = Output }
-    ∷ record { name = codes "undo"; verb = Undo }
-    ∷ record { name = codes "second"; verb = Second }
-    ∷ []
-
--- the first command of a list with this name
-abbrev pub named : List ℕ → List Named → Verb
-named word [] = Unknown
-named word (n ∷ rest) = ifb (same word (n .name)) (n .verb) (named word rest)
-
-unfoldable pub verbOf : List ℕ → Verb
-verbOf word = named word verbs
 
 -- a line that is none leaves the setting
 abbrev pub refused : Setting → Done

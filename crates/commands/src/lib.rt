@@ -1,9 +1,9 @@
-// The commands of a script of bench cards by their names, and those that change how a request is
-// served from there on. Assumes nothing: any bytes are read, and what is no command is told.
+// The commands of a script of bench cards that change how a request is served from there on, and
+// room for a script. Assumes nothing: any bytes are read, and what is no such line is told.
 ghost use mathlib.Core.Path.{_≡_};
 ghost use lib.ListN.{replicate};
 ghost use Rattle.script.specs.Numbers.{numberIn, clockIn};
-ghost use Rattle.commands.specs.Commands.{verbOf, withClock, lending, placesIn};
+ghost use Rattle.commands.specs.Commands.{withClock, lending, placesIn};
 use script::Clock;
 use script::Number;
 use table::Layout;
@@ -17,22 +17,6 @@ pub enum Buffer {
     Strip,
     Output,
     Second,
-}
-
-// The command of a line.
-pub enum Verb {
-    Blank,
-    Put,
-    Clock,
-    Room,
-    Strip,
-    Size,
-    Request,
-    Table,
-    Output,
-    Undo,
-    Second,
-    Unknown,
 }
 
 // How a request is served: the clock, and how many bytes of output, strip, table and second buffer
@@ -56,46 +40,6 @@ pub fn script_room() -> [u8; SCRIPT_ROOM]
     ensures { λ r. ⌜ r ≡ replicate 1048576 0 ⌝ }
 {
     [0u8; SCRIPT_ROOM]
-}
-
-// The command that a word names.
-pub fn verb_of(word: &[u8]) -> Verb
-    ensures { λ r. ⌜ r ≡ verbOf (now (word .entry)) ⌝ }
-{
-    if lines::same(word, b"blank") {
-        return Verb::Blank;
-    }
-    if lines::same(word, b"put") {
-        return Verb::Put;
-    }
-    if lines::same(word, b"clock") {
-        return Verb::Clock;
-    }
-    if lines::same(word, b"room") {
-        return Verb::Room;
-    }
-    if lines::same(word, b"strip") {
-        return Verb::Strip;
-    }
-    if lines::same(word, b"size") {
-        return Verb::Size;
-    }
-    if lines::same(word, b"request") {
-        return Verb::Request;
-    }
-    if lines::same(word, b"table") {
-        return Verb::Table;
-    }
-    if lines::same(word, b"output") {
-        return Verb::Output;
-    }
-    if lines::same(word, b"undo") {
-        return Verb::Undo;
-    }
-    if lines::same(word, b"second") {
-        return Verb::Second;
-    }
-    Verb::Unknown
 }
 
 // `blank`, `blank COUNT`: the place count, which is that of a small table where the line says none.

@@ -1,4 +1,4 @@
--- What the converter takes: every sound old table of either kind, and nothing else. `each-converts`, `age-is`, `converts-as`.
+-- What the converter takes: every sound old table of either kind, and nothing else. `age-is`, `converts-as`.
 -- Assumes nothing but what each says.
 use mathlib.Core.Path.{_≡_, refl, ap, _∙_}
 use Prim.Native.Nat.{ℕ}
@@ -10,10 +10,10 @@ use borrow.Author.Tests.{eq-eqb, ne-eqb}
 use Rattle.octets.proofs.Bools.{and-true, and-no, and-r, no-unless, not-both}
 use Rattle.octets.proofs.If.{ifb-true, ifb-false}
 use Rattle.table.specs.Layout.{sizeOf, smallCount, Table}
-use Rattle.convert.specs.Old.{Age, plain, dated, width, oldSizeOf, OldTable, widened}
+use Rattle.convert.specs.Old.{Age, plain, dated, width, oldSizeOf, OldTable}
 use Rattle.convert.specs.OldSound.{oldSizeRight, soundOld}
-use Rattle.convert.specs.Convert.{converts, ageOf, converted}
-use Rattle.convert.proofs.Sound.{unsized, sized}
+use Rattle.convert.specs.Convert.{converts, ageOf}
+use Rattle.convert.proofs.Sound.{unsized}
 
 or-none : (a b : Bool) → b ≡ false → (a || b) ≡ a
 or-none true b e = refl
@@ -41,14 +41,6 @@ module _ (old : List ℕ) where
     converts-as dated big room =
         and-true _ _ (eq-eqb (length new) (sizeOf smallCount) room)
         ∙ ap (λ (b : Bool). b || soundOld dated smallCount old) (other-size plain (λ e. omega arith))
-
-    -- so each sound old table is converted
-    pub each-converts : (age : Age) → soundOld age smallCount old ≡ true → Table smallCount new → (converts old new ≡ true) × (converted old new ≡ widened (width age) smallCount old)
-    unfolding converted
-    each-converts age right room =
-        let big = sized smallCount old age right in
-        let yes-sound : converts old new ≡ true = converts-as age big room ∙ right in
-        (yes-sound, ifb-true _ _ _ yes-sound ∙ ap (λ (a : Age). widened (width a) smallCount old) (age-is age big))
 
     -- and what is sound as neither kind is declined, and so is whatever comes where there is no room of the right size
     pub neither-converts : soundOld plain smallCount old ≡ false → soundOld dated smallCount old ≡ false → converts old new ≡ false

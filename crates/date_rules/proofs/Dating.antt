@@ -10,16 +10,13 @@ use lib.Dec.{leb, eqb}
 use borrow.Author.Tests.{eq-eqb, ne-eqb, eqb-true, leb-true, leb-false}
 use Rattle.octets.specs.If.{ifb}
 use Rattle.octets.proofs.If.{ifb-true, ifb-false, on-bool}
-use Rattle.octets.proofs.Bools.{and-l, and-r, and-i, and-no, and-second}
+use Rattle.octets.proofs.Bools.{and-r, and-i, and-no, and-second}
 use Rattle.rules.specs.Numbers.{activate, preActive, active, deactivated}
 use Rattle.date_rules.specs.Dates.{hasCome, startedState, stoppedState, datedState, isLate}
 
 -- ---- a date that has come, and one that has not
 
 module _ (clock date : ℕ) where
-  pub come-set : hasCome clock date ≡ true → 1 ≤ date
-  come-set e = leb-true 1 date (and-l (leb 1 date) (leb date clock) e)
-
   pub come-by : hasCome clock date ≡ true → date ≤ clock
   come-by e = leb-true date clock (and-r (leb 1 date) (leb date clock) e)
 

@@ -1,23 +1,3 @@
--- Our box meets the demands, no box but ours meets the first two, what the third gives for any box, and the hope; what the demands are made of, worked out.
+-- What the demands are made of, worked out.
 -- Assumes nothing.
 pub mod Worked
-pub mod Chains
-pub mod Ladder
-pub mod Meets
-pub mod Counted
-pub mod Logged
-pub mod Tame
-pub mod Dead
-pub mod Ordered
-pub mod Paired
-pub mod Unmade
-pub mod Opened
-pub mod Runs
-pub mod Follows
-pub mod Meets3
-pub mod Serve
-pub mod Only
-pub mod Firm
-pub mod Idle
-pub mod Hoped
-pub mod Named

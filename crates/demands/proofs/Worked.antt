@@ -5,7 +5,7 @@ use mathlib.Core.Path.{_≡_, refl}
 use mathlib.Core.Bool.{Bool, true, false}
 use mathlib.Core.Option.{Option, none, some}
 use mathlib.Core.List.{List, [], _∷_, _++_, map}
-use lib.ListN.{replicate}
+use lib.ListN.{replicate, drop}
 use Rattle.hex.specs.Texts.{hex}
 use Rattle.octets.specs.If.{ifb}
 use Rattle.octets.specs.Maybe.{_>>=_, _>>_, isSome}
@@ -21,7 +21,7 @@ use Rattle.table.specs.declared.Record.{Record}
 use Rattle.words.specs.Words.{wordsOf, wordBytes, filled}
 use Rattle.names.specs.Names.{noName, nameField, storedName, nameOf, nameOk}
 use Rattle.name_read.specs.Name.{nameBody, nameFirst, onlyNameIn, orNoName, lastNameIn}
-use Rattle.table.specs.Records.{line, body, recordOf, placeAt, withPlace, serialAt, stateAt, nameAt, blank, latestClock}
+use Rattle.table.specs.Records.{line, body, recordOf, placeAt, withPlace, serialAt, stateAt, nameAt, blank, latestClock, placesSaid}
 use Rattle.search.specs.declared.Found.the-variants.{At, Nothing}
 use Rattle.search.specs.Search.{firstFrom, orElse, find, freePlace, destroyedPlace, newPlace}
 use Rattle.soundness.specs.Checked.{isAt}
@@ -35,7 +35,7 @@ use Rattle.payload.specs.declared.Command.the-variants.{Unsupported, Invalid, C
 use Rattle.attributes_read.specs.Attributes.{limitIn, limitFirst, dateFirst, orUnset, datedIn, wantedOf, limitedIn, maskedIn, attributesIn}
 use Rattle.payload.specs.Payload.{createIn, offsetOf, rekeyIn, aloneIn, allocationIn, revokeIn, locateIn, orInvalid, command}
 use Rattle.date_rules.specs.Dates.{startedState, stoppedState, datedState}
-use Rattle.changes.specs.Records.{heirActivation, heirDeactivation}
+use Rattle.heirs.specs.Heirs.{heirActivation, heirDeactivation}
 use Rattle.target_read.specs.Target.{targetOf, targetIn}
 use Rattle.plans.specs.declared.Key.{Key}
 use Rattle.plans.specs.declared.Outcome.{Outcome}
@@ -43,12 +43,12 @@ use Rattle.plans.specs.declared.Outcome.the-variants.{Failed, Created, Done, Sh
 use Rattle.act.specs.Act.{sought}
 use Rattle.plans.specs.Plans.{isFailed}
 use Rattle.answer.specs.Respond.{Answer}
-use Rattle.demands.specs.Box.{Call, counted}
-use Rattle.demands.specs.Demand1.{refusals}
-use Rattle.demands.specs.Demand2.{Link, ofFrame, lowest, goesOn, linkAt, answerFor, anyFails, isUndone, settled, undoneFor, answersFor, keptFor}
+use Rattle.calls.specs.Effects.{Effect}
+use Rattle.demands.specs.Box.{Call, Box, counted, placesOf}
+use Rattle.demands.specs.Demand1.{refusals, longest}
+use Rattle.demands.specs.Demand2.{Link, refusalConditions, ofFrame, lowest, goesOn, linkAt, answerFor, anyFails, isUndone, settled, undoneFor, answersFor, keptFor}
 use Rattle.demands.specs.Log.{Event, heldAfter, paired, orNoItems, orNoAnswers, onto, issuedBy, issued, grantBy, granted, limitBy, limit, handedBy, destroyedBy, wasDestroyed, handedDead}
-use Rattle.demands.specs.Demand3.{namedBy, isUnderstood, movesState, asksKey, asksName, isMade, carries, codeOf, names, takes, mayTake, bornBy, foundIn, bornState, listed, listedFor, listedBy}
-use Rattle.demands.specs.Hope.{largest}
+use Rattle.demands.specs.Demand3.{Run, begins, namedBy, isUnderstood, movesState, asksKey, asksName, isMade, carries, codeOf, names, takes, mayTake, bornBy, foundIn, bornState, listed, listedFor, listedBy}
 
 -- ---- commands and outcomes
 
@@ -201,8 +201,6 @@ dateCases =
     ∷ same (dueFrom 5 6 eight) (12 ∷ [])
     ∷ same (dueFrom 0 5 eight) (23 ∷ [])
     ∷ same (dueFrom 4 5 eight) (12 ∷ 13 ∷ 23 ∷ [])
-    -- the largest of some clocks
-    ∷ same (largest [] ∷ largest (4 ∷ []) ∷ largest (3 ∷ 9 ∷ 5 ∷ []) ∷ []) (0 ∷ 4 ∷ 9 ∷ [])
     ∷ []
 
 -- ---- a log
@@ -387,6 +385,14 @@ call = record { request = []; table = hex "00000000 00000040 00000000 00000007";
 before : Call
 before = record { request = []; table = call .table; strip = []; clock = 5; output = []; undo = [] }
 
+-- a call with a table of 256 places, of which the lead alone is here, a clock, and a second buffer
+large : ℕ → List ℕ → Call
+large clock undo = record { request = []; table = hex "00000000 00000100 00000000 00000007"; strip = []; clock = clock; output = []; undo = undo }
+
+-- the conditions of refusals 10 and 11
+late : Call → List ℕ
+late c = map flag (drop 9 (refusalConditions c))
+
 -- item 1, with an ID of its own
 second : Link
 second = linkAt call 1 5 [] (record { operation = 0x12; id = 1 ∷ 2 ∷ 3 ∷ []; payload = nil }) (record { outcome = Done 6; table = []; holder = 5 })
@@ -429,6 +435,14 @@ callCases =
     ∷ same (flag (ofFrame (λ f. true) none) ∷ []) (0 ∷ [])
     -- eleven refusals
     ∷ same (refusals ∷ []) (11 ∷ [])
+    -- the longest response
+    ∷ same (longest ∷ []) (6360 ∷ [])
+    -- as many places as the lead says
+    ∷ same (placesOf call ∷ placesOf (large 1 []) ∷ []) (64 ∷ 256 ∷ [])
+    -- a clock below 1 is refusal 10, a second buffer of another size refusal 11
+    ∷ same (late (large 0 [])) (1 ∷ 1 ∷ [])
+    ∷ same (late (large 1 (replicate 16 0))) (0 ∷ 0 ∷ [])
+    ∷ same (late (large 0x8000000000000000 (replicate 17 0))) (1 ∷ 1 ∷ [])
     -- under Continue (1) a batch goes on behind each outcome, under Stop (2) not behind a failure
     ∷ same (map (λ o. flag (goesOn 1 o)) outcomes) (1 ∷ 1 ∷ 1 ∷ 1 ∷ 1 ∷ 1 ∷ 1 ∷ [])
     ∷ same (map (λ o. flag (goesOn 2 o)) outcomes) (0 ∷ 1 ∷ 1 ∷ 1 ∷ 1 ∷ 1 ∷ 1 ∷ [])
@@ -464,5 +478,9 @@ cases = commandCases ++ (stateCases ++ (dateCases ++ (logCases ++ (placeCases ++
 
 -- every case holds
 pub worked : all (λ b. b) cases ≡ true
-unfolding cases isMade anyFails settled undoneFor answersFor keptFor undoneEvents undoneLog gotUndone third passing failing status statuses tables options bornBy foundIn heirActivation heirDeactivation datedState stoppedState startedState dateCases datedKey dueTo dueFrom listedBy largest before latestClock key of-none destroyedIn got asksKey asksName carries handedBy destroyedBy wasDestroyed handedDead commandCases stateCases logCases placeCases callCases commands heldCommands outcomes flag matrix none-of eight waysTo waysFrom ways itemsRead asking items answering answers events log ofEach heldIn limitOf holding keyed activating rekeying ofPlaces call second goesOn isFailed answerFor namedBy isUnderstood movesState codeOf listed isAt heldAfter paired orNoItems orNoAnswers onto issuedBy issued grantBy granted limitBy limit ofFrame lowest sought ifb _>>=_ _>>_ isSome be fromBeAfter fromBe all same lengthOk text valueOk encode itemOk wellFormed ended headed firstOf putValue putGroup more walk parse startsWith bytesOf bodyOf numberOf optional digits identifier fromDigitsAfter serialOf limitIn limitFirst dateFirst orUnset datedIn lastNameIn nameFirst nameBody orNoName nameOf nameOk wantedOf limitedIn maskedIn attributesIn createIn targetOf targetIn offsetOf rekeyIn aloneIn allocationIn revokeIn locateIn onlyNameIn orInvalid command line body recordOf placeAt withPlace serialAt stateAt nameAt nameField storedName wordsOf wordBytes filled blank firstFrom orElse find freePlace destroyedPlace newPlace
+unfolding cases large late refusalConditions placesSaid isMade anyFails settled undoneFor answersFor keptFor undoneEvents undoneLog gotUndone third passing failing status statuses tables options bornBy foundIn heirActivation heirDeactivation datedState stoppedState startedState dateCases datedKey dueTo dueFrom listedBy before latestClock key of-none destroyedIn got asksKey asksName carries handedBy destroyedBy wasDestroyed handedDead commandCases stateCases logCases placeCases callCases commands heldCommands outcomes flag matrix none-of eight waysTo waysFrom ways itemsRead asking items answering answers events log ofEach heldIn limitOf holding keyed activating rekeying ofPlaces call second goesOn isFailed answerFor namedBy isUnderstood movesState codeOf listed isAt heldAfter paired orNoItems orNoAnswers onto issuedBy issued grantBy granted limitBy limit ofFrame lowest sought ifb _>>=_ _>>_ isSome be fromBeAfter fromBe all same lengthOk text valueOk encode itemOk wellFormed ended headed firstOf putValue putGroup more walk parse startsWith bytesOf bodyOf numberOf optional digits identifier fromDigitsAfter serialOf limitIn limitFirst dateFirst orUnset datedIn lastNameIn nameFirst nameBody orNoName nameOf nameOk wantedOf limitedIn maskedIn attributesIn createIn targetOf targetIn offsetOf rekeyIn aloneIn allocationIn revokeIn locateIn onlyNameIn orInvalid command line body recordOf placeAt withPlace serialAt stateAt nameAt nameField storedName wordsOf wordBytes filled blank firstFrom orElse find freePlace destroyedPlace newPlace
 worked = refl
+
+-- a run begins with a blank table of its own number of places
+pub begun : (n : ℕ) (B : Box) → Run n B [] (blank n)
+begun n B = begins

@@ -4,7 +4,7 @@ use Prim.Native.Nat.{ℕ, _<_, _^_, max}
 use mathlib.Core.List.{List}
 use Rattle.octets.specs.Octets.{Bytes}
 use Rattle.table.specs.Records.{placesSaid, latestClock}
-use Rattle.engine.specs.Effects.{Effect}
+use Rattle.calls.specs.Effects.{Effect}
 
 -- what is lent to a call; the clock comes as its 64 bits
 pub record Call : Type 0 where

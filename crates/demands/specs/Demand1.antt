@@ -3,12 +3,16 @@
 use Prim.Native.Nat.{ℕ, _≤_}
 use mathlib.Core.Path.{_≡_}
 use lib.ListN.{length, drop}
-use Rattle.engine.specs.Effects.{Effect}
+use Rattle.calls.specs.Effects.{Effect}
 use Rattle.demands.specs.Box.{Call, Box, Lent}
 
 -- 00's numbered refusals; 02, L8: "so demand 1 speaks of eleven"
 abbrev pub refusals : ℕ
 refusals = 11
+
+-- "a response of at most 6,360 bytes"
+abbrev pub longest : ℕ
+longest = 6360
 
 -- a call that is turned away: "length zero and every buffer untouched"
 pub record Untouched (c : Call) (e : Effect) : Type 0 where
@@ -17,9 +21,9 @@ pub record Untouched (c : Call) (e : Effect) : Type 0 where
   pub output : e .output ≡ c .output
   pub undo : e .undo ≡ c .undo
 
--- a call that is answered: "a response of at most 6,360 bytes", and the output past it as it was
+-- a call that is answered: short, and the output past it as it was
 pub record Within (c : Call) (e : Effect) : Type 0 where
-  pub short : e .length ≤ 6360
+  pub short : e .length ≤ longest
   pub room : e .length ≤ length (c .output)
   pub same-room : length (e .output) ≡ length (c .output)
   pub past : drop (e .length) (e .output) ≡ drop (e .length) (c .output)

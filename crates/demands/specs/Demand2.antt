@@ -27,7 +27,7 @@ use Rattle.plans.specs.Plans.{Env, Did, Plan, envAt, isFailed}
 use Rattle.act.specs.Act.{plan}
 use Rattle.answer.specs.Respond.{Answer, Response, respond}
 use Rattle.answer.specs.Read.{answersIn, allowed}
-use Rattle.engine.specs.Effects.{Effect}
+use Rattle.calls.specs.Effects.{Effect}
 use Rattle.demands.specs.Box.{Call, Box, Lent, placesOf, counted}
 
 -- ---- (a) the refusals

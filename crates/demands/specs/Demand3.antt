@@ -19,14 +19,15 @@ use Rattle.soundness.specs.Checked.{isAt}
 use Rattle.rules.specs.Numbers.{activate, revoke, destroy, preActive}
 use Rattle.rules.specs.States.{isCompromise}
 use Rattle.date_rules.specs.Dates.{hasCome, datedState}
-use Rattle.changes.specs.Records.{inState, heirActivation, heirDeactivation}
+use Rattle.changes.specs.Records.{inState}
+use Rattle.heirs.specs.Heirs.{heirActivation, heirDeactivation}
 use Rattle.payload.specs.declared.Command.{Command}
 use Rattle.payload.specs.declared.Command.the-variants.{Unsupported, Invalid, Create, Rekey, GetUsageAllocation, Activate, Revoke, Destroy, GetAttributes, Get, Locate}
 use Rattle.plans.specs.declared.Outcome.{Outcome}
 use Rattle.plans.specs.declared.Outcome.the-variants.{Failed, Created, Done, Showed, Got, Located, Undone}
 use Rattle.act.specs.Act.{sought}
 use Rattle.plans.specs.Plans.{isFailed}
-use Rattle.engine.specs.Effects.{Effect}
+use Rattle.calls.specs.Effects.{Effect}
 use Rattle.demands.specs.Box.{Call, Box, Lent, counted}
 use Rattle.demands.specs.Log.{Event, commandOf, itemsAsked, answersGiven, eventsOf, logged, issuedBy, issued, grantBy, granted, limit, handedBy, wasDestroyed, handedDead}
 
@@ -174,6 +175,11 @@ module _ (n : ℕ) where
   pub data Run (B : Box) : List Event → List ℕ → Type 0 where
     begins : Run B [] (blank n)
     calls : {log : List Event} {t : List ℕ} (c : Call) (e : Effect) → Run B log t → c .table ≡ t → Lent c → B c e → Run B (logged c e log) (e .table)
+
+  -- a later point of the same run
+  pub data Later (B : Box) (log : List Event) (t : List ℕ) : List Event → List ℕ → Type 0 where
+    here : Later B log t log t
+    further : {log′ : List Event} {t′ : List ℕ} (c : Call) (e : Effect) → Later B log t log′ t′ → c .table ≡ t′ → Lent c → B c e → Later B log t (logged c e log′) (e .table)
 
   -- the record with serial x stands at place i
   pub record Stands (x : ℕ) (t : List ℕ) (i : ℕ) : Type 0 where

@@ -1,9 +1,7 @@
--- What any box has to do: the calls, the three demands, the log that the third speaks of, and the hope of dates that stand firm.
+-- What any box has to do: the calls, the three demands, and the log that the third speaks of.
 -- Assumes nothing.
 pub mod Box
 pub mod Demand1
 pub mod Demand2
 pub mod Log
 pub mod Demand3
-pub mod Hope
-pub mod Names

@@ -21,7 +21,7 @@ use Rattle.plans.specs.declared.Outcome.the-variants.{Failed, Created, Done, Sh
 use Rattle.act.specs.Act.{sought}
 use Rattle.answer.specs.Respond.{Answer, Response}
 use Rattle.answer.specs.Read.{answersIn}
-use Rattle.engine.specs.Effects.{Effect}
+use Rattle.calls.specs.Effects.{Effect}
 use Rattle.demands.specs.Box.{Call}
 
 -- an item with its answer, and the placeholder as the earlier answers of the same response set it (0 where it is empty)

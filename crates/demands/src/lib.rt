@@ -1,2 +1,2 @@
-// What the box always and never does: theorems over the definitions and the contracts.
-// It has no function.
+// What the box has to do, always and never: the demands as predicates on any box.
+// It has no function, and knows nothing of the code that meets them.

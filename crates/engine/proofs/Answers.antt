@@ -4,7 +4,7 @@ use Prim.Native.Nat.{ℕ, _+_, _-_, _*_, _%_, _≤_}
 use native.Mathlib.Omega.{arith}
 use mathlib.Core.Path.{_≡_, refl, sym, ap, subst, _∙_}
 use mathlib.Core.List.{List, _++_}
-use lib.ListN.{length, take, drop, length-append, length-drop, length-take}
+use lib.ListN.{length, length-append, length-drop, length-take}
 use borrow.Rule.Slice.PartMut.{putMid, midOf}
 use Rattle.octets.specs.Octets.{over}
 use Rattle.octets.proofs.Over.{lent, over-front}
@@ -18,7 +18,7 @@ use Rattle.answer.specs.Front.{longestItem, frameSize, front}
 use Rattle.answer.proofs.Front.{frame-size, respond-splits}
 use Rattle.batch.specs.declared.BatchDone.{BatchDone}
 use Rattle.batch.specs.Batch.{Ran}
-use Rattle.batch.specs.Runs.{Runs, RanIs, ranOver}
+use Rattle.batch.specs.Runs.{RanIs, ranOver}
 use Rattle.settle.specs.Undo.{settled, keptIn}
 use Rattle.settle.specs.Trials.{Settles, SettledIs}
 use Rattle.engine.specs.Serving.{responseTo, answered}

@@ -1,8 +1,5 @@
--- The laws of a call: its sizes, its refusals, and what answers it.
+-- The laws of a call: what answers it.
 -- Assumes nothing.
-pub mod Sizes
-pub mod Early
-pub mod Late
 pub mod Answers
 pub mod Serves
 pub mod Unique

@@ -3,7 +3,7 @@
 use Prim.Native.Nat.{ℕ, suc, _-_, _≤_}
 use native.Mathlib.Omega.{arith}
 use mathlib.Core.Path.{_≡_, refl, sym, ap, subst, _∙_}
-use mathlib.Core.Bool.{true, false, false≢true}
+use mathlib.Core.Bool.{true, false≢true}
 use mathlib.Core.Option.{Option, none, some}
 use mathlib.Core.List.{List}
 use lib.ListN.{length, take, drop, length-drop}
@@ -17,7 +17,6 @@ use Rattle.ttlv.specs.Items.{Items}
 use Rattle.ttlv.specs.Parse.{message}
 use Rattle.ttlv.specs.Tree.{isRun, treeOf}
 use Rattle.ttlv.proofs.Message.{message-tree}
-use Rattle.values.specs.Values.{aboveZero}
 use Rattle.table.specs.Layout.{Table, HasLead}
 use Rattle.table.specs.Records.{placesSaid}
 use Rattle.place_counts.proofs.Counts.{right-sound}
@@ -32,11 +31,12 @@ use Rattle.plans.specs.Plans.{emptyHolder}
 use Rattle.batch.specs.Batch.{Ran, batch, firstItem, running}
 use Rattle.batch.specs.Runs.{askedAll, ranOver, RunsIn}
 use Rattle.settle.specs.Undo.{settled, keptIn}
-use Rattle.engine.specs.Effects.{Effect, roomLeast}
-use Rattle.engine.specs.Serving.{turnedAway, answered, earlyRefusal, requested, lateRefusal, carryOut, serving}
+use Rattle.calls.specs.Effects.{Effect, roomLeast}
+use Rattle.engine.specs.Serving.{turnedAway, answered, requested, carryOut, serving}
+use Rattle.refusals.specs.Refusals.{earlyRefusal, lateRefusal}
 use Rattle.engine.specs.Calls.{RunsWhole, acceptedOver, AcceptedIs, ServedIs}
-use Rattle.engine.proofs.Early.{Passed, passed}
-use Rattle.engine.proofs.Late.{timely}
+use Rattle.refusals.proofs.Early.{Passed, passed}
+use Rattle.refusals.proofs.Late.{timely}
 
 -- ---- the ladder
 

@@ -6,7 +6,7 @@ use mathlib.Core.List.{List}
 use lib.ListN.{length}
 use Rattle.batch.specs.Runs.{RunsIn, ranOver}
 use Rattle.engine.specs.declared.Served.{Served}
-use Rattle.engine.specs.Effects.{Effect, roomLeast}
+use Rattle.calls.specs.Effects.{Effect, roomLeast}
 use Rattle.engine.specs.Serving.{accepted, serving}
 
 -- a request that can be answered: its batch can be run in the room of the whole response, and the second buffer has the table's size

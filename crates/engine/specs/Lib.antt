@@ -1,5 +1,4 @@
 -- The whole outcome of a call.
 -- Assumes nothing.
-pub mod Effects
 pub mod Serving
 pub mod Calls

@@ -1,24 +1,22 @@
--- 01, "Turning a request away", with 02's refusals 10 and 11, and the whole outcome of a call: number, length, table, output and second buffer.
+-- The whole outcome of a call: number, length, table, output and second buffer. Which refusal is due is said by crates/refusals (1 to 5, 10 and 11) and crates/frame (6 to 9); here is their order.
 -- Assumes nothing: any request, table, strip, clock, room and second buffer has an outcome.
 use Prim.Native.Nat.{ℕ}
-use mathlib.Core.Bool.{not, _||_}
 use mathlib.Core.List.{List}
 use lib.ListN.{length}
-use lib.Dec.{ltb, eqb}
+use lib.Dec.{eqb}
 use Rattle.octets.specs.If.{ifb}
-use Rattle.octets.specs.Maybe.{_>>=_, isSome}
+use Rattle.octets.specs.Maybe.{_>>=_}
 use Rattle.octets.specs.Octets.{over}
 use Rattle.ttlv.specs.Items.{encode}
 use Rattle.ttlv.specs.Parse.{message}
-use Rattle.values.specs.Values.{aboveZero}
 use Rattle.table.specs.Records.{placesSaid}
-use Rattle.place_counts.specs.Counts.{tableRight}
 use Rattle.changes.specs.Dates.{countedClock, began}
 use Rattle.frame.specs.Frame.{Framed, refused, asked, frameIn, framing}
 use Rattle.answer.specs.Respond.{Response, respond}
-use Rattle.batch.specs.Batch.{Ran, running, stripSize}
+use Rattle.batch.specs.Batch.{Ran, running}
 use Rattle.settle.specs.Undo.{settled, keptIn}
-use Rattle.engine.specs.Effects.{Effect, roomLeast, requestMost}
+use Rattle.calls.specs.Effects.{Effect}
+use Rattle.refusals.specs.Refusals.{earlyRefusal, lateRefusal}
 
 -- ---- what a call leaves
 
@@ -42,16 +40,6 @@ answered clock out buffer ran = record {
 
 -- ---- "The lowest number that applies is given, and none otherwise"
 
--- refusals 1 to 5, a line each; 0 where none applies
-unfoldable pub earlyRefusal : List ℕ → List ℕ → List ℕ → ℕ → ℕ
-earlyRefusal request t strip room =
-    ifb (ltb room roomLeast) 1
-    (ifb (not (eqb (length strip) stripSize)) 2
-    (ifb (not (tableRight t)) 3
-    (ifb (eqb (length request) 0 || ltb requestMost (length request)) 4
-    (ifb (not (isSome (message request))) 5
-    0))))
-
 -- refusals 6 to 9, or the request: what the message says as a frame; that there is a message was refusal 5's
 abbrev pub requested : List ℕ → Framed
 requested request = framing (message request >>= frameIn)
@@ -63,13 +51,6 @@ accepted places option clock t items out buffer =
     let counted = countedClock clock t in
     let start = began places counted t in
     answered counted out (keptIn option start buffer) (settled option start (items start))
-
--- refusals 10 and 11, a line each: "A clock given below 1", and a second buffer of another size than the table's, "tested after 10 for every option"; 0 where neither applies
-unfoldable pub lateRefusal : ℕ → ℕ → ℕ → ℕ
-lateRefusal clock size lent =
-    ifb (not (aboveZero clock)) 10
-    (ifb (not (eqb lent size)) 11
-    0)
 
 -- the frame's refusal; a late one; or the batch, on as many places as the table's lead says
 unfoldable pub carryOut : ℕ → List ℕ → List ℕ → List ℕ → List ℕ → Framed → Effect

@@ -1,17 +1,15 @@
-// The engine: the refusal ladder, what an accepted request does, and `serve`, which joins them.
+// The engine: what an accepted request does, and `serve`, which asks for the refusals first.
 // `serve` asks nothing: bad input gets a refusal. What the functions below it ask, `serve` shows.
-ghost use mathlib.Core.Path.{_≡_};
 ghost use mir.Syntax.{w64};
 ghost use mir.Val.{ofZ};
-ghost use Rattle.engine.specs.Serving.{earlyRefusal, lateRefusal};
 ghost use Rattle.engine.specs.Calls.{RunsWhole, acceptedOver, AcceptedIs, ServedIs};
 
 // The sizes that a caller keeps to; the table's are those of `table::Layout`.
-pub const ROOM_LEAST: usize = 6360;
+pub const ROOM_LEAST: usize = refusals::ROOM_LEAST;
 
-pub const STRIP_SIZE: usize = 512;
+pub const STRIP_SIZE: usize = refusals::STRIP_SIZE;
 
-pub const REQUEST_MOST: usize = 4096;
+pub const REQUEST_MOST: usize = refusals::REQUEST_MOST;
 
 const FRAME_SIZE: usize = 88;
 
@@ -19,31 +17,6 @@ const FRAME_SIZE: usize = 88;
 pub struct Served {
     pub number: u32,
     pub length: usize,
-}
-
-// The lowest of refusals 1 to 5 that applies, or 0: sizes, the table, and TTLV. Nothing is written.
-fn early_refusal(request: &[u8], table: &[u8], fresh: &[u8], room: usize) -> u32
-    ensures { λ r. ⌜ r ≡ earlyRefusal (now (request .entry)) (now (table .entry)) (now (fresh .entry)) room ⌝ }
-{
-    if room < ROOM_LEAST {
-        return 1;
-    }
-    if fresh.len() != STRIP_SIZE {
-        return 2;
-    }
-    if !place_counts::table_right(table) {
-        return 3;
-    }
-    if request.len() == 0 {
-        return 4;
-    }
-    if REQUEST_MOST < request.len() {
-        return 4;
-    }
-    if !ttlv::is_message(request) {
-        return 5;
-    }
-    0
 }
 
 // An accepted request: the clock that counts is stored and what is due by it is done, then the
@@ -69,20 +42,6 @@ fn answer_all(
     FRAME_SIZE + used
 }
 
-// Refusals 10 and 11, which come last: a clock below 1, a second buffer of another size than the
-// table's. 0 where neither applies.
-fn late_refusal(clock: u64, size: usize, lent: usize) -> u32
-    ensures { λ r. ⌜ r ≡ lateRefusal clock size lent ⌝ }
-{
-    if !values::above_zero(clock) {
-        return 10;
-    }
-    if lent != size {
-        return 11;
-    }
-    0
-}
-
 // One request in, a response out, the table changed. The number of a refusal, with length 0 and
 // nothing touched; or 0 and the length of the response. The second buffer is for Undo: it has the
 // table's size.
@@ -96,7 +55,7 @@ pub fn serve(
 ) -> Served
     ensures { λ r. ⌜ ServedIs (now (request .entry)) (now (table .entry)) (now (fresh .entry)) (ofZ w64 clock) (now (out .entry)) (now (undo .entry)) r (now (table .exit)) (now (out .exit)) (now (undo .exit)) ⌝ }
 {
-    let early = early_refusal(request, table, fresh, out.len());
+    let early = refusals::early_refusal(request, table, fresh, out.len());
     if early != 0 {
         return Served {
             number: early,
@@ -109,7 +68,7 @@ pub fn serve(
         return Served { number, length: 0 };
     }
     let bits = clock::bits_of(clock);
-    let late = late_refusal(bits, table.len(), undo.len());
+    let late = refusals::late_refusal(bits, table.len(), undo.len());
     if late != 0 {
         return Served {
             number: late,

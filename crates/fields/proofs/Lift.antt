@@ -109,12 +109,6 @@ module _ (s : List ℕ) (run : isRun s ≡ true) where
     unfolding bytesAt
     bytes-lifts = bytes-at s tag kind (treeOf s) (firstOf s) (tree s run)
 
-    pub bytes-found : {n next : ℕ} → bytesAt s tag kind ≡ Span n next → bytesOf tag kind (treeOf s) ≡ some (part s 8 n, treeOf (drop next s))
-    bytes-found h = bytes-lifts ∙ ap (bytesRead s) h
-
-    pub bytes-missing : bytesAt s tag kind ≡ NoSpan → bytesOf tag kind (treeOf s) ≡ none
-    bytes-missing h = bytes-lifts ∙ ap (bytesRead s) h
-
     pub bytes-rest : {n next : ℕ} → bytesAt s tag kind ≡ Span n next → Rest s next
     bytes-rest h = value-rest s run (bytes-first s tag kind h)
 
@@ -133,22 +127,10 @@ module _ (s : List ℕ) (run : isRun s ≡ true) where
     unfolding numberOf numberAt
     number-lifts k = ap (λ (o : Option (List ℕ × Items)). o >>= λ (v, rest). some (fromBe v, rest)) bytes-lifts ∙ numbers k (bytesAt s tag kind) refl
 
-    pub number-found : isNumber kind ≡ true → {v next : ℕ} → numberAt s tag kind ≡ Number v next → numberOf tag kind (treeOf s) ≡ some (v, treeOf (drop next s))
-    number-found k h = number-lifts k ∙ ap (numberRead s) h
-
-    pub number-missing : isNumber kind ≡ true → numberAt s tag kind ≡ NoNumber → numberOf tag kind (treeOf s) ≡ none
-    number-missing k h = number-lifts k ∙ ap (numberRead s) h
-
   module _ (tag : ℕ) where
     pub body-lifts : bodyOf tag (treeOf s) ≡ bodyRead s (bodyAt s tag)
     unfolding bodyAt
     body-lifts = body-at s tag (treeOf s) (firstOf s) (tree s run)
-
-    pub body-found : {next : ℕ} → bodyAt s tag ≡ Body next → bodyOf tag (treeOf s) ≡ some (treeOf (part s 8 (next - 8)), treeOf (drop next s))
-    body-found h = body-lifts ∙ ap (bodyRead s) h
-
-    pub body-missing : bodyAt s tag ≡ NoBody → bodyOf tag (treeOf s) ≡ none
-    body-missing h = body-lifts ∙ ap (bodyRead s) h
 
     pub body-rest : {next : ℕ} → bodyAt s tag ≡ Body next → Rest s next
     body-rest h = group-rest s run (body-first s tag h)
@@ -157,10 +139,6 @@ module _ (s : List ℕ) (run : isRun s ≡ true) where
     body-is-run h = body-run s run (body-first s tag h)
 
 -- ---- the rest as code cuts it
-
--- `&s[next..]` is a run, and stands for the items of the rest
-pub cut-run : (s : List ℕ) (next : ℕ) → Rest s next → isRun (take (length s - next) (drop next s)) ≡ true
-cut-run s next r = rw (rest s next) (r .run)
 
 pub cut-tree : (s : List ℕ) (next : ℕ) → treeOf (take (length s - next) (drop next s)) ≡ treeOf (drop next s)
 cut-tree s next = ap treeOf (rest s next)

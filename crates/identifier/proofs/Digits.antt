@@ -7,7 +7,7 @@ use native.Mathlib.Omega.{arith}
 use mathlib.Core.Bool.{Bool, true}
 use mathlib.Core.List.{List, [], _∷_, _++_, append-assoc, append-nil}
 use lib.ListN.{length, length-append}
-use Rattle.octets.specs.Octets.{all, Bytes}
+use Rattle.octets.specs.Octets.{all}
 use Rattle.octets.proofs.Bools.{both}
 use Rattle.hex.specs.Hex.{digit, isDigit, digitOf}
 use Rattle.hex.proofs.Digits.{character-spells, digit-spells}
@@ -41,14 +41,6 @@ digits-all zero n = refl
 digits-all (suc w) n =
     all-append isDigit (digits w (n / 16)) (digit (n % 16) ∷ []) (digits-all w (n / 16))
     (rw (digit-spells (n % 16) (omega arith) .is))
-
-pub all-bytes : (xs : List ℕ) → all isDigit xs ≡ true → Bytes xs
-unfolding all
-all-bytes [] h = tt
-all-bytes (x ∷ xs) h =
-    let t = both (isDigit x) (all isDigit xs) h in
-    let s = character-spells x (t .0) in
-    (omega arith, all-bytes xs (t .1))
 
 after-snoc : (a : ℕ) (xs : List ℕ) (y : ℕ) → fromDigitsAfter a (xs ++ (y ∷ [])) ≡ fromDigitsAfter a xs * 16 + digitOf y
 unfolding fromDigitsAfter

@@ -9,7 +9,7 @@ use mathlib.Core.List.{List}
 use lib.ListN.{length}
 use lib.Dec.{eqb}
 use borrow.Author.Tests.{eqb-true, eq-eqb, ne-eqb}
-use Rattle.octets.specs.Octets.{all, Bytes}
+use Rattle.octets.specs.Octets.{all}
 use Rattle.octets.proofs.If.{ifb-true, ifb-false, on-if}
 use Rattle.hex.specs.Hex.{isDigit}
 use Rattle.hex.proofs.Digits.{digit-plain}
@@ -17,7 +17,7 @@ use Rattle.utf8.specs.Text.{isPlain, text}
 use Rattle.utf8.proofs.Texts.{text-plain}
 use Rattle.identifier.specs.Identifier.{digits, fromDigitsAfter, identifier, identifierSize, serialOf}
 use Rattle.octets.proofs.Bools.{both}
-use Rattle.identifier.proofs.Digits.{length-digits, digits-all, all-bytes, all-weaker, digits-back, digits-after, after-lt}
+use Rattle.identifier.proofs.Digits.{length-digits, digits-all, all-weaker, digits-back, digits-after, after-lt}
 
 -- ---- the text of a serial
 
@@ -28,9 +28,6 @@ length-identifier s = length-digits 8 s
 pub identifier-digits : (s : ℕ) → all isDigit (identifier s) ≡ true
 unfolding identifier
 identifier-digits s = digits-all 8 s
-
-pub identifier-bytes : (s : ℕ) → Bytes (identifier s)
-identifier-bytes s = all-bytes (identifier s) (identifier-digits s)
 
 pub identifier-text : (s : ℕ) → text (identifier s) ≡ true
 identifier-text s = text-plain (identifier s) (all-weaker isDigit isPlain digit-plain (identifier s) (identifier-digits s))

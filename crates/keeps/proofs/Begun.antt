@@ -24,9 +24,10 @@ use Rattle.rules.specs.Numbers.{preActive}
 use Rattle.rules.specs.declared.Offset.{Offset}
 use Rattle.search.specs.Search.{isDestroyed}
 use Rattle.date_rules.specs.Dates.{datedState}
-use Rattle.changes.specs.Records.{materialFrom, newRecord, heirActivation, heirDeactivation, offsetWrong, heirDated, heirOf}
-use Rattle.changes.proofs.Heirs.{heir-activation, heir-deactivation, heir-order, first-range, first-started}
-use Rattle.changes.proofs.Material.{length-material, bytes-material, material-tail}
+use Rattle.heirs.specs.Heirs.{heirActivation, heirDeactivation, offsetWrong, heirDated, heirOf}
+use Rattle.new_records.specs.New.{materialFrom, newRecord}
+use Rattle.heirs.proofs.Heirs.{heir-activation, heir-deactivation, heir-order, first-range, first-started}
+use Rattle.new_records.proofs.Material.{length-material, bytes-material, material-tail}
 
 -- "Length, mask, total and unit (1 or 2) as a sound table allows", or no limit; dates not negative and in order; no name, or one as a sound table has it
 pub record Allowed (wanted : Attributes) : Type 0 where

@@ -16,7 +16,7 @@ use Rattle.table.proofs.Places.{serial-is, name-is, length-with, with-swap}
 use Rattle.table.proofs.Lead.{last-swap}
 use Rattle.record_rules.proofs.Fit.{Fit, Dated}
 use Rattle.soundness.proofs.SoundIs.{Stands, Sound}
-use Rattle.changes.specs.Records.{linkedTo}
+use Rattle.heirs.specs.Heirs.{linkedTo}
 use Rattle.keeps.proofs.Stores.{Stored, stored, stored-last, Mutual, LinkedBut, LinkedAll, Bare, bare, linked, joined, other-serial, each-standing, bare-stored, linked-stored, Nameless, NamedWhere, NamedApart, named-stored, named-all}
 use Rattle.keeps.proofs.Edits.{mutual-as, limit-as}
 

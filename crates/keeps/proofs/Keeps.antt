@@ -36,7 +36,9 @@ use Rattle.rules.specs.declared.Next.the-variants.{To}
 use Rattle.rules.specs.declared.Granted.the-variants.{Left}
 use Rattle.rules.specs.States.{nextState, granting}
 use Rattle.date_rules.specs.Dates.{isLate}
-use Rattle.changes.specs.Records.{newRecord, offsetWrong, heirOf, movedTo, withCount}
+use Rattle.changes.specs.Records.{movedTo, withCount}
+use Rattle.heirs.specs.Heirs.{offsetWrong, heirOf}
+use Rattle.new_records.specs.New.{newRecord}
 use Rattle.changes.specs.Changes.{serialMost, isFull, nextSerial, bornAt, withBorn, withHeir}
 use Rattle.rules.proofs.Moves.{move}
 use Rattle.rules.proofs.Grants.{grant-is}

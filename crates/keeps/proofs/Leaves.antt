@@ -22,7 +22,9 @@ use Rattle.rules.specs.Numbers.{preActive}
 use Rattle.rules.specs.declared.Next.the-variants.{To}
 use Rattle.rules.specs.declared.Granted.the-variants.{Left}
 use Rattle.rules.specs.States.{nextState, granting}
-use Rattle.changes.specs.Records.{newRecord, offsetWrong, heirOf, linkedTo, movedTo, withCount}
+use Rattle.changes.specs.Records.{movedTo, withCount}
+use Rattle.heirs.specs.Heirs.{offsetWrong, heirOf, linkedTo}
+use Rattle.new_records.specs.New.{newRecord}
 use Rattle.changes.specs.Changes.{isFull, nextSerial, bornAt, withBorn, withHeir}
 use Rattle.rules.proofs.Moves.{move}
 use Rattle.rules.proofs.Grants.{grant-is}

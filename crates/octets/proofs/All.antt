@@ -3,7 +3,7 @@
 use mathlib.Core.Path.{_≡_, ap, _∙_}
 use Prim.Native.Nat.{ℕ, zero, suc, _+_, _≤_, _<_}
 use native.Mathlib.Numerals.{add-one}
-use mathlib.Core.Bool.{Bool, true, false, _&&_}
+use mathlib.Core.Bool.{Bool, true, _&&_}
 use mathlib.Core.List.{List, [], _∷_}
 use lib.ListN.{length, drop, getD, drop-of-length-le}
 use lib.Seq.{drop-cons}
@@ -14,12 +14,6 @@ module _ (p : ℕ → Bool) (s : List ℕ) (i : ℕ) where
   pub all-here : i < length s → all p (drop i s) ≡ (p (getD s i 0) && all p (drop (i + 1) s))
   unfolding all
   all-here h = rw (drop-cons s i 0, add-one)
-
-  pub all-go : i < length s → p (getD s i 0) ≡ true → all p (drop i s) ≡ all p (drop (i + 1) s)
-  all-go h e = all-here h ∙ rw e
-
-  pub all-stop : i < length s → p (getD s i 0) ≡ false → all p (drop i s) ≡ false
-  all-stop h e = all-here h ∙ rw e
 
   -- the same for a loop that carries a running test
   pub all-on : (b : Bool) → i < length s → (b && all p (drop i s)) ≡ ((b && p (getD s i 0)) && all p (drop (i + 1) s))

@@ -21,13 +21,6 @@ sets-append t at (x ∷ xs) ys = sets-append (set t at x) (suc at) xs ys ∙ rw 
 pub sets-then : (zs b d : List ℕ) {xs ys : List ℕ} (a : ℕ) → xs ≡ sets zs 0 b → length b ≡ a → ys ≡ sets xs a d → ys ≡ sets zs 0 (b ++ d)
 sets-then zs b d a e l h = h ∙ sym (rw (sets-append zs 0 b d, l, e, zero-add))
 
--- a store below a run goes before it or after it
-pub sets-set-below : (t : List ℕ) (at : ℕ) (xs : List ℕ) (j b : ℕ) → j < at → set (sets t at xs) j b ≡ sets (set t j b) at xs
-sets-set-below t at [] j b h = refl
-sets-set-below t at (x ∷ xs) j b h =
-    sets-set-below (set t at x) (suc at) xs j b (omega arith)
-    ∙ ap (λ (l : List ℕ). sets l (suc at) xs) (set-comm t at j x b (omega arith))
-
 -- and so does one above it
 pub sets-set-above : (t : List ℕ) (at : ℕ) (xs : List ℕ) (j b : ℕ) → at + length xs ≤ j → set (sets t at xs) j b ≡ sets (set t j b) at xs
 sets-set-above t at [] j b h = refl

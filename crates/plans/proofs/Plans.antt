@@ -13,7 +13,7 @@ use Rattle.rules.specs.declared.Reason.the-variants.{InvalidField}
 use Rattle.rules.specs.declared.Offset.{Offset}
 use Rattle.rules.specs.Tests.{Test, _⇒_, due}
 use Rattle.rules.proofs.Tests.{due-first, due-later, due-end}
-use Rattle.changes.specs.Records.{offsetWrong}
+use Rattle.heirs.specs.Heirs.{offsetWrong}
 use Rattle.plans.specs.declared.Performed.{Performed}
 use Rattle.plans.specs.Plans.{Env, Did, failing, refusal, carried, carriedOut, leaves, failed, rekeyPlan}
 

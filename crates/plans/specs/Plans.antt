@@ -22,7 +22,9 @@ use Rattle.rules.specs.Numbers.{activate, revoke, destroy}
 use Rattle.rules.specs.Tests.{Test, _⇒_, due}
 use Rattle.rules.specs.States.{activateTests, revokeTests, destroyTests, grantTests, movedState}
 use Rattle.date_rules.specs.Dates.{isLate}
-use Rattle.changes.specs.Records.{newRecord, offsetWrong, heirOf, movedTo, withCount}
+use Rattle.changes.specs.Records.{movedTo, withCount}
+use Rattle.heirs.specs.Heirs.{offsetWrong, heirOf}
+use Rattle.new_records.specs.New.{newRecord}
 use Rattle.changes.specs.Changes.{isFull, nextSerial, withBorn, withHeir}
 use Rattle.words.specs.Words.{wordsOf}
 use Rattle.plans.specs.declared.Shown.{Shown}

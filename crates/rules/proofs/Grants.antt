@@ -1,6 +1,6 @@
 -- Laws of a grant: state first, then limit, then amount; what is left where all three pass.
 -- Assumes nothing.
-use mathlib.Core.Path.{_≡_, sym, ap, _∙_}
+use mathlib.Core.Path.{_≡_}
 use Prim.Native.Nat.{ℕ, _-_, _≤_, _<_}
 use native.Mathlib.Omega.{arith}
 use native.Mathlib.Decide.{decLe, ℕ-discrete}
@@ -59,6 +59,3 @@ module _ (state unit count amount left : ℕ) where
       ]
     ]
   ]
-
-  pub is-grant : Grant state unit count amount left → granting state unit count amount ≡ Left left
-  is-grant g = takes-off state unit count amount (g .usable) (g .limited) (g .enough) ∙ ap Left (sym (g .rest))

@@ -1,12 +1,11 @@
 -- What the answers of `failure_of` and `try_items` say in the papers' numbers is what becomes of the items.
 -- Assumes nothing.
-use mathlib.Core.Path.{_≡_, refl, sym, ap, _∙_}
+use mathlib.Core.Path.{_≡_, refl, sym}
 use Prim.Native.Nat.{ℕ}
 use mathlib.Core.List.{List}
 use Rattle.octets.specs.If.{ifb}
 use Rattle.octets.proofs.If.{ifb-true, ifb-false}
 use Rattle.rules.specs.Numbers.{success, operationFailed, operationUndone}
-use Rattle.rules.specs.declared.Reason.{Reason}
 use Rattle.plans.specs.declared.Outcome.{Outcome}
 use Rattle.plans.specs.Plans.{isFailed}
 use Rattle.answer.specs.Respond.{Answer}

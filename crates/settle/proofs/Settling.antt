@@ -15,8 +15,8 @@ use Rattle.batch.specs.Batch.{Ran, firstItem}
 use Rattle.batch.specs.Runs.{askedFrom, AnswersAre, RanIs, ranOver}
 use Rattle.settle.specs.declared.Trial.{Trial}
 use Rattle.settle.specs.declared.Trial.the-variants.{Passes, FailsAt}
-use Rattle.settle.specs.Undo.{undoneTo, settled}
-use Rattle.settle.specs.Trials.{firstFailure, undoneOver, TriedIs, Settles, SettledIs}
+use Rattle.undone_answers.specs.Undone.{undoneTo, undoneOver}
+use Rattle.settle.specs.Trials.{firstFailure, TriedIs, Settles, SettledIs}
 use Rattle.settle.proofs.Undo.{fails-any, passes-none, undone-is, settled-other, kept-other, kept-undo, settled-none, settled-any}
 
 module _ {n : ℕ} {items t fresh out buffer : List ℕ} (asks : Settles n items t fresh out buffer) {option : ℕ} where

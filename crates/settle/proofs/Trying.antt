@@ -3,7 +3,7 @@
 use Prim.Native.Nat.{ℕ, _+_, _-_, _*_}
 use mathlib.Core.Path.{_≡_, refl, sym, ap, subst, _∙_}
 use mathlib.Core.Bool.{true, false}
-use mathlib.Core.List.{List, [], _∷_}
+use mathlib.Core.List.{List, []}
 use lib.ListN.{length, take, drop}
 use Rattle.octets.specs.If.{ifb}
 use Rattle.octets.specs.Octets.{part}
@@ -18,7 +18,8 @@ use Rattle.frame.specs.Frame.{undo}
 use Rattle.plans.specs.Plans.{Did, emptyHolder, isFailed}
 use Rattle.answer.specs.Respond.{Answer}
 use Rattle.batch.specs.declared.Carried.{Carried}
-use Rattle.batch.specs.Batch.{Ran, answerTo, lastly, firstly, endsBatch, batch, firstItem, stripSize}
+use Rattle.batch.specs.Batch.{Ran, answerTo, lastly, firstly, endsBatch, batch, firstItem}
+use Rattle.calls.specs.Effects.{stripSize}
 use Rattle.batch.specs.Runs.{askedIn, askedFrom, doing, CarriesOne, CarriedIs, Carries, ranOver}
 use Rattle.batch.proofs.Left.{Left, Next, all-left, no-more, rest-left}
 use Rattle.batch.proofs.Turns.{lentPart, own-part, batch-turn}

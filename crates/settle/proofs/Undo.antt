@@ -23,8 +23,10 @@ use Rattle.settle.specs.declared.Failure.{Failure}
 use Rattle.settle.specs.declared.Failure.the-variants.{Because, NoFailure}
 use Rattle.settle.specs.declared.Trial.{Trial}
 use Rattle.settle.specs.declared.Trial.the-variants.{Passes, FailsAt}
-use Rattle.settle.specs.Undo.{anyFailed, isUndone, orUndone, undoneTo, settled, keptIn}
-use Rattle.settle.specs.Trials.{failureOf, failsOr, firstFailure, saidOf, undoneFrom}
+use Rattle.undone_answers.specs.Undone.{orUndone, undoneTo, saidOf, undoneFrom}
+use Rattle.undone_answers.proofs.Undone.{said-failed, said-undone}
+use Rattle.settle.specs.Undo.{anyFailed, settled, keptIn}
+use Rattle.settle.specs.Trials.{failureOf, failsOr, firstFailure}
 
 -- ---- one outcome
 
@@ -106,21 +108,21 @@ module _ (n : ℕ) (fresh : List ℕ) (k : ℕ) (reason : Reason) where
 
   -- by its first item: one that failed
   told-last : (i : ℕ) (asked : Asked) (later : List Asked) (did : Did) (r : Reason) → did .outcome ≡ Failed r → Told i (asked ∷ later) (lastly (answerTo asked did) (did .table))
-  unfolding firstFailure failsOr failureOf undoneFrom saidOf orUndone isFailed ifb
+  unfolding firstFailure failsOr failureOf undoneFrom
   told-last i asked later did r o q =
       let s : FailsAt i r ≡ FailsAt k reason = sym (ap (λ (y : Outcome). failsOr i Passes (failureOf y)) o) ∙ q in
       let here : eqb i k ≡ true = eq-eqb i k (ap (indexIn 0) s) in
-      let said : orUndone (did .outcome) ≡ saidOf (eqb i k) reason = ap orUndone (o ∙ ap Failed (ap (reasonIn r) s)) ∙ sym (ap (λ (y : Bool). saidOf y reason) here) in
+      let said : orUndone (did .outcome) ≡ saidOf (eqb i k) reason = said-failed (did .outcome) (eqb i k) reason (o ∙ ap Failed (ap (reasonIn r) s)) here in
       ap (λ (y : Outcome). answerWith asked y ∷ []) said ∙ sym (ifb-true (eqb i k) _ _ here)
 
   -- or one that did not
   told-later : (i : ℕ) (asked : Asked) (later : List Asked) (did : Did) (rest : Ran) → failureOf (did .outcome) ≡ NoFailure → isFailed (did .outcome) ≡ false → Told (i + 1) later rest
       → Told i (asked ∷ later) (firstly (answerTo asked did) rest)
-  unfolding firstFailure failsOr undoneFrom saidOf orUndone
+  unfolding firstFailure failsOr undoneFrom
   told-later i asked later did rest e b hyp q =
       let s : firstFailure (i + 1) (rest .answers) ≡ FailsAt k reason = sym (ap (failsOr i (firstFailure (i + 1) (rest .answers))) e) ∙ q in
       let past : eqb i k ≡ false = ne-eqb i k (λ z. let l = fails-from (i + 1) (rest .answers) s in omega arith) in
-      let said : orUndone (did .outcome) ≡ saidOf (eqb i k) reason = ifb-false _ _ _ b ∙ sym (ap (λ (y : Bool). saidOf y reason) past ∙ ifb-false false _ _ refl) in
+      let said : orUndone (did .outcome) ≡ saidOf (eqb i k) reason = said-undone (did .outcome) (eqb i k) reason b past in
       ap₂ (λ (y : Outcome) (z : List Answer). answerWith asked y ∷ z) said (hyp s) ∙ sym (ifb-false (eqb i k) _ _ past)
 
   told-first : (i : ℕ) (asked : Asked) (later : List Asked) (did : Did) (rest : Ran) → Told (i + 1) later rest

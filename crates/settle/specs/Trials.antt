@@ -1,22 +1,15 @@
--- What the functions of this crate ask and answer: a batch that is tried, and the answers of one that failed, which are written from the request alone.
+-- What the functions of this crate ask and answer: a batch that is tried, and the whole.
 -- Assumes nothing.
-use Prim.Native.Nat.{ℕ, _+_, _≤_}
+use Prim.Native.Nat.{ℕ, _+_}
 use mathlib.Core.Path.{_≡_}
-use mathlib.Core.Bool.{Bool}
 use mathlib.Core.List.{List, [], _∷_}
 use lib.ListN.{length}
-use lib.Dec.{eqb}
-use Rattle.octets.specs.If.{ifb}
-use Rattle.rules.specs.declared.Reason.{Reason}
-use Rattle.batch_item.specs.Item.{Asked}
-use Rattle.frame.specs.Frame.{undo}
 use Rattle.plans.specs.declared.Outcome.{Outcome}
 use Rattle.plans.specs.declared.Outcome.the-variants.{Failed, Created, Done, Showed, Got, Located, Undone}
 use Rattle.answer.specs.Respond.{Answer}
-use Rattle.answer.specs.Front.{longestItem}
 use Rattle.batch.specs.declared.BatchDone.{BatchDone}
-use Rattle.batch.specs.Batch.{Ran, answerWith, firstItem}
-use Rattle.batch.specs.Runs.{askedFrom, ReadsOne, Reads, Runs, answersMost, RanIs, ranOver}
+use Rattle.batch.specs.Batch.{Ran, firstItem}
+use Rattle.batch.specs.Runs.{Runs, RanIs}
 use Rattle.settle.specs.declared.Failure.{Failure}
 use Rattle.settle.specs.declared.Failure.the-variants.{Because, NoFailure}
 use Rattle.settle.specs.declared.Trial.{Trial}
@@ -49,34 +42,6 @@ firstFailure i (a ∷ answers) = failsOr i (firstFailure (i + 1) answers) (failu
 pub record TriedIs (ran : Ran) (r : Trial) (t′ : List ℕ) : Type 0 where
   pub trial : r ≡ firstFailure firstItem (ran .answers)
   pub table : t′ ≡ ran .table
-
--- ---- the answers of a batch that failed
-
--- what is said of an item of a batch that failed: the reason of the one that failed, and that any other was undone
-unfoldable pub saidOf : Bool → Reason → Outcome
-saidOf failed reason = ifb failed (Failed reason) Undone
-
--- the answers to items, numbered from i on, of which item k failed; nothing is answered behind it
-unfoldable pub undoneFrom : ℕ → ℕ → Reason → List Asked → List Answer
-undoneFrom i k reason [] = []
-undoneFrom i k reason (asked ∷ later) =
-    let rest = undoneFrom (i + 1) k reason later in
-    let answer = answerWith asked (saidOf (eqb i k) reason) in
-    ifb (eqb i k) (answer ∷ []) (answer ∷ rest)
-
--- the answers to the items that some bytes say
-abbrev pub undoneOver : ℕ → Reason → List ℕ → List Answer
-undoneOver k reason items = undoneFrom firstItem k reason (askedFrom items)
-
--- an item that can be answered from the request alone: it was read, and the room is large enough
-pub record TellsOne (body out : List ℕ) : Type 0 where
-  pub reads : ReadsOne body
-  pub room : longestItem ≤ length out
-
--- and a batch of them
-pub record Tells (items out : List ℕ) : Type 0 where
-  pub reads : Reads items
-  pub fits : answersMost ≤ length out
 
 -- ---- the whole
 

@@ -6,11 +6,10 @@ use mathlib.Core.List.{List, [], _∷_, map}
 use lib.Dec.{eqb}
 use Rattle.octets.specs.If.{ifb}
 use Rattle.frame.specs.Frame.{undo}
-use Rattle.plans.specs.declared.Outcome.{Outcome}
-use Rattle.plans.specs.declared.Outcome.the-variants.{Undone}
 use Rattle.plans.specs.Plans.{isFailed}
 use Rattle.answer.specs.Respond.{Answer}
 use Rattle.batch.specs.Batch.{Ran}
+use Rattle.undone_answers.specs.Undone.{undoneTo}
 
 -- "if any item fails"
 unfoldable pub anyFailed : List Answer → Bool
@@ -20,13 +19,6 @@ anyFailed (a ∷ answers) = isFailed (a .outcome) || anyFailed answers
 -- whether a batch with these answers is undone: "option 3"
 abbrev pub isUndone : ℕ → List Answer → Bool
 isUndone option answers = eqb option undo && anyFailed answers
-
--- "those that had succeeded carry status 3 (Operation Undone) and no payload, the failed one its reason"
-unfoldable pub orUndone : Outcome → Outcome
-orUndone outcome = ifb (isFailed outcome) outcome Undone
-
-abbrev pub undoneTo : Answer → Answer
-undoneTo a = record { operation = a .operation; id = a .id; outcome = orUndone (a .outcome) }
 
 -- "the table after the request is the table before it, apart from the latest clock and the due changes": `start` is the table before the first item
 unfoldable pub settled : ℕ → List ℕ → Ran → Ran

@@ -64,10 +64,6 @@ module _ (t : List ℕ) (s : ℕ) where
     pub line-last : part (withLast t s) (lineStart i) lineSize ≡ part t (lineStart i) lineSize
     line-last = part-last t s (lineStart i) lineSize (omega arith)
 
-    pub serial-last : serialAt (withLast t s) i ≡ serialAt t i
-    unfolding serialAt
-    serial-last = ap fromBe (part-last t s (lineStart i + serialIn) 4 (omega arith))
-
     module _ (n : ℕ) where
       pub body-last : part (withLast t s) (bodyStart n i) bodySize ≡ part t (bodyStart n i) bodySize
       body-last = part-last t s (bodyStart n i) bodySize (omega arith)

@@ -127,9 +127,6 @@ module _ (n : ℕ) (t : List ℕ) (i : ℕ) (r : Record) (big : Table n t) (lo :
     pub serial-other : serialAt (withPlace n t i r) j ≡ serialAt t j
     serial-other = serial-is n (withPlace n t i r) j ∙ ap (λ (x : Record). x .serial) place-other ∙ sym (serial-is n t j)
 
-    pub name-other : nameAt n (withPlace n t i r) j ≡ nameAt n t j
-    name-other = name-is n (withPlace n t i r) j ∙ ap (λ (x : Record). x .name) place-other ∙ sym (name-is n t j)
-
 module _ (n : ℕ) (t : List ℕ) (i : ℕ) (r : Record) (big : Table n t) (lo : i < n) (h : InRange r) where
   pub place-same : placeAt n (withPlace n t i r) i ≡ r
   unfolding placeAt
@@ -137,9 +134,6 @@ module _ (n : ℕ) (t : List ℕ) (i : ℕ) (r : Record) (big : Table n t) (lo :
 
   pub serial-same : serialAt (withPlace n t i r) i ≡ r .serial
   serial-same = serial-is n (withPlace n t i r) i ∙ ap (λ (x : Record). x .serial) place-same
-
-  pub name-same : nameAt n (withPlace n t i r) i ≡ r .name
-  name-same = name-is n (withPlace n t i r) i ∙ ap (λ (x : Record). x .name) place-same
 
   -- a store that keeps the serial keeps every serial
   pub serial-with : r .serial ≡ serialAt t i → (j : ℕ) → j < n → serialAt (withPlace n t i r) j ≡ serialAt t j

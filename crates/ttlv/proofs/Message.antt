@@ -13,7 +13,6 @@ use Rattle.ttlv.specs.Tree.{isRun, orNone, treeOf}
 use Rattle.ttlv.proofs.Put.{no-some, same-some}
 use Rattle.ttlv.proofs.Spells.{parse-spells}
 use Rattle.ttlv.proofs.Back.{parse-back}
-use Rattle.ttlv.proofs.Well.{parse-well}
 use Rattle.ttlv.proofs.Tree.{some-is, parse-run, parse-tree}
 
 -- ---- a message is a run that is one item
@@ -45,10 +44,6 @@ message-spells s t h e = parse-spells depthMost s t h (message-is s t e .0)
 -- what is written is read back
 pub message-back : (t : Items) → wellFormed depthMost t ≡ true → isOne t ≡ true → message (encode t) ≡ some t
 message-back t w o = is-message (encode t) t (parse-back depthMost t w) o
-
--- what is read is well-formed, and one item
-pub message-well : (s : List ℕ) (t : Items) → Bytes s → message s ≡ some t → (wellFormed depthMost t ≡ true) × (isOne t ≡ true)
-message-well s t h e = (parse-well depthMost s t h (message-is s t e .0), message-is s t e .1)
 
 -- the item of a message is what its bytes stand for
 pub message-tree : (s : List ℕ) (t : Items) → message s ≡ some t → (isRun s ≡ true) × (treeOf s ≡ t)

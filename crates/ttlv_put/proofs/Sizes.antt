@@ -9,7 +9,7 @@ use Rattle.octets.specs.Octets.{be}
 use Rattle.octets.proofs.Numbers.{length-be}
 use Rattle.ttlv_types.specs.Types.{structure, padded}
 use Rattle.ttlv.specs.Items.{Items, nil, value, group, head, encode}
-use Rattle.ttlv.proofs.Sizes.{size, size-nil, size-value, size-group}
+use Rattle.ttlv.proofs.Sizes.{size, size-nil, size-value}
 use Rattle.ttlv_put.specs.Write.{numberItem, join}
 
 -- ---- sizes
@@ -29,9 +29,6 @@ pub encode-group : (tag : ℕ) (b : Items) → encode (group tag b nil) ≡ head
 unfolding encode
 encode-group tag b = rw append-nil
 
-pub length-group : (tag : ℕ) (b : Items) → length (encode (group tag b nil)) ≡ 8 + length (encode b)
-length-group tag b = size-group tag b nil ∙ rw size-nil (omega arith)
-
 -- ---- items behind items
 
 pub encode-join : (t u : Items) → encode (join t u) ≡ encode t ++ encode u
@@ -42,12 +39,6 @@ encode-join (group tag body rest) u = rw (encode-join rest u) (simp append-assoc
 
 pub length-join : (t u : Items) → length (encode (join t u)) ≡ length (encode t) + length (encode u)
 length-join t u = rw (encode-join, length-append)
-
-pub join-nil : (t : Items) → join t nil ≡ t
-unfolding join
-join-nil nil = refl
-join-nil (value tag kind v rest) = ap (value tag kind v) (join-nil rest)
-join-nil (group tag body rest) = ap (group tag body) (join-nil rest)
 
 pub join-assoc : (t u w : Items) → join (join t u) w ≡ join t (join u w)
 unfolding join

@@ -6,7 +6,7 @@ use mathlib.Core.List.{List, [], _∷_, _++_}
 use lib.ListN.{replicate}
 use lib.Dec.{eqb}
 use Rattle.octets.specs.Octets.{fromBe, part, same}
-use Rattle.engine.specs.Effects.{Effect}
+use Rattle.calls.specs.Effects.{Effect}
 use Rattle.hex.specs.Texts.{hex}
 use Rattle.cases.specs.Cards.{callWith, blankTable, continueRequest, answers, refuses}
 

@@ -14,7 +14,7 @@ use Rattle.octets.proofs.If.{ifb-true}
 use Rattle.octets.proofs.Bools.{and-l, and-r}
 use Rattle.table.specs.Layout.{smallCount}
 use Rattle.table.specs.Records.{blank}
-use Rattle.engine.specs.Effects.{Effect}
+use Rattle.calls.specs.Effects.{Effect}
 use Rattle.demands.specs.Box.{Call, Lent}
 use Rattle.demands.specs.Demand2.{frameOf, ofFrame, refusalConditions, lowest}
 use Rattle.wrong_boxes.specs.Wrong.{orRefused}

@@ -27,7 +27,8 @@ use Rattle.search.proofs.First.{At-same, isNothing-at, found-is, fails-none}
 use Rattle.search.proofs.Finds.{new-free, new-destroyed}
 use Rattle.rules.specs.declared.Attributes.{Attributes}
 use Rattle.date_rules.specs.Dates.{startedState, stoppedState, datedState}
-use Rattle.changes.specs.Records.{newRecord, inState}
+use Rattle.changes.specs.Records.{inState}
+use Rattle.new_records.specs.New.{newRecord}
 use Rattle.changes.specs.Dates.{ripened, began}
 use Rattle.changes.specs.Changes.{serialMost, isFull, nextSerial, withBorn}
 use Rattle.keeps.proofs.Begun.{Allowed}

@@ -1,13 +1,6 @@
--- What shuts each wrong box out, and which demands it meets.
+-- Calls that the boxes are given, tables that are filled, and what demand 2 asks of a box: what the refutations share.
 -- Assumes nothing.
 pub mod Calling
-pub mod Harmless
-pub mod Answering
-pub mod Granting
 pub mod Filling
-pub mod Reaching
-pub mod Regranting
-pub mod Waking
-pub mod Handing
-pub mod Turning
-pub mod Undoing
+pub mod Due
+pub mod Ending

@@ -30,7 +30,7 @@ use Rattle.plans.specs.declared.Key.{Key}
 use Rattle.plans.specs.declared.Outcome.{Outcome}
 use Rattle.plans.specs.declared.Outcome.the-variants.{Failed, Created, Done, Showed, Got, Located, Undone}
 use Rattle.answer.specs.Respond.{Answer, respond}
-use Rattle.engine.specs.Effects.{Effect}
+use Rattle.calls.specs.Effects.{Effect}
 use Rattle.batch.specs.Batch.{Ran, running}
 use Rattle.settle.specs.Undo.{settled, keptIn}
 use Rattle.engine.specs.Serving.{turnedAway, serving}

@@ -1,2 +1,2 @@
-// Boxes that do what 00 and 01 warn of, and the demand that each of them breaks.
+// Boxes that do what 00, 01 and 02 warn of, as definitions, and what their refutations share.
 // It has no function.

@@ -3,7 +3,7 @@
 use native.Mathlib.Omega.{arith}
 use borrow.Author.Needs.{needs}
 use Rattle.changes.specs.Records.{inState, withDates}
-use Rattle.changes.proofs.Material.{moved-destroy, moved-other}
+use Rattle.changes.proofs.Moves.{moved-destroy, moved-other}
 use Rattle.changes.proofs.moved_to.Statement.{statement}
 use Rattle.changes.proofs.moved_to.Tie as tie
 

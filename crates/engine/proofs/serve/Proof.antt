@@ -7,7 +7,7 @@ use native.Mathlib.Omega.{arith}
 use mir.Syntax.{w64}
 use mir.Val.{ofZ}
 use mir.Facts.{toZ-ofZ}
-use Rattle.engine.proofs.Early.{Passed, passed}
+use Rattle.refusals.proofs.Early.{Passed, passed}
 use Rattle.engine.proofs.Serves.{Asks, early-away, frame-away, frame-asks, from-within, lead-there, late-away, runs-from, served-is}
 use borrow.Author.Needs.{needs}
 use Rattle.engine.proofs.serve.Statement.{statement}

@@ -1,0 +1,3 @@
+-- The sizes of a call, worked out.
+-- Assumes nothing.
+pub mod Worked

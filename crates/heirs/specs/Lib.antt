@@ -1,0 +1,3 @@
+-- How a record is replaced.
+-- Assumes nothing.
+pub mod Heirs

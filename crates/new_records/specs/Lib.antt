@@ -1,0 +1,3 @@
+-- How a record begins.
+-- Assumes nothing.
+pub mod New

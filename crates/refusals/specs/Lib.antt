@@ -1,0 +1,3 @@
+-- The refusals that are not the frame's.
+-- Assumes nothing.
+pub mod Refusals

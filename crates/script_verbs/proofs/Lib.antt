@@ -1,0 +1,3 @@
+-- That the command of a word is unique.
+-- Assumes nothing.
+pub mod Unique

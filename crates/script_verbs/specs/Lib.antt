@@ -1,0 +1,3 @@
+-- The commands of a script by their names.
+-- Assumes nothing.
+pub mod Verbs
