@@ -47,8 +47,8 @@ use Rattle.calls.specs.Effects.{Effect}
 use Rattle.demands.specs.Box.{Call, Box, counted, placesOf}
 use Rattle.demands.specs.Demand1.{refusals, longest}
 use Rattle.demands.specs.Demand2.{Link, refusalConditions, ofFrame, lowest, goesOn, linkAt, answerFor, anyFails, isUndone, settled, undoneFor, answersFor, keptFor}
-use Rattle.demands.specs.Log.{Event, heldAfter, paired, orNoItems, orNoAnswers, onto, issuedBy, issued, grantBy, granted, limitBy, limit, handedBy, destroyedBy, wasDestroyed, handedDead}
-use Rattle.demands.specs.Demand3.{Run, begins, namedBy, isUnderstood, movesState, asksKey, asksName, isMade, carries, codeOf, names, takes, mayTake, bornBy, foundIn, bornState, listed, listedFor, listedBy}
+use Rattle.demands.specs.Log.{Event, heldAfter, paired, orNoItems, orNoAnswers, onto, issuedBy, issued, grantBy, granted, limitBy, limit, nameBy, heirFrom, nameIn, handedBy, destroyedBy, wasDestroyed, handedDead}
+use Rattle.demands.specs.Demand3.{Run, begins, namedBy, isUnderstood, movesState, asksKey, asksHeir, asksUnits, asksName, isMade, carries, codeOf, names, takes, mayTake, bornBy, nameBorn, foundIn, bornState, listed, listedFor, listedBy}
 
 -- ---- commands and outcomes
 
@@ -108,6 +108,10 @@ commandCases =
     ∷ same (map codeOf commands) (0 ∷ 0 ∷ 0 ∷ 0 ∷ 0 ∷ 0 ∷ 5 ∷ 0 ∷ 0 ∷ 0 ∷ 0 ∷ [])
     -- Get alone asks for the key itself
     ∷ same (map (λ c. flag (asksKey c)) commands) (0 ∷ 0 ∷ 0 ∷ 0 ∷ 0 ∷ 0 ∷ 0 ∷ 0 ∷ 0 ∷ 1 ∷ 0 ∷ [])
+    -- Re-key alone for a replacement
+    ∷ same (map (λ c. flag (asksHeir c)) commands) (0 ∷ 0 ∷ 0 ∷ 1 ∷ 0 ∷ 0 ∷ 0 ∷ 0 ∷ 0 ∷ 0 ∷ 0 ∷ [])
+    -- Get Usage Allocation alone for units
+    ∷ same (map (λ c. flag (asksUnits c)) commands) (0 ∷ 0 ∷ 0 ∷ 0 ∷ 1 ∷ 0 ∷ 0 ∷ 0 ∷ 0 ∷ 0 ∷ 0 ∷ [])
     -- and Locate alone for a record by its name
     ∷ same (map (λ c. flag (asksName c)) commands) (0 ∷ 0 ∷ 0 ∷ 0 ∷ 0 ∷ 0 ∷ 0 ∷ 0 ∷ 0 ∷ 0 ∷ 1 ∷ [])
     -- Create issues by Created, Re-key by Done, and nothing else issues
@@ -280,6 +284,19 @@ heldIn l = map (λ (ev : Event). ev .held) l
 limitOf : Event → Command → ℕ
 limitOf ev c = limitBy ev c (λ x. 500 + x)
 
+-- Create with the name "ab", and Re-key of it, answered so
+named : Outcome → List Event
+named outcome =
+    onto (paired 0 (asking 0x01 (hex "42005705 00000004 00000002 00000000 42012501 00000058 42002805 00000004 00000003 00000000 42002A02 00000004 00000080 00000000 42002C02 00000004 00000004 00000000 42005301 00000020 42005507 00000002 61620000 00000000 42005405 00000004 00000001 00000000") ∷ asking 0x04 (hex "42009407 00000008 30303030 30303031") ∷ []) (answering 0x01 (Created 1) ∷ answering 0x04 outcome ∷ [])) []
+
+-- the lengths of the names that a log gives to the identifiers 1 to 4
+namesOf : List Event → List ℕ
+namesOf l = map (λ x. nameIn x l .len) (1 ∷ 2 ∷ 3 ∷ 4 ∷ [])
+
+-- a key with a name of three bytes
+calledKey : Record
+calledKey = record { serial = 7; state = 1; unit = 0; bits = 128; replaced = 0; replacement = 0; total = 0; count = 0; mask = 4; material = []; activation = 0; deactivation = 0; name = nameOf (hex "616263") }
+
 -- an event with a placeholder
 holding : ℕ → Event
 holding held = record { held = held; asked = asking 0 []; answer = answering 0 (Done 0) }
@@ -309,6 +326,15 @@ logCases =
     ∷ same (ofEach limit []) of-none
     ∷ same (map (limitOf (holding 3)) commands) (0 ∷ 0 ∷ 100 ∷ 507 ∷ 0 ∷ 0 ∷ 0 ∷ 0 ∷ 0 ∷ 0 ∷ 0 ∷ [])
     ∷ same (map (limitOf (holding 3)) heldCommands) (503 ∷ 0 ∷ 0 ∷ 0 ∷ 0 ∷ 0 ∷ 0 ∷ [])
+    -- a name goes from the old key to the new, and stays where Re-key failed or was undone
+    ∷ same (namesOf (named (Done 2))) (0 ∷ 2 ∷ 0 ∷ 0 ∷ [])
+    ∷ same (namesOf (named (Failed UsageLimitExceeded))) (2 ∷ 0 ∷ 0 ∷ 0 ∷ [])
+    ∷ same (namesOf (named Undone)) (2 ∷ 0 ∷ 0 ∷ 0 ∷ [])
+    ∷ same (namesOf []) of-none
+    ∷ same (map (heirFrom 3) commands) (0 ∷ 0 ∷ 0 ∷ 7 ∷ 0 ∷ 0 ∷ 0 ∷ 0 ∷ 0 ∷ 0 ∷ 0 ∷ [])
+    ∷ same (map (heirFrom 3) heldCommands) (3 ∷ 0 ∷ 0 ∷ 0 ∷ 0 ∷ 0 ∷ 0 ∷ [])
+    ∷ same (map (λ c. nameBorn c calledKey .len) commands) (0 ∷ 0 ∷ 0 ∷ 3 ∷ 0 ∷ 0 ∷ 0 ∷ 0 ∷ 0 ∷ 0 ∷ 0 ∷ [])
+    ∷ same (nameBorn (Create (record { bits = 128; mask = 4; unit = 0; total = 0; activation = 0; deactivation = 0; name = nameOf (hex "6162") })) calledKey .len ∷ []) (2 ∷ [])
     -- 3 was destroyed; what was handed out of it before does not count, and each time after does
     ∷ same (ofEach destroyedIn log) (0 ∷ 0 ∷ 1 ∷ 0 ∷ [])
     ∷ same (ofEach destroyedIn (got ∷ log)) (0 ∷ 0 ∷ 1 ∷ 0 ∷ [])
@@ -478,7 +504,7 @@ cases = commandCases ++ (stateCases ++ (dateCases ++ (logCases ++ (placeCases ++
 
 -- every case holds
 pub worked : all (λ b. b) cases ≡ true
-unfolding cases large late refusalConditions placesSaid isMade anyFails settled undoneFor answersFor keptFor undoneEvents undoneLog gotUndone third passing failing status statuses tables options bornBy foundIn heirActivation heirDeactivation datedState stoppedState startedState dateCases datedKey dueTo dueFrom listedBy before latestClock key of-none destroyedIn got asksKey asksName carries handedBy destroyedBy wasDestroyed handedDead commandCases stateCases logCases placeCases callCases commands heldCommands outcomes flag matrix none-of eight waysTo waysFrom ways itemsRead asking items answering answers events log ofEach heldIn limitOf holding keyed activating rekeying ofPlaces call second goesOn isFailed answerFor namedBy isUnderstood movesState codeOf listed isAt heldAfter paired orNoItems orNoAnswers onto issuedBy issued grantBy granted limitBy limit ofFrame lowest sought ifb _>>=_ _>>_ isSome be fromBeAfter fromBe all same lengthOk text valueOk encode itemOk wellFormed ended headed firstOf putValue putGroup more walk parse startsWith bytesOf bodyOf numberOf optional digits identifier fromDigitsAfter serialOf limitIn limitFirst dateFirst orUnset datedIn lastNameIn nameFirst nameBody orNoName nameOf nameOk wantedOf limitedIn maskedIn attributesIn createIn targetOf targetIn offsetOf rekeyIn aloneIn allocationIn revokeIn locateIn onlyNameIn orInvalid command line body recordOf placeAt withPlace serialAt stateAt nameAt nameField storedName wordsOf wordBytes filled blank firstFrom orElse find freePlace destroyedPlace newPlace
+unfolding cases large late refusalConditions placesSaid isMade anyFails settled undoneFor answersFor keptFor undoneEvents undoneLog gotUndone third passing failing status statuses tables options bornBy foundIn heirActivation heirDeactivation datedState stoppedState startedState dateCases datedKey dueTo dueFrom listedBy before latestClock key of-none destroyedIn got named namesOf calledKey nameBy heirFrom nameIn nameBorn asksKey asksHeir asksUnits asksName carries handedBy destroyedBy wasDestroyed handedDead commandCases stateCases logCases placeCases callCases commands heldCommands outcomes flag matrix none-of eight waysTo waysFrom ways itemsRead asking items answering answers events log ofEach heldIn limitOf holding keyed activating rekeying ofPlaces call second goesOn isFailed answerFor namedBy isUnderstood movesState codeOf listed isAt heldAfter paired orNoItems orNoAnswers onto issuedBy issued grantBy granted limitBy limit ofFrame lowest sought ifb _>>=_ _>>_ isSome be fromBeAfter fromBe all same lengthOk text valueOk encode itemOk wellFormed ended headed firstOf putValue putGroup more walk parse startsWith bytesOf bodyOf numberOf optional digits identifier fromDigitsAfter serialOf limitIn limitFirst dateFirst orUnset datedIn lastNameIn nameFirst nameBody orNoName nameOf nameOk wantedOf limitedIn maskedIn attributesIn createIn targetOf targetIn offsetOf rekeyIn aloneIn allocationIn revokeIn locateIn onlyNameIn orInvalid command line body recordOf placeAt withPlace serialAt stateAt nameAt nameField storedName wordsOf wordBytes filled blank firstFrom orElse find freePlace destroyedPlace newPlace
 worked = refl
 
 -- a run begins with a blank table of its own number of places

@@ -16,20 +16,24 @@ use Rattle.search.specs.declared.Found.the-variants.{At, Nothing}
 use Rattle.search.specs.Search.{find, newPlace, isDestroyed}
 use Rattle.soundness.specs.Sound.{sound}
 use Rattle.soundness.specs.Checked.{isAt}
-use Rattle.rules.specs.Numbers.{activate, revoke, destroy, preActive}
+use Rattle.rules.specs.Numbers.{activate, revoke, destroy, preActive, active}
 use Rattle.rules.specs.States.{isCompromise}
 use Rattle.date_rules.specs.Dates.{hasCome, datedState}
 use Rattle.changes.specs.Records.{inState}
 use Rattle.heirs.specs.Heirs.{heirActivation, heirDeactivation}
+use Rattle.names.specs.declared.Name.{Name}
+use Rattle.names.specs.Names.{noName}
+use Rattle.octets.specs.If.{ifb}
 use Rattle.payload.specs.declared.Command.{Command}
 use Rattle.payload.specs.declared.Command.the-variants.{Unsupported, Invalid, Create, Rekey, GetUsageAllocation, Activate, Revoke, Destroy, GetAttributes, Get, Locate}
 use Rattle.plans.specs.declared.Outcome.{Outcome}
 use Rattle.plans.specs.declared.Outcome.the-variants.{Failed, Created, Done, Showed, Got, Located, Undone}
 use Rattle.act.specs.Act.{sought}
-use Rattle.plans.specs.Plans.{isFailed}
+use Rattle.plans.specs.declared.Key.{Key}
+use Rattle.plans.specs.Plans.{isFailed, keyOf}
 use Rattle.calls.specs.Effects.{Effect}
 use Rattle.demands.specs.Box.{Call, Box, Lent, counted}
-use Rattle.demands.specs.Log.{Event, commandOf, itemsAsked, answersGiven, eventsOf, logged, issuedBy, issued, grantBy, granted, limit, handedBy, wasDestroyed, handedDead}
+use Rattle.demands.specs.Log.{Event, commandOf, itemsAsked, answersGiven, eventsOf, logged, issuedBy, issued, grantBy, granted, limit, heirFrom, handedBy, wasDestroyed, handedDead}
 
 -- ---- what one item names and moves
 
@@ -103,6 +107,34 @@ asksKey (GetAttributes target) = false
 asksKey (Get target) = true
 asksKey (Locate name) = false
 
+-- whether a command asks for a replacement
+unfoldable pub asksHeir : Command → Bool
+asksHeir Unsupported = false
+asksHeir Invalid = false
+asksHeir (Create wanted) = false
+asksHeir (Rekey target offset) = true
+asksHeir (GetUsageAllocation target amount) = false
+asksHeir (Activate target) = false
+asksHeir (Revoke target code) = false
+asksHeir (Destroy target) = false
+asksHeir (GetAttributes target) = false
+asksHeir (Get target) = false
+asksHeir (Locate name) = false
+
+-- whether a command asks for units
+unfoldable pub asksUnits : Command → Bool
+asksUnits Unsupported = false
+asksUnits Invalid = false
+asksUnits (Create wanted) = false
+asksUnits (Rekey target offset) = false
+asksUnits (GetUsageAllocation target amount) = true
+asksUnits (Activate target) = false
+asksUnits (Revoke target code) = false
+asksUnits (Destroy target) = false
+asksUnits (GetAttributes target) = false
+asksUnits (Get target) = false
+asksUnits (Locate name) = false
+
 -- whether a command asks for a record by its name
 unfoldable pub asksName : Command → Bool
 asksName Unsupported = false
@@ -150,6 +182,20 @@ bornBy clock (Destroy target) r = preActive
 bornBy clock (GetAttributes target) r = preActive
 bornBy clock (Get target) r = preActive
 bornBy clock (Locate name) r = preActive
+
+-- 02, L6: the name with which an object begins: the one that Create asks for, or for Re-key that of the record which it replaces
+unfoldable pub nameBorn : Command → Record → Name
+nameBorn Unsupported r = noName
+nameBorn Invalid r = noName
+nameBorn (Create wanted) r = wanted .name
+nameBorn (Rekey target offset) r = r .name
+nameBorn (GetUsageAllocation target amount) r = noName
+nameBorn (Activate target) r = noName
+nameBorn (Revoke target code) r = noName
+nameBorn (Destroy target) r = noName
+nameBorn (GetAttributes target) r = noName
+nameBorn (Get target) r = noName
+nameBorn (Locate name) r = noName
 
 -- 01's list of transitions: Activate 1 to 2; Revoke with codes 2 and 3: 1, 2, 3 to 4 and 5 to 6, with the others 2 to 3; Destroy 1 and 3 to 5, 4 to 6
 unfoldable pub listed : ℕ → ℕ → ℕ → ℕ → Bool
@@ -209,6 +255,14 @@ module _ (n : ℕ) where
   abbrev pub bornState : Event → List ℕ → ℕ
   bornState ev t = bornBy (latestClock t) (commandOf ev) (foundIn t (find n t (namedBy (ev .held) (commandOf ev))))
 
+  -- the name with which an object begins that the item issued
+  abbrev pub bornName : Event → List ℕ → Name
+  bornName ev t = nameBorn (commandOf ev) (foundIn t (find n t (namedBy (ev .held) (commandOf ev))))
+
+  -- the item takes the name of the record at place i: it issued its replacement
+  abbrev pub unnames : Event → List ℕ → ℕ → Bool
+  unnames ev t i = not (eqb (issuedBy (commandOf ev) (ev .answer .outcome)) 0) && isAt i (find n t (heirFrom (ev .held) (commandOf ev)))
+
   -- the state at place i goes from t to u by a transition that is listed for the item
   abbrev pub listedFor : Event → List ℕ → List ℕ → ℕ → Bool
   listedFor ev t u i = listed (ev .asked .operation) (codeOf (commandOf ev)) (placeAt n t i .state) (placeAt n u i .state)
@@ -226,6 +280,7 @@ module _ (n : ℕ) where
     pub was : mayTake t i ≡ true
     pub serial : serialAt u i ≡ issuedBy (commandOf ev) (ev .answer .outcome)
     pub state : placeAt n u i .state ≡ bornState ev t
+    pub name : placeAt n u i .name ≡ bornName ev t
 
   -- a success is about the record that the item names, and carries its identifier
   pub record About (ev : Event) (t : List ℕ) : Type 0 where
@@ -233,6 +288,19 @@ module _ (n : ℕ) where
     pub below : place < n
     pub named : names ev t place ≡ true
     pub serial : carries (ev .answer .outcome) ≡ serialAt t place
+
+  -- what a search for a name answers, as the serial that its answer carries: none, and no record has the name; or that of a record that stands and has it
+  pub record Finds (name : Name) (t : List ℕ) (serial : ℕ) : Type 0 where
+    pub nothing : serial ≡ 0 → (j : ℕ) → j < n → placeAt n t j .name ≡ name → ⊥
+    pub there : (serial ≡ 0 → ⊥) → (i : ℕ) × Stands serial t i × (placeAt n t i .name ≡ name)
+
+  -- a replacement is that of a record that the item names, which stands, is not destroyed, and has none yet
+  pub record Renews (ev : Event) (t : List ℕ) : Type 0 where
+    pub place : ℕ
+    pub below : place < n
+    pub named : names ev t place ≡ true
+    pub live : isDestroyed (placeAt n t place .state) ≡ false
+    pub single : placeAt n t place .replacement ≡ 0
 
   pub record Tame (ev : Event) (t u : List ℕ) : Type 0 where
     -- the answer is the item's own, so that units and identifiers are counted as they were asked for: "Operation as given, the ID if given"
@@ -246,6 +314,8 @@ module _ (n : ℕ) where
     pub others : (i : ℕ) → i < n → names ev t i ≡ false → takes ev t i ≡ false → placeAt n u i ≡ placeAt n t i
     -- a record leaves its place only when a newer object takes it
     pub kept : (i : ℕ) → i < n → takes ev t i ≡ false → serialAt u i ≡ serialAt t i
+    -- 02, L6: a name stays with its record, but that Re-key takes it from the record which it replaces
+    pub called : (i : ℕ) → i < n → takes ev t i ≡ false → placeAt n u i .name ≡ ifb (unnames ev t i) noName (placeAt n t i .name)
     -- "no state changes but by the listed transitions"
     pub moves : (i : ℕ) → i < n → takes ev t i ≡ false → (placeAt n u i .state ≡ placeAt n t i .state → ⊥) → Moved ev t u i
     -- and what is answered as activated, revoked or destroyed is so: "stay dead" begins with being dead
@@ -256,12 +326,22 @@ module _ (n : ℕ) where
     pub stands : (issuedBy (commandOf ev) (ev .answer .outcome) ≡ 0 → ⊥) → (i : ℕ) × Stands (issuedBy (commandOf ev) (ev .answer .outcome)) u i
     -- a success that issues nothing and asks for no name "answers the identifier" of the record that it names
     pub about : isMade (ev .answer .outcome) ≡ true → issuedBy (commandOf ev) (ev .answer .outcome) ≡ 0 → asksName (commandOf ev) ≡ false → About ev t
+    -- one that issues a replacement is about the record that it names too: no total is copied from what does not stand, is dead, or was replaced before
+    pub renews : isMade (ev .answer .outcome) ≡ true → asksHeir (commandOf ev) ≡ true → Renews ev t
     -- one that asks for a name answers that of a record that stands, or none
     pub located : asksName (commandOf ev) ≡ true → (carries (ev .answer .outcome) ≡ 0 → ⊥) → (i : ℕ) × Stands (carries (ev .answer .outcome)) t i
+    -- and that of a record which has the name, if one has
+    pub found : (name : Name) → commandOf ev ≡ Locate name → isMade (ev .answer .outcome) ≡ true → Finds name t (carries (ev .answer .outcome))
     -- only Get hands out a key
     pub hands : (handedBy (ev .answer .outcome) ≡ 0 → ⊥) → asksKey (commandOf ev) ≡ true
     -- "once an identifier is in a destroyed state, no later Get for it succeeds": what is handed out is not destroyed
     pub alive : (i : ℕ) → i < n → names ev t i ≡ true → isMade (ev .answer .outcome) ≡ true → asksKey (commandOf ev) ≡ true → isDestroyed (placeAt n t i .state) ≡ false
+    -- a module with the wrong key signs as genuine: what is handed out is the key of the record that the item names
+    pub gives : (key : Key) → ev .answer .outcome ≡ Got key → (i : ℕ) → i < n → names ev t i ≡ true → key ≡ keyOf (placeAt n t i)
+    -- and a record has the same key as long as it stands and is not destroyed
+    pub holds : (i : ℕ) → i < n → takes ev t i ≡ false → isDestroyed (placeAt n u i .state) ≡ false → keyOf (placeAt n u i) ≡ keyOf (placeAt n t i)
+    -- "stay dead": units are granted to an Active key alone, and so to none that is destroyed
+    pub spends : (i : ℕ) → i < n → names ev t i ≡ true → isMade (ev .answer .outcome) ≡ true → asksUnits (commandOf ev) ≡ true → placeAt n t i .state ≡ active
     -- no item moves the clock
     pub latest : latestClock u ≡ latestClock t
     -- "Once a newer object has taken the place, that identifier is granted nothing more": what does not stand is granted nothing

@@ -11,6 +11,8 @@ use Rattle.octets.specs.If.{ifb}
 use Rattle.octets.specs.Maybe.{_>>=_}
 use Rattle.ttlv.specs.Parse.{message}
 use Rattle.rules.specs.Numbers.{rekey, destroy}
+use Rattle.names.specs.declared.Name.{Name}
+use Rattle.names.specs.Names.{noName}
 use Rattle.batch_item.specs.Item.{Asked}
 use Rattle.frame.specs.Frame.{Frame, frameIn}
 use Rattle.payload.specs.declared.Command.{Command}
@@ -161,6 +163,46 @@ limitBy e (Locate name) before = 0
 unfoldable pub limit : ℕ → List Event → ℕ
 limit x [] = 0
 limit x (e ∷ log) = let begun = limitBy e (commandOf e) (λ y. limit y log) in let before = limit x log in ifb (issues x e) begun before
+
+-- 02, L6: the name with which an identifier begins: that of its Create; for a Re-key, that of the identifier which it named
+unfoldable pub nameBy : Event → Command → (ℕ → Name) → Name
+nameBy e Unsupported before = noName
+nameBy e Invalid before = noName
+nameBy e (Create wanted) before = wanted .name
+nameBy e (Rekey target offset) before = before (sought (e .held) target)
+nameBy e (GetUsageAllocation target amount) before = noName
+nameBy e (Activate target) before = noName
+nameBy e (Revoke target code) before = noName
+nameBy e (Destroy target) before = noName
+nameBy e (GetAttributes target) before = noName
+nameBy e (Get target) before = noName
+nameBy e (Locate name) before = noName
+
+-- the identifier that a command replaces, by its identifier or by the placeholder; 0 where it replaces none
+unfoldable pub heirFrom : ℕ → Command → ℕ
+heirFrom held Unsupported = 0
+heirFrom held Invalid = 0
+heirFrom held (Create wanted) = 0
+heirFrom held (Rekey target offset) = sought held target
+heirFrom held (GetUsageAllocation target amount) = 0
+heirFrom held (Activate target) = 0
+heirFrom held (Revoke target code) = 0
+heirFrom held (Destroy target) = 0
+heirFrom held (GetAttributes target) = 0
+heirFrom held (Get target) = 0
+heirFrom held (Locate name) = 0
+
+-- the identifier that an event replaced; 0 where it issued no replacement
+abbrev pub replacedBy : Event → ℕ
+replacedBy e = ifb (eqb (issuedBy (commandOf e) (e .answer .outcome)) 0) 0 (heirFrom (e .held) (commandOf e))
+
+-- the name that x has: the one that it began with, until "Re-key moves it from the old key to the new"
+unfoldable pub nameIn : ℕ → List Event → Name
+nameIn x [] = noName
+nameIn x (e ∷ log) =
+    let begun = nameBy e (commandOf e) (λ y. nameIn y log) in
+    let before = nameIn x log in
+    ifb (issues x e) begun (ifb (eqb (replacedBy e) x) noName before)
 
 -- the serial of the key that an answer hands out; 0 where it hands out none
 unfoldable pub handedBy : Outcome → ℕ

@@ -71,7 +71,7 @@ from-six operation code to h =
     (and-never (eqb operation revoke && not (isCompromise code))))
     (and-never (eqb operation destroy))
 
-listed-stays : (operation code from to : ℕ) → listed operation code from to ≡ true → isDestroyed from ≡ true → isDestroyed to ≡ true
+pub listed-stays : (operation code from to : ℕ) → listed operation code from to ≡ true → isDestroyed from ≡ true → isDestroyed to ≡ true
 listed-stays operation code from to h d =
     on-or (eqb from 5) (eqb from 6) d
     (λ e. from-five operation code to (subst (λ (s : ℕ). listed operation code s to ≡ true) (eqb-true from 5 e) h))
@@ -124,7 +124,7 @@ moves-not (GetAttributes target) m = refl
 moves-not (Get target) m = refl
 moves-not (Locate name) m = absurd (false≢true m)
 
-asks-not : (c : Command) → asksKey c ≡ true → asksName c ≡ false
+pub asks-not : (c : Command) → asksKey c ≡ true → asksName c ≡ false
 unfolding asksKey asksName
 asks-not Unsupported m = refl
 asks-not Invalid m = refl
@@ -158,10 +158,10 @@ destroyed-is operation (Located serial) x z e = absurd (z (sym e))
 destroyed-is operation Undone x z e = absurd (z (sym e))
 
 -- an answer that handed x out
-record HandedOut (c : Command) (o : Outcome) (x : ℕ) : Type 0 where
-  issues : issuedBy c o ≡ 0
-  succeeded : isMade o ≡ true
-  carried : carries o ≡ x
+pub record HandedOut (c : Command) (o : Outcome) (x : ℕ) : Type 0 where
+  pub issues : issuedBy c o ≡ 0
+  pub succeeded : isMade o ≡ true
+  pub carried : carries o ≡ x
 
 no-issue-got : (c : Command) (key : Key) → issuedBy c (Got key) ≡ 0
 unfolding issuedBy
@@ -177,7 +177,7 @@ no-issue-got (GetAttributes target) key = refl
 no-issue-got (Get target) key = refl
 no-issue-got (Locate name) key = refl
 
-handed-is : (c : Command) (o : Outcome) (x : ℕ) → (x ≡ 0 → ⊥) → handedBy o ≡ x → HandedOut c o x
+pub handed-is : (c : Command) (o : Outcome) (x : ℕ) → (x ≡ 0 → ⊥) → handedBy o ≡ x → HandedOut c o x
 unfolding handedBy carries isMade
 handed-is c (Failed reason) x z e = absurd (z (sym e))
 handed-is c (Created serial) x z e = absurd (z (sym e))

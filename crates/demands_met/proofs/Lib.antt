@@ -5,6 +5,7 @@ pub mod Ladder
 pub mod Meets
 pub mod Counted
 pub mod Logged
+pub mod Locates
 pub mod Tame
 pub mod Dead
 pub mod Ordered
@@ -13,6 +14,10 @@ pub mod Unmade
 pub mod Opened
 pub mod Runs
 pub mod Follows
+pub mod Called
+pub mod Ways
+pub mod Handed
+pub mod Plainly
 pub mod Meets3
 pub mod Serve
 pub mod Only

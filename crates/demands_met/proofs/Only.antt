@@ -112,18 +112,19 @@ module _ (c : Call) (lent : Lent c) (e : Effect) (a : Accepted c) (g : Answered 
 
 -- ---- what demand 2 leaves of an accepted call
 
--- the table and the response are those that the definitions give
+-- the table, the response and the second buffer are those that the definitions give
 pub record AsDue (c : Call) (e : Effect) : Type 0 where
   pub table : e .table ≡ served c .table
   pub bytes : take (e .length) (e .output) ≡ take (served c .length) (served c .output)
+  pub undo : e .undo ≡ served c .undo
 
 pub answered-due : (c : Call) (e : Effect) → Lent c → Answered c e → served c .number ≡ 0 → AsDue c e
 unfolding answered
-answered-due c e lent g n = let p = by-told (served c) (told c) n in record { table = p .0; bytes = p .1 }
+answered-due c e lent g n = let p = by-told (served c) (told c) n in record { table = p .0; bytes = p .1; undo = p .2 }
   where
-    by-told : (f : Effect) → Told c f → f .number ≡ 0 → (e .table ≡ f .table) × (take (e .length) (e .output) ≡ take (f .length) (f .output))
+    by-told : (f : Effect) → Told c f → f .number ≡ 0 → (e .table ≡ f .table) × (take (e .length) (e .output) ≡ take (f .length) (f .output)) × (e .undo ≡ f .undo)
     by-told f (away k) z = absurd (let q : suc k ≡ 0 = z in omega arith)
-    by-told f (accepted a) z = (g .left ∙ ap (λ (x : Ran). x .table) (left-is c lent e a g), front c lent e a g ∙ sym (front-is c lent a))
+    by-told f (accepted a) z = (g .left ∙ ap (λ (x : Ran). x .table) (left-is c lent e a g), front c lent e a g ∙ sym (front-is c lent a), kept-is c lent e a g)
 
 -- ---- one box
 

@@ -11,7 +11,7 @@ use Rattle.octets.specs.If.{ifb}
 use Rattle.octets.proofs.If.{ifb-true, ifb-false, on-if}
 use Rattle.octets.proofs.Bools.{and-no}
 use Rattle.table.specs.Records.{placeAt}
-use Rattle.search.specs.Search.{newPlace}
+use Rattle.search.specs.Search.{find, newPlace}
 use Rattle.soundness.specs.Checked.{isAt}
 use Rattle.batch_item.specs.Item.{Asked}
 use Rattle.payload.specs.declared.Command.{Command}
@@ -24,8 +24,8 @@ use Rattle.act.specs.Act.{step}
 use Rattle.act.proofs.Went.{step-kind}
 use Rattle.batch.specs.Batch.{Ran, answerTo, lastly, firstly, endsBatch, batch}
 use Rattle.undone_answers.specs.Undone.{orUndone, undoneTo}
-use Rattle.demands.specs.Log.{Event, commandOf, paired, onto, issuedBy, issued, grantBy, granted, limit, handedBy, destroyedBy, wasDestroyed, handedDead}
-use Rattle.demands.specs.Demand3.{isUnderstood, isMade, carries, takes, Tame}
+use Rattle.demands.specs.Log.{Event, commandOf, paired, onto, issuedBy, issued, grantBy, granted, limit, heirFrom, handedBy, destroyedBy, wasDestroyed, handedDead}
+use Rattle.demands.specs.Demand3.{isUnderstood, isMade, carries, takes, unnames, Tame}
 use Rattle.demands_met.proofs.Counted.{no-issue, no-grant}
 use Rattle.demands_met.proofs.Logged.{granted-more, issued-before, limit-before, Balanced}
 use Rattle.demands_met.proofs.Tame.{kind-understood}
@@ -146,6 +146,7 @@ module _ (ev : Event) (u : Unmade ev) where
 
   -- and a table that stays is all that it may leave
   unmade-tame : {n : ℕ} (t : List ℕ) → Tame n ev t t
+  unfolding isMade
   unmade-tame {n} t = record {
     operation = u .operation;
     id = u .id;
@@ -153,20 +154,29 @@ module _ (ev : Event) (u : Unmade ev) where
     failed = λ m. refl;
     others = λ i low a b. refl;
     kept = λ i low b. refl;
+    called = λ i low b. sym (ifb-false _ _ _ (unnamed i));
     moves = λ i low b d. absurd (d refl);
     obeys = λ i low a m s. absurd (never m);
     taken = λ i low y. absurd (true≢false (sym y ∙ not-taken i));
     stands = λ h. absurd (h (nothing .issues));
     about = λ m z a. absurd (never m);
+    renews = λ m a. absurd (never m);
     located = λ a h. absurd (h (nothing .carried));
+    found = λ name e m. absurd (never m);
     hands = λ h. absurd (h (nothing .hands));
     alive = λ i low a m k. absurd (never m);
+    gives = λ key o i low a. absurd (never (ap isMade o));
+    holds = λ i low b d. refl;
+    spends = λ i low a m k. absurd (never m);
     latest = refl;
     grants = λ x z away. nothing .grants x;
   }
     where
       never : isMade (ev .answer .outcome) ≡ true → ⊥
       never m = true≢false (sym m ∙ u .unmade)
+
+      unnamed : (i : ℕ) → unnames n ev t i ≡ false
+      unnamed i = and-no (not (eqb (issuedBy (commandOf ev) (ev .answer .outcome)) 0)) (isAt i (find n t (heirFrom (ev .held) (commandOf ev)))) (ap (λ (s : ℕ). not (eqb s 0)) (nothing .issues))
 
       not-taken : (i : ℕ) → takes n ev t i ≡ false
       not-taken i = and-no (not (eqb (issuedBy (commandOf ev) (ev .answer .outcome)) 0)) (isAt i (newPlace n t)) (ap (λ (s : ℕ). not (eqb s 0)) (nothing .issues))

@@ -17,18 +17,24 @@ use Rattle.answer.specs.Read.{answersIn}
 use Rattle.calls.specs.Effects.{Effect}
 use Rattle.engine.specs.Serving.{turnedAway}
 use Rattle.demands.specs.Box.{Call}
+use Rattle.demands.specs.Demand1.{Demand1}
 use Rattle.demands.specs.Demand2.{Demand2, Answered, frameOf}
-use Rattle.wrong_boxes.specs.Wrong.{responding, begunBy, keptBy, ranUnder, leftUnder, RefusesAll, DoesNothing, LeavesTable, allFailed, FailsAll, SameAnswer, AnswersFirst, RunsPastStop, withMaterialOf, SharesMaterial}
+use Rattle.wrong_boxes.specs.Wrong.{NeverEnds, responding, begunBy, keptBy, ranUnder, leftUnder, RefusesAll, DoesNothing, LeavesTable, allFailed, FailsAll, SameAnswer, AnswersFirst, RunsPastStop, withMaterialOf, SharesMaterial}
 use Rattle.cases.specs.Cards.{lifeRequest}
 use Rattle.cases.proofs.Cases.{opened}
 use Rattle.demands_met.proofs.Ladder.{served}
-use Rattle.wrong_boxes.proofs.Due.{zero-one, as-due, leaves-due}
+use Rattle.wrong_boxes.proofs.Due.{zero-one, given, as-due, leaves-due}
 use Rattle.wrong_boxes.proofs.Calling.{calling, lent-life, life-accepted, pairCall, lent-pair, pair-accepted, pastRequest, pastCall, lent-past, past-accepted}
-
--- ---- the life of a key, as it should go
 
 abbrev life : Call
 life = calling lifeRequest 1
+
+-- ---- no answer at all
+
+pub never-ends : Demand1 NeverEnds → ⊥
+never-ends d = d .ends life (lent-life 1 (lit< tt)) .1
+
+-- ---- the life of a key, as it should go
 
 -- what is seen of a call: the serial at place 0, and how long the response is
 record Seen : Type 0 where

@@ -1,2 +1,2 @@
-// Boxes that answer wrongly or leave a wrong table: the demand that each breaks, and those it meets.
-// It has no function.
+// Boxes that answer wrongly, leave a wrong table or a wrong second buffer, or go by a wrong place
+// count: the demand that each breaks, and those it meets. It has no function.

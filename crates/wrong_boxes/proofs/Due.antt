@@ -16,7 +16,7 @@ pub zero-one : {A : Type 0} → _≡_ {A = ℕ} 0 1 → A
 zero-one e = absurd (omega arith)
 
 module _ (made : Call → Effect) (d : Demand2 (λ c e. e ≡ orRefused c (made c))) (c : Call) (lent : Lent c) (taken : lowest 1 (refusalConditions c) ≡ 0) (zero : made c .number ≡ 0) where
-  given : Answered c (made c)
+  pub given : Answered c (made c)
   given = d .answered c (made c) lent (accepted-is c (made c) taken) zero
 
   pub as-due : AsDue c (made c)

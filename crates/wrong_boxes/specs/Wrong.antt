@@ -1,22 +1,29 @@
 -- Boxes that 01 and 02 warn of. All but the first refuse as they should, and are wrong where a request is accepted.
 -- Each is shown to break the demand that is named above it; which demands it meets is said where that is shown.
 -- Assumes nothing.
-use Prim.Native.Nat.{ℕ}
+use Prim.Native.Nat.{ℕ, _+_, _-_}
 use mathlib.Core.Path.{_≡_}
-use mathlib.Core.Bool.{Bool, true, not, _&&_}
+use mathlib.Core.Bool.{Bool, true, false, not, _&&_}
 use mathlib.Core.Option.{Option, none, some}
 use mathlib.Core.List.{List, [], _∷_, _++_, map}
 use lib.ListN.{length, take, replicate}
+use lib.Seq.{sets}
 use lib.Dec.{leb, ltb, eqb}
 use Rattle.octets.specs.If.{ifb}
-use Rattle.octets.specs.Octets.{over}
+use Rattle.octets.specs.Octets.{be, over}
 use Rattle.table.specs.declared.Record.{Record}
-use Rattle.table.specs.Layout.{smallCount, placesOk}
-use Rattle.table.specs.Records.{placeAt, stateAt, lastSerial, withPlace, withClock}
-use Rattle.search.specs.Search.{isNothing, find}
-use Rattle.rules.specs.declared.Reason.the-variants.{InvalidField, ObjectDestroyed}
+use Rattle.table.specs.Layout.{smallCount, largeCount, placesOk, placesIn}
+use Rattle.table.specs.Records.{placeAt, stateAt, lastSerial, latestClock, withPlace, withClock}
+use Rattle.names.specs.Names.{noName}
+use Rattle.search.specs.declared.Found.{Found}
+use Rattle.search.specs.declared.Found.the-variants.{At, Nothing}
+use Rattle.search.specs.Search.{isNothing, isDestroyed, find}
+use Rattle.rules.specs.declared.Reason.the-variants.{InvalidField, ObjectDestroyed, WrongKeyLifecycleState}
 use Rattle.rules.specs.Numbers.{active, deactivated, destroyed, getUsageAllocation, reasonNumber}
+use Rattle.rules.specs.declared.Offset.{Offset}
 use Rattle.changes.specs.Records.{inState, withCount}
+use Rattle.heirs.specs.Heirs.{heirOf}
+use Rattle.changes.specs.Changes.{nextSerial, withHeir}
 use Rattle.changes.specs.Dates.{began}
 use Rattle.ttlv.specs.Items.{encode}
 use Rattle.batch_item.specs.Item.{Asked}
@@ -90,7 +97,86 @@ withTable change e = record { number = e .number; length = e .length; table = ch
 abbrev pub Leaves : (Call → List ℕ → List ℕ) → Box
 Leaves made c e = e ≡ orRefused c (withTable (made c) (rightly c))
 
+-- an outcome with another second buffer
+unfoldable pub withSecond : (List ℕ → List ℕ) → Effect → Effect
+withSecond change e = record { number = e .number; length = e .length; table = e .table; output = e .output; undo = change (e .undo) }
+
+-- ---- a box that demand 1 shuts out
+
+-- "every buffer untouched": it does all as it should, but fills the second buffer with zeros where it refuses
+abbrev pub WipesSecond : Box
+WipesSecond c e = e ≡ ifb (eqb (rightly c .number) 0) (rightly c) (withSecond (λ held. replicate (length held) 0) (rightly c))
+
+-- ---- a box that demand 1 shuts out
+
+-- "it always ends with an answer": a box that never does
+abbrev pub NeverEnds : Box
+NeverEnds c e = ⊥
+
 -- ---- boxes that demand 2 shuts out
+
+-- 02, L8, "what it holds after an accepted request with option 3": it does all as it should, but leaves the second buffer as it was. It meets demands 1 and 3
+abbrev pub ForgetsSecond : Box
+ForgetsSecond c e = e ≡ withSecond (λ due. c .undo) (rightly c)
+
+-- 02, L7, "The lead's place count may be 64 or 256": it does all as it should, but refuses every table of 256 places with 3
+abbrev pub RefusesLarge : Box
+RefusesLarge c e = e ≡ ifb (eqb (placesOf c) largeCount) (turnedAway (c .table) (c .output) (c .undo) 3) (rightly c)
+
+-- 02, L6, Locate "answers the one identifier": it does all as it should, but takes whatever a Locate found for identifier 00000001
+unfoldable pub firstFor : Outcome → Outcome
+firstFor (Failed reason) = Failed reason
+firstFor (Created serial) = Created serial
+firstFor (Done serial) = Done serial
+firstFor (Showed shown) = Showed shown
+firstFor (Got key) = Got key
+firstFor (Located serial) = Located (ifb (eqb serial 0) 0 1)
+firstFor Undone = Undone
+
+abbrev pub firstAnswer : Answer → Answer
+firstAnswer a = record { operation = a .operation; id = a .id; outcome = firstFor (a .outcome) }
+
+abbrev pub LocatesFirst : Box
+LocatesFirst c e = e ≡ orRefused c (responding c (map firstAnswer (leftUnder c (frameOf c) .answers)) (leftUnder c (frameOf c) .table))
+
+-- 00, "a module with the wrong filter time signs as genuine": it does all as it should, but every key that it hands out has the bytes of the key at place 0
+unfoldable pub otherFor : List ℕ → Outcome → Outcome
+otherFor bytes (Failed reason) = Failed reason
+otherFor bytes (Created serial) = Created serial
+otherFor bytes (Done serial) = Done serial
+otherFor bytes (Showed shown) = Showed shown
+otherFor bytes (Got key) = Got (record { serial = key .serial; bits = key .bits; material = wordsOf bytes })
+otherFor bytes (Located serial) = Located serial
+otherFor bytes Undone = Undone
+
+abbrev pub otherAnswer : List ℕ → Answer → Answer
+otherAnswer bytes a = record { operation = a .operation; id = a .id; outcome = otherFor bytes (a .outcome) }
+
+abbrev pub HandsOther : Box
+HandsOther c e =
+    e ≡ orRefused c (responding c (map (otherAnswer (placeAt smallCount (leftUnder c (frameOf c) .table) 0 .material)) (leftUnder c (frameOf c) .answers)) (leftUnder c (frameOf c) .table))
+
+-- the record without its name
+unfoldable pub unnamed : Record → Record
+unnamed r = record {
+  serial = r .serial;
+  state = r .state;
+  unit = r .unit;
+  bits = r .bits;
+  replaced = r .replaced;
+  replacement = r .replacement;
+  total = r .total;
+  count = r .count;
+  mask = r .mask;
+  material = r .material;
+  activation = r .activation;
+  deactivation = r .deactivation;
+  name = noName;
+}
+
+-- "Create takes it as last attribute": it answers as it should, and the key at place 0 loses its name
+abbrev pub LosesName : Box
+LosesName = Leaves (λ c due. withPlace (placesOf c) due 0 (unnamed (placeAt (placesOf c) due 0)))
 
 -- "a box that refuses everything": number 1, whatever comes. It meets demands 1 and 3
 abbrev pub RefusesAll : Box
@@ -151,7 +237,94 @@ KeepsUndone = Leaves (λ c due. ranUnder (λ option. option) c (frameOf c) .tabl
 abbrev pub SaysDone : Box
 SaysDone c e = e ≡ orRefused c (responding c (ranUnder (λ option. option) c (frameOf c) .answers) (leftUnder c (frameOf c) .table))
 
+-- 02, L7, "the table's size follows from it": it answers as it should, and says 256 places in the lead of what it leaves
+unfoldable pub sayingPlaces : ℕ → List ℕ → List ℕ
+sayingPlaces n t = sets t placesIn (be 4 n)
+
+abbrev pub SaysLarge : Box
+SaysLarge = Leaves (λ c due. sayingPlaces largeCount due)
+
+-- a box that leaves a table that it refuses changed: it says 256 places in the lead
+abbrev pub WritesRefused : Box
+WritesRefused c e = e ≡ ifb (eqb (rightly c .number) 0) (rightly c) (withTable (sayingPlaces largeCount) (rightly c))
+
+-- it does all as it should, but gives every answer twice over, so that half of them have no item
+abbrev pub AnswersTwice : Box
+AnswersTwice c e = e ≡ orRefused c (responding c (leftUnder c (frameOf c) .answers ++ leftUnder c (frameOf c) .answers) (leftUnder c (frameOf c) .table))
+
+-- what a Locate found, taken for an identifier seven above it
+unfoldable pub aboveFor : Outcome → Outcome
+aboveFor (Failed reason) = Failed reason
+aboveFor (Created serial) = Created serial
+aboveFor (Done serial) = Done serial
+aboveFor (Showed shown) = Showed shown
+aboveFor (Got key) = Got key
+aboveFor (Located serial) = Located (serial + 7)
+aboveFor Undone = Undone
+
+abbrev pub aboveAnswer : Answer → Answer
+aboveAnswer a = record { operation = a .operation; id = a .id; outcome = aboveFor (a .outcome) }
+
+-- it does all as it should, but answers a Locate with an identifier that nobody was given
+abbrev pub LocatesNobody : Box
+LocatesNobody c e = e ≡ orRefused c (responding c (map aboveAnswer (leftUnder c (frameOf c) .answers)) (leftUnder c (frameOf c) .table))
+
+-- "Records neither addressed, newly linked nor taken over stay": it answers as it should, and from clock 2 on the key at place 0 loses its name, whatever is asked
+abbrev pub ForgetsOther : Box
+ForgetsOther = Leaves (λ c due. ifb (leb 2 (c .clock)) (withPlace (placesOf c) due 0 (unnamed (placeAt (placesOf c) due 0))) due)
+
 -- ---- boxes that demand 3 shuts out
+
+-- a table that units of a destroyed key were taken off, and whether they were
+pub record Spent : Type 0 where
+  pub table : List ℕ
+  pub done : Bool
+
+unfoldable pub spentAt : ℕ → List ℕ → ℕ → Found → Spent
+spentAt n t amount Nothing = record { table = t; done = false }
+spentAt n t amount (At i) =
+    let r = placeAt n t i in
+    ifb (isDestroyed (r .state) && leb amount (r .count)) (record { table = withPlace n t i (withCount (r .count - amount) r); done = true }) (record { table = t; done = false })
+
+-- units that are asked for by identifier, and were refused for the key's state
+unfoldable pub spentFor : ℕ → List ℕ → Command → Outcome → Spent
+spentFor n t (GetUsageAllocation (Serial x) amount) (Failed reason) =
+    let spent = spentAt n t amount (find n t x) in ifb (eqb (reasonNumber reason) (reasonNumber WrongKeyLifecycleState)) spent (record { table = t; done = false })
+spentFor n t (GetUsageAllocation (Serial x) amount) (Created serial) = record { table = t; done = false }
+spentFor n t (GetUsageAllocation (Serial x) amount) (Done serial) = record { table = t; done = false }
+spentFor n t (GetUsageAllocation (Serial x) amount) (Showed shown) = record { table = t; done = false }
+spentFor n t (GetUsageAllocation (Serial x) amount) (Got key) = record { table = t; done = false }
+spentFor n t (GetUsageAllocation (Serial x) amount) (Located serial) = record { table = t; done = false }
+spentFor n t (GetUsageAllocation (Serial x) amount) Undone = record { table = t; done = false }
+spentFor n t (GetUsageAllocation Placeholder amount) o = record { table = t; done = false }
+spentFor n t Unsupported o = record { table = t; done = false }
+spentFor n t Invalid o = record { table = t; done = false }
+spentFor n t (Create wanted) o = record { table = t; done = false }
+spentFor n t (Rekey target offset) o = record { table = t; done = false }
+spentFor n t (Activate target) o = record { table = t; done = false }
+spentFor n t (Revoke target code) o = record { table = t; done = false }
+spentFor n t (Destroy target) o = record { table = t; done = false }
+spentFor n t (GetAttributes target) o = record { table = t; done = false }
+spentFor n t (Get target) o = record { table = t; done = false }
+spentFor n t (Locate name) o = record { table = t; done = false }
+
+-- a batch that ran as it should, with these units granted and taken off behind it, one item after the other
+unfoldable pub spending : ℕ → List ℕ → List Asked → List Answer → Ran
+spending n t [] answers = record { answers = []; table = t }
+spending n t (asked ∷ items) [] = record { answers = []; table = t }
+spending n t (asked ∷ items) (a ∷ answers) =
+    let c = command (asked .operation) (asked .payload) in
+    let spent = spentFor n t c (a .outcome) in
+    let later = spending n (spent .table) items answers in
+    record { answers = record { operation = a .operation; id = a .id; outcome = ifb (spent .done) (Done (namedBy 0 c)) (a .outcome) } ∷ later .answers; table = later .table }
+
+-- what is left of it
+abbrev pub spentOf : Call → Ran
+spentOf c = let ran = leftUnder c (frameOf c) in spending (placesOf c) (ran .table) (itemsAsked c) (ran .answers)
+
+-- "stay dead": it does all as it should, but grants units of a destroyed key, and takes them off its count, so that grants and count still add up
+abbrev pub GrantsDead : Box
+GrantsDead c e = e ≡ orRefused c (responding c (spentOf c .answers) (spentOf c .table))
 
 -- "an invented usage count": it answers as it should, and fills the count of place 0 up again
 unfoldable pub refilled : List ℕ → List ℕ
@@ -268,3 +441,48 @@ StoresGiven = Leaves (λ c due. withClock due (c .clock))
 -- and so it does: where the key at place 0 is Deactivated, and its deactivation date lies after the clock that was given, it is Active again
 abbrev pub Revives : Box
 Revives = Leaves (λ c due. ifb (eqb (stateAt due 0) deactivated && ltb (c .clock) (placeAt smallCount due 0 .deactivation)) (woken due) due)
+
+-- the table with a replacement of the record that was found, if one was and it is destroyed
+unfoldable pub renewedAt : ℕ → List ℕ → Offset → Found → Spent
+renewedAt n t offset Nothing = record { table = t; done = false }
+renewedAt n t offset (At i) =
+    let r = placeAt n t i in
+    ifb (isDestroyed (r .state)) (record { table = withHeir n t i (heirOf (nextSerial t) (latestClock t) offset r []); done = true }) (record { table = t; done = false })
+
+-- a Re-key by identifier that was refused, since the key is destroyed
+unfoldable pub renewedFor : ℕ → List ℕ → Command → Outcome → Spent
+renewedFor n t (Rekey (Serial x) offset) (Failed reason) =
+    let renewed = renewedAt n t offset (find n t x) in ifb (eqb (reasonNumber reason) (reasonNumber ObjectDestroyed)) renewed (record { table = t; done = false })
+renewedFor n t (Rekey (Serial x) offset) (Created serial) = record { table = t; done = false }
+renewedFor n t (Rekey (Serial x) offset) (Done serial) = record { table = t; done = false }
+renewedFor n t (Rekey (Serial x) offset) (Showed shown) = record { table = t; done = false }
+renewedFor n t (Rekey (Serial x) offset) (Got key) = record { table = t; done = false }
+renewedFor n t (Rekey (Serial x) offset) (Located serial) = record { table = t; done = false }
+renewedFor n t (Rekey (Serial x) offset) Undone = record { table = t; done = false }
+renewedFor n t (Rekey Placeholder offset) o = record { table = t; done = false }
+renewedFor n t Unsupported o = record { table = t; done = false }
+renewedFor n t Invalid o = record { table = t; done = false }
+renewedFor n t (Create wanted) o = record { table = t; done = false }
+renewedFor n t (GetUsageAllocation target amount) o = record { table = t; done = false }
+renewedFor n t (Activate target) o = record { table = t; done = false }
+renewedFor n t (Revoke target code) o = record { table = t; done = false }
+renewedFor n t (Destroy target) o = record { table = t; done = false }
+renewedFor n t (GetAttributes target) o = record { table = t; done = false }
+renewedFor n t (Get target) o = record { table = t; done = false }
+renewedFor n t (Locate name) o = record { table = t; done = false }
+
+-- a batch that ran as it should, with these replacements made behind it, one item after the other
+unfoldable pub renewing : ℕ → List ℕ → List Asked → List Answer → Ran
+renewing n t [] answers = record { answers = []; table = t }
+renewing n t (asked ∷ items) [] = record { answers = []; table = t }
+renewing n t (asked ∷ items) (a ∷ answers) =
+    let renewed = renewedFor n t (command (asked .operation) (asked .payload)) (a .outcome) in
+    let later = renewing n (renewed .table) items answers in
+    record { answers = record { operation = a .operation; id = a .id; outcome = ifb (renewed .done) (Done (nextSerial t)) (a .outcome) } ∷ later .answers; table = later .table }
+
+abbrev pub renewedOf : Call → Ran
+renewedOf c = let ran = leftUnder c (frameOf c) in renewing (placesOf c) (ran .table) (itemsAsked c) (ran .answers)
+
+-- Re-key, "destroyed: Object Destroyed": it does all as it should, but replaces a destroyed key, with its whole total anew
+abbrev pub RenewsDead : Box
+RenewsDead c e = e ≡ orRefused c (responding c (renewedOf c .answers) (renewedOf c .table))

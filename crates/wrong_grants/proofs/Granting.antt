@@ -24,7 +24,8 @@ use Rattle.wrong_boxes.specs.Wrong.{withTable, refilled, InventsCount, TakesFro
 use Rattle.cases.proofs.Cases.{opened}
 use Rattle.demands_met.proofs.Ladder.{served}
 use Rattle.demands_met.proofs.Logged.{granted-more, issued-now, issued-before}
-use Rattle.demands_met.proofs.Follows.{path-order, Between, path-between, onto-append, Gone, path-gone, in-order}
+use Rattle.demands_met.proofs.Plainly.{plainly}
+use Rattle.demands_met.proofs.Follows.{path-order, Between, path-between, onto-append, Gone, path-gone}
 use Rattle.wrong_boxes.proofs.Calling.{accepted-is, grantCall, lent-grant, grant-accepted}
 
 -- ---- an invented usage count
@@ -54,7 +55,7 @@ pub invents-count : Demand3 InventsCount → ⊥
 unfolding invented sumsOf sums
 invents-count d =
     let r = calls grantCall invented begins refl lent-grant (accepted-is grantCall invented grant-accepted) in
-    let b = in-order InventsCount smallCount refl (d smallCount refl) r .balance 1 0 (λ z. omega arith) (record { below = lit< tt; serial = ap (λ (s : Sums). s .serial) two-hundred }) in
+    let b = plainly InventsCount d smallCount refl .counted r 1 0 (λ z. omega arith) (record { below = lit< tt; serial = ap (λ (s : Sums). s .serial) two-hundred }) in
     let z : _≡_ {A = ℕ} 200 100 = sym (ap (λ (s : Sums). s .spent) two-hundred) ∙ b ∙ ap (λ (s : Sums). s .begun) two-hundred in
     omega arith
 

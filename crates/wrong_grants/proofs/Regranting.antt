@@ -29,7 +29,6 @@ use Rattle.rules.specs.Tests.{due}
 use Rattle.rules.specs.States.{nextState}
 use Rattle.changes.specs.Records.{movedTo, withDates, inState}
 use Rattle.new_records.specs.New.{newRecord}
-use Rattle.changes.specs.Dates.{began}
 use Rattle.changes.specs.Changes.{isFull, nextSerial}
 use Rattle.keeps.proofs.Stores.{Stored, other-serial, here-serial}
 use Rattle.keeps.proofs.Keeps.{Held, keeps-moved}
@@ -39,7 +38,7 @@ use Rattle.batch_item.specs.Item.{Asked}
 use Rattle.frame.specs.Frame.{optionOf}
 use Rattle.target_read.specs.declared.Target.the-variants.{Serial}
 use Rattle.payload.specs.declared.Command.{Command}
-use Rattle.payload.specs.declared.Command.the-variants.{Create, GetUsageAllocation, Destroy}
+use Rattle.payload.specs.declared.Command.the-variants.{GetUsageAllocation, Destroy}
 use Rattle.payload.specs.Payload.{command}
 use Rattle.plans.specs.declared.Outcome.{Outcome}
 use Rattle.plans.specs.declared.Outcome.the-variants.{Failed, Created, Done}
@@ -50,7 +49,7 @@ use Rattle.calls.specs.Effects.{Effect}
 use Rattle.batch.specs.Batch.{Ran, answerTo, firstly, batch, running}
 use Rattle.demands.specs.Box.{Call, counted}
 use Rattle.demands.specs.Demand2.{frameOf}
-use Rattle.demands.specs.Log.{Event, commandOf, orNoItems, orNoAnswers, heldAfter, paired, itemsAsked, eventsOf, onto, logged, issuedBy, grantBy, granted}
+use Rattle.demands.specs.Log.{Event, commandOf, orNoItems, orNoAnswers, heldAfter, paired, eventsOf, onto, logged, issuedBy, grantBy, granted}
 use Rattle.demands.specs.Demand3.{Run, namedBy, names, takes, movesState, isMade, codeOf, listed, listedBy, Tame, DueOnly, Path, arrived, went, Demand3}
 use Rattle.demands_met.proofs.Logged.{granted-more}
 use Rattle.demands_met.proofs.Follows.{opens-due, due-serial}

@@ -3,7 +3,7 @@
 use Prim.Native.Nat.{ℕ, _<_}
 use native.Mathlib.Omega.{arith}
 use mathlib.Core.Path.{_≡_, refl, sym, ap, _∙_}
-use mathlib.Core.Bool.{Bool, true, false, not, _&&_, _||_, false≢true}
+use mathlib.Core.Bool.{Bool, true, false, not, _&&_, _||_, false≢true, true≢false}
 use mathlib.Core.List.{List, []}
 use lib.Dec.{eqb, lit<}
 use Rattle.octets.specs.If.{ifb}
@@ -14,18 +14,20 @@ use Rattle.table.specs.Records.{placeAt, serialAt, stateAt, blank}
 use Rattle.search.specs.Search.{find}
 use Rattle.search.proofs.Finds.{find-is}
 use Rattle.soundness.specs.Checked.{isAt}
-use Rattle.rules.specs.Numbers.{revoke, destroy}
+use Rattle.rules.specs.Numbers.{destroy}
 use Rattle.ttlv.specs.Items.{nil}
 use Rattle.plans.specs.declared.Outcome.the-variants.{Done}
 use Rattle.calls.specs.Effects.{Effect}
 use Rattle.demands.specs.Box.{Call, Lent}
 use Rattle.demands.specs.Demand2.{frameOf, ofFrame, refusalConditions, lowest}
-use Rattle.demands.specs.Log.{Event, commandOf, heldAfter, paired, orNoItems, orNoAnswers, eventsOf, logged, issuedBy}
-use Rattle.demands.specs.Demand3.{begins, calls, namedBy, movesState, isMade, codeOf, takes, listed, Path, Demand3}
+use Rattle.demands.specs.Log.{Event, commandOf, heldAfter, paired, orNoItems, orNoAnswers, eventsOf, issuedBy}
+use Rattle.demands.specs.Demand3.{begins, calls, namedBy, movesState, isMade, codeOf, takes, listed, Path, Demand3, further, here, Stands}
 use Rattle.wrong_boxes.specs.Wrong.{withTable, woken, Wakes, LeavesAlive}
 use Rattle.cases.specs.Cards.{lifeRequest, compromiseRequest}
 use Rattle.cases.proofs.Cases.{opened}
 use Rattle.demands_met.proofs.Ladder.{served}
+use Rattle.demands_met.proofs.Plainly.{plainly}
+use Rattle.search.specs.Search.{isDestroyed}
 use Rattle.wrong_boxes.proofs.Ending.{lastOr, isEmpty, Last, path-end}
 use Rattle.wrong_boxes.proofs.Calling.{isByte, bytes-test, calling, callingOn, lent-on, accepted-is, lent-life, life-accepted}
 
@@ -148,23 +150,28 @@ next-accepted : lowest 1 (refusalConditions next) ≡ 0
 unfolding opened next first-left withTable woken frameOf ofFrame refusalConditions lowest
 next-accepted = refl
 
-next-seen : seenOn next next-left ≡ wakingBy revoke 2
-unfolding opened next-left next first-left withTable woken noEvent eventsOf paired heldAfter orNoItems orNoAnswers lastOr isEmpty seenOn seen seenOf codeOf namedBy issuedBy movesState isMade
-next-seen = refl
+-- what is seen of place 0: its serial, and whether its key is destroyed
+record Place : Type 0 where
+  pub serial : ℕ
+  pub dead : Bool
 
-revoke-not : (from : ℕ) → listed revoke 2 from 2 ≡ false
-unfolding listed
-revoke-not from = go (eqb from 1) (eqb from 2) (eqb from 3) (eqb from 5)
-  where
-    no-and : (a : Bool) → (a && false) ≡ false
-    no-and true = refl
-    no-and false = refl
+placeSeen : List ℕ → Place
+placeSeen t = record { serial = serialAt t 0; dead = isDestroyed (placeAt smallCount t 0 .state) }
 
-    go : (a b c d : Bool) → (((a && false) || (b && false) || (c && false) || (d && false)) || false || false) ≡ false
-    go a b c d = rw (no-and a, no-and b, no-and c, no-and d)
+first-place : placeSeen (first-left .table) ≡ record { serial = 1; dead = true }
+unfolding opened first-left withTable woken placeSeen
+first-place = refl
+
+next-place : placeSeen (next-left .table) ≡ record { serial = 1; dead = false }
+unfolding opened next-left next first-left withTable woken placeSeen
+next-place = refl
 
 pub wakes : Demand3 Wakes → ⊥
-unfolding first-left next next-left withTable seenOn
+unfolding first-left next next-left withTable placeSeen
 wakes d =
     let r = calls life first-left begins refl (lent-life 1 (lit< tt)) (accepted-is life first-left (life-accepted 1 refl)) in
-    no-waking revoke 2 revoke-not (d smallCount refl .goes (logged life first-left []) (first-left .table) r next next-left refl lent-next (accepted-is next next-left next-accepted) .path) next-seen
+    let l = further next next-left here refl lent-next (accepted-is next next-left next-accepted) in
+    let there : Stands smallCount 1 (first-left .table) 0 = record { below = lit< tt; serial = ap (λ (p : Place). p .serial) first-place } in
+    let still : Stands smallCount 1 (next-left .table) 0 = record { below = lit< tt; serial = ap (λ (p : Place). p .serial) next-place } in
+    let dead = plainly Wakes d smallCount refl .stays-dead r l 1 0 (λ z. omega arith) there (ap (λ (p : Place). p .dead) first-place) .0 0 still in
+    true≢false (sym dead ∙ ap (λ (p : Place). p .dead) next-place)

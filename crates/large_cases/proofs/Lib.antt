@@ -1,0 +1,3 @@
+-- The case on a table of 256 places, by computation.
+-- Assumes nothing.
+pub mod Cases

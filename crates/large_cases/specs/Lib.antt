@@ -1,0 +1,3 @@
+-- A case on a table of 256 places.
+-- Assumes nothing.
+pub mod Cards

@@ -1,0 +1,2 @@
+// A case on a table of 256 places, worked out.
+// It has no function.

@@ -1,0 +1,4 @@
+-- Boxes that turn a clock back, or keep what was undone.
+-- Assumes nothing.
+pub mod Turning
+pub mod Undoing

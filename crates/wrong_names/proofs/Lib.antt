@@ -1,0 +1,3 @@
+-- Boxes that are wrong by a name.
+-- Assumes nothing.
+pub mod Locating

@@ -1,0 +1,2 @@
+// Boxes that say what nobody asked for, or touch a record that nothing named.
+// It has no function.
