@@ -1,6 +1,4 @@
--- Boxes that wake, hand out, spend or replace what is dead, or hand out the wrong bytes.
+-- Boxes that grant units of what is dead, or replace it.
 -- Assumes nothing.
-pub mod Waking
-pub mod Handing
 pub mod Spending
 pub mod Renewing

@@ -1,2 +1,2 @@
-// Boxes that wake a destroyed key, hand it out, grant its units or replace it, or hand out the bytes
-// of another key. It has no function.
+// Boxes that grant units of a destroyed key, or replace it.
+// It has no function.

@@ -1,3 +1,3 @@
--- Boxes that are wrong by a name.
+-- A box that answers a Locate with another key.
 -- Assumes nothing.
 pub mod Locating

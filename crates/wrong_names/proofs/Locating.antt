@@ -1,67 +1,62 @@
--- Boxes that are wrong by a name: one takes what a Locate found for another key, and one loses a key's name.
--- Assumes nothing. Both are refuted by one call that is worked out: keys are created under the names "a" and "b", and "b" is looked for.
+-- A box that is wrong by a name: it takes what a Locate found for another key.
+-- Assumes nothing. It is refuted by one call that is worked out: keys are created under the names "a" and "b", and "b" is looked for.
 use Prim.Native.Nat.{ℕ}
 use native.Mathlib.Omega.{arith}
 use mathlib.Core.Path.{_≡_, refl, sym, ap, _∙_}
 use mathlib.Core.Bool.{Bool, true, false, not, _&&_, false≢true, true≢false}
 use mathlib.Core.List.{List, [], _∷_, map}
 use lib.ListN.{take}
-use lib.Dec.{eqb, lit<}
+use lib.Dec.{eqb}
 use borrow.Author.Tests.{eqb-true, eq-eqb}
 use Rattle.octets.proofs.Bools.{and-l, and-r}
 use Rattle.names.specs.declared.Name.{Name}
 use Rattle.names.specs.Names.{noName}
 use Rattle.table.specs.Layout.{smallCount}
-use Rattle.table.specs.Records.{placeAt, withPlace, serialAt, blank}
+use Rattle.table.specs.Records.{blank}
 use Rattle.table.proofs.Blank.{serial-blank}
 use Rattle.payload.specs.declared.Command.{Command}
 use Rattle.payload.specs.declared.Command.the-variants.{Unsupported, Invalid, Create, Rekey, GetUsageAllocation, Activate, Revoke, Destroy, GetAttributes, Get, Locate}
 use Rattle.calls.specs.Effects.{Effect}
-use Rattle.demands.specs.Box.{Call, placesOf}
+use Rattle.demands.specs.Box.{Call}
 use Rattle.demands.specs.Demand2.{Demand2, frameOf}
-use Rattle.demands.specs.Log.{Event, commandOf, heldAfter, paired, orNoItems, orNoAnswers, eventsOf, onto, logged, issuedBy, nameBy, heirFrom, nameIn}
-use Rattle.demands.specs.Demand3.{begins, calls, Stands, isMade, carries, InOrder, Path, arrived, went, Demand3}
+use Rattle.demands.specs.Log.{Event, commandOf, heldAfter, paired, orNoItems, orNoAnswers, eventsOf, issuedBy, nameBy, heirFrom, nameIn}
+use Rattle.demands.specs.Demand3.{begins, isMade, carries, InOrder, Path, arrived, went, Demand3}
 use Rattle.cases.proofs.Cases.{opened}
 use Rattle.demands_met.proofs.Ladder.{served}
 use Rattle.demands_met.proofs.Called.{Told, item-told, opens-told}
-use Rattle.demands_met.proofs.Plainly.{plainly}
-use Rattle.wrong_boxes.specs.Wrong.{withTable, responding, ranUnder, leftUnder, firstFor, firstAnswer, LocatesFirst, unnamed, LosesName}
+use Rattle.wrong_boxes.specs.Wrong.{responding, ranUnder, leftUnder, firstFor, firstAnswer, LocatesFirst}
 use Rattle.wrong_boxes.proofs.Given.{nameRequest, nameCall, lent-name, name-accepted}
 use Rattle.wrong_boxes.proofs.Calling.{accepted-is}
-use Rattle.wrong_boxes.proofs.Due.{as-due, leaves-due}
+use Rattle.wrong_boxes.proofs.Due.{as-due}
 
--- what is seen of a call: the last byte of the response, which is that of the identifier that was located, and the length of the name at place 0
+-- the last byte of a response, which is that of the identifier that was located
 lastOf : List ℕ → ℕ
 lastOf [] = 0
 lastOf (x ∷ []) = x
 lastOf (x ∷ y ∷ s) = lastOf (y ∷ s)
 
-record Seen : Type 0 where
-  pub located : ℕ
-  pub name : ℕ
+located : Effect → ℕ
+located e = lastOf (take (e .length) (e .output))
 
-seen : Effect → Seen
-seen e = record { located = lastOf (take (e .length) (e .output)); name = placeAt smallCount (e .table) 0 .name .len }
-
--- "00000002" was found, and place 0 has a name of one byte
-due-seen : seen (served nameCall) ≡ record { located = 0x32; name = 1 }
-unfolding opened nameRequest seen lastOf
-due-seen = refl
+-- "00000002" was found
+due-located : located (served nameCall) ≡ 0x32
+unfolding opened nameRequest located lastOf
+due-located = refl
 
 -- ---- the first key in place of the one that was found
 
 first : Call → Effect
 first c = responding c (map firstAnswer (leftUnder c (frameOf c) .answers)) (leftUnder c (frameOf c) .table)
 
-first-seen : seen (first nameCall) ≡ record { located = 0x31; name = 1 }
-unfolding opened nameRequest first firstFor leftUnder ranUnder frameOf seen lastOf
-first-seen = refl
+first-located : located (first nameCall) ≡ 0x31
+unfolding opened nameRequest first firstFor leftUnder ranUnder frameOf located lastOf
+first-located = refl
 
 pub locates-first : Demand2 LocatesFirst → ⊥
-unfolding first seen
+unfolding first located
 locates-first d =
     let q = as-due first d nameCall lent-name name-accepted refl in
-    let z : _≡_ {A = ℕ} 0x31 0x32 = sym (ap (λ (s : Seen). s .located) first-seen) ∙ ap lastOf (q .bytes) ∙ ap (λ (s : Seen). s .located) due-seen in
+    let z : _≡_ {A = ℕ} 0x31 0x32 = sym first-located ∙ ap lastOf (q .bytes) ∙ due-located in
     omega arith
 
 -- the name that a command looks for
@@ -148,40 +143,3 @@ unfolding first
 locates-first-3 d =
     let g = d smallCount refl .goes [] (blank smallCount) begins nameCall (first nameCall) refl lent-name (accepted-is nameCall (first nameCall) name-accepted) in
     no-other (g .path) (g .order) (opens-told (g .opens) blank-told) first-other
-
--- ---- a name lost
-
-losing : Call → List ℕ → List ℕ
-losing c due = withPlace (placesOf c) due 0 (unnamed (placeAt (placesOf c) due 0))
-
-lost-name : placeAt smallCount (losing nameCall (served nameCall .table)) 0 .name .len ≡ 0
-unfolding opened nameRequest losing unnamed
-lost-name = refl
-
-pub loses-name : Demand2 LosesName → ⊥
-unfolding losing seen
-loses-name d =
-    let z : _≡_ {A = ℕ} 0 1 =
-    sym lost-name ∙ ap (λ (t : List ℕ). placeAt smallCount t 0 .name .len) (leaves-due losing d nameCall lent-name name-accepted) ∙ ap (λ (s : Seen). s .name) due-seen in
-    omega arith
-
--- demand 3 by itself shuts it out: by the log the key has a name
-lost : Effect
-lost = withTable (losing nameCall) (served nameCall)
-
-lost-serial : serialAt (lost .table) 0 ≡ 1
-unfolding opened nameRequest lost losing unnamed withTable
-lost-serial = refl
-
-lost-told : nameIn 1 (logged nameCall lost []) .len ≡ 1
-unfolding opened nameRequest lost losing withTable logged onto eventsOf paired heldAfter orNoItems orNoAnswers issuedBy nameBy heirFrom nameIn
-lost-told = refl
-
-pub loses-name-3 : Demand3 LosesName → ⊥
-unfolding losing lost withTable
-loses-name-3 d =
-    let r = calls nameCall lost begins refl lent-name (accepted-is nameCall lost name-accepted) in
-    let there : Stands smallCount 1 (lost .table) 0 = record { below = lit< tt; serial = lost-serial } in
-    let z : _≡_ {A = ℕ} 0 1 =
-    sym lost-name ∙ ap (λ (m : Name). m .len) (plainly LosesName d smallCount refl .named r 1 0 (λ z. omega arith) there) ∙ lost-told in
-    omega arith

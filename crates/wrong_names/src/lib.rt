@@ -1,2 +1,2 @@
-// Boxes that answer a Locate with another key, or lose a name.
+// A box that answers a Locate with another key.
 // It has no function.

@@ -1,4 +1,3 @@
--- Boxes that say what nobody asked for, or touch a record that nothing named.
+-- Boxes that touch a table or a record that nothing named.
 -- Assumes nothing.
-pub mod Telling
 pub mod Touching

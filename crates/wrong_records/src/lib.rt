@@ -1,2 +1,2 @@
-// Boxes that say what nobody asked for, or touch a record that nothing named.
+// Boxes that touch the table of a call that they refuse, or a record that nothing named.
 // It has no function.

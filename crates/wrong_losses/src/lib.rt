@@ -1,0 +1,2 @@
+// Boxes that lose a name, or say what nobody asked for.
+// It has no function.
