@@ -1,5 +1,7 @@
 // One batch item carried out on the table: which record it is about, and what is done. It touches no
 // output.
+#![tactic(auto)]
+
 ghost use Rattle.std.specs.Prelude.{◌≡◌};
 ghost use Rattle.table.specs.Layout.{Table};
 ghost use Rattle.plans.specs.Plans.{carried_out, in_places, leaves};

@@ -1,2 +1,3 @@
 // Answers as bytes. It touches no table.
 // Assumes nothing.
+#![tactic(auto)]

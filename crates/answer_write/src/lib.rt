@@ -1,5 +1,7 @@
 // The writer of answers: batch items in lent room. What a function asks is shown by its callers
 // here; what `write_answer` asks, by the writer of the whole response.
+#![tactic(auto)]
+
 ghost use Rattle.std.specs.Prelude.{◌≡◌, ◌+◌, ◌%◌, ◌≤◌, length, take};
 ghost use Rattle.ttlv_types.specs.Types.{enumeration};
 ghost use Rattle.ttlv.specs.Items.{nil, group};

@@ -1,6 +1,8 @@
 // The attributes that Create asks for, read from the items of Attributes, or that there are none by
 // the rules. It knows TTLV by its items alone. A function that asks for a run of items is given one
 // by the reader of payloads, which cuts it out of a payload that is a run.
+#![tactic(auto)]
+
 ghost use Rattle.std.specs.Prelude.{◌≡◌, true};
 ghost use Rattle.ttlv.specs.Tree.{is_run, tree_of};
 ghost use Rattle.attributes_read.specs.Attributes.{limit_in, dated_in, limited_in, masked_in, attributes_in};
@@ -15,7 +17,7 @@ use rules::Attributes;
 const AES: u64 = 3;
 
 // A usage limit, or something that is none by the rules.
-#[derive(Drop)]
+#[derive(Clone, Copy)]
 enum LimitRead {
     Limited { unit: u8, total: u64 },
     InvalidField,
@@ -23,7 +25,7 @@ enum LimitRead {
 
 // Usage Limits at the front, with the rest of the run from next on; all 0 where none is given. Or
 // something that is no limit by the rules.
-#[derive(Drop)]
+#[derive(Clone, Copy)]
 enum LimitsRead {
     Limits { unit: u8, total: u64, next: usize },
     InvalidField,
@@ -31,14 +33,14 @@ enum LimitsRead {
 
 // A date at the front, with the rest of the run from next on; both 0 where none is given. Or
 // something that is no date by the rules.
-#[derive(Drop)]
+#[derive(Clone, Copy)]
 enum DateRead {
     Date { date: u64, next: usize },
     InvalidField,
 }
 
 // Both dates, 0 where one is not given, and the name, or that they are not by the rules.
-#[derive(Drop)]
+#[derive(Clone, Copy)]
 enum DatedRead {
     Dated {
         activation: u64,
@@ -49,7 +51,7 @@ enum DatedRead {
 }
 
 // The attributes of a new key, or that there are none by the rules.
-#[derive(Drop)]
+#[derive(Clone, Copy)]
 pub enum AttributesRead {
     Wanted { wanted: Attributes },
     InvalidField,

@@ -1,6 +1,8 @@
 // The writer of a key's attributes in lent room.
 // What a function asks is shown by its callers: here, or for `write_attributes` in the writer of
 // answers.
+#![tactic(auto)]
+
 ghost use Rattle.std.specs.Prelude.{◌≤◌, ◌≡◌, true, length};
 ghost use Rattle.ttlv_types.specs.Types.{integer, long_integer, enumeration};
 ghost use Rattle.ttlv.specs.Items.{nil, group};

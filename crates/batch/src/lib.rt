@@ -1,6 +1,8 @@
 // A batch: its items one after the other, each carried out on the table and answered in the room
 // that follows the answer before it. What a function here asks is shown by the functions above it,
 // up to `engine::serve`, which asks nothing.
+#![tactic(auto)]
+
 ghost use Rattle.std.specs.Prelude.{◌≡◌, not, ◌&&◌, eqb};
 ghost use Rattle.frame.specs.Frame.{continue};
 ghost use Rattle.batch.specs.Runs.{asked_in, CarriesOne, CarriedIs, RunsOne, ItemIs, Runs, RanIs, ran_over};
@@ -13,7 +15,7 @@ use table::Layout;
 const CONTINUE: u32 = 1;
 
 // What became of one item, and its operation and ID as given.
-#[derive(Drop)]
+#[derive(Clone, Copy)]
 pub struct Carried {
     pub performed: Performed,
     pub operation: u32,
@@ -22,7 +24,7 @@ pub struct Carried {
 
 // What became of one item that was answered: whether it failed, the placeholder after it, and the
 // bytes of its answer.
-#[derive(Drop)]
+#[derive(Clone, Copy)]
 struct ItemDone {
     failed: bool,
     holder: u32,
@@ -30,7 +32,7 @@ struct ItemDone {
 }
 
 // What became of a batch: how many items were answered, and the bytes of their answers.
-#[derive(Drop)]
+#[derive(Clone, Copy)]
 pub struct BatchDone {
     pub count: u32,
     pub used: usize,

@@ -1,6 +1,8 @@
 // The batch items of a request: one of them, and a run of them.
 // It knows TTLV by its items alone, and nothing of keys. A function that asks for a run of items is
 // given one by the TTLV check, which every request passes first.
+#![tactic(auto)]
+
 ghost use Rattle.std.specs.Prelude.{◌≡◌, true, ◌≤◌, length};
 ghost use Rattle.octets.specs.Maybe.{is_some};
 ghost use Rattle.ttlv.specs.Tree.{is_run, tree_of};
@@ -14,7 +16,7 @@ const ID_MOST: usize = 16;
 
 // The Unique Batch Item ID of an item, from the reader to the writer: its first `len` bytes; the
 // others are zero. None was given where len is 0.
-#[derive(Drop)]
+#[derive(Clone, Copy)]
 pub struct ItemId {
     pub bytes: [u8; 16],
     pub len: usize,
@@ -22,7 +24,7 @@ pub struct ItemId {
 
 // A batch item: the operation, the ID, and where the payload's own items start; they reach to the
 // end of the item.
-#[derive(Drop)]
+#[derive(Clone, Copy)]
 pub struct ItemParts {
     pub operation: u32,
     pub id: ItemId,
@@ -31,7 +33,7 @@ pub struct ItemParts {
 
 // A batch item with where its ID's bytes and its payload's items start, or that there is none by
 // the rules. It is public for the frame's definitions, which say what it is as a refusal.
-#[derive(Drop)]
+#[derive(Clone, Copy)]
 pub enum ItemRead {
     Item {
         operation: u32,
@@ -43,7 +45,7 @@ pub enum ItemRead {
 }
 
 // How many batch items a run has, or that it has something else.
-#[derive(Drop)]
+#[derive(Clone, Copy)]
 pub enum ItemsRead {
     Items { count: usize },
     NoItems,

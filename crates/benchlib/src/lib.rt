@@ -1,6 +1,8 @@
 // The bench program's work: a request from a file descriptor on a blank table of 64 places, its
 // response in hex on a line, or the refusal's number. What is lent to the call is proved, and the
 // call is the engine's; what is printed is tested and not proved.
+#![tactic(auto)]
+
 use table::Layout;
 
 // One byte above the longest request, so that a longer one is seen.

@@ -1,5 +1,7 @@
 // New objects in the table: Create, and Re-key of the record at a place. It touches no output.
 // Each function asks for a table of so many places, or for a place in it; `act` and `deeds` show it.
+#![tactic(auto)]
+
 ghost use Rattle.std.specs.Prelude.{◌≡◌};
 ghost use Rattle.table.specs.Layout.{Table, Place};
 ghost use Rattle.table.specs.Records.{place_at};

@@ -3,6 +3,8 @@
 // card is printed as a bad one. Empty lines and comments say nothing. Assumes nothing; every
 // function is proved safe and ends. The first cards are the examples of KMIP 1.x, section 9.1.2,
 // which 2.1 does not print; the rest follow from 01's rules.
+#![tactic(auto)]
+
 use hex_text::Bytes;
 
 // The most bytes that a card has.

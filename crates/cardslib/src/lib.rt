@@ -2,6 +2,8 @@
 // refusal, and bytes of table, output and second buffer, as lines. Assumes nothing; every function
 // is proved safe and ends. What a line says is proved; what is printed is tested, and the call is
 // the engine's.
+#![tactic(auto)]
+
 ghost use Rattle.std.specs.Prelude.{◌≡◌};
 ghost use Rattle.cardslib.specs.Usual.{usual_setting};
 

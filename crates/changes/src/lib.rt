@@ -1,6 +1,8 @@
 // The changes of a record, by value: how it moves and is destroyed, and what a grant leaves of it.
 // They ask nothing. Whether a change is due is decided by rules; records are those of the table
 // crate.
+#![tactic(auto)]
+
 ghost use Rattle.std.specs.Prelude.{◌≡◌};
 ghost use Rattle.changes.specs.Records.{stops, moved_to, with_count};
 ghost use Rattle.octets.specs.If.{ifb};

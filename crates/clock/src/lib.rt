@@ -1,5 +1,7 @@
 // The clock and its 64 bits, as a Date-Time is written: two's complement.
 // Assumes nothing: any clock and any bits are taken.
+#![tactic(auto)]
+
 ghost use Rattle.std.specs.Prelude.{◌≡◌};
 ghost use Rattle.std.specs.Int.{w64};
 ghost use Rattle.std.proofs.Common.{of_z, to_z};

@@ -1,5 +1,7 @@
 // The commands of a script of bench cards that change how a request is served from there on, and
 // room for a script. Assumes nothing: any bytes are read, and what is no such line is told.
+#![tactic(auto)]
+
 ghost use Rattle.std.specs.Prelude.{◌≡◌, replicate};
 ghost use Rattle.script.specs.Numbers.{number_in, clock_in};
 ghost use Rattle.commands.specs.Commands.{with_clock, lending, places_in};
@@ -11,7 +13,7 @@ use table::Layout;
 pub const SCRIPT_ROOM: usize = 1048576;
 
 // What is lent to a call besides the request.
-#[derive(Drop)]
+#[derive(Clone, Copy)]
 pub enum Buffer {
     Table,
     Strip,
@@ -21,7 +23,7 @@ pub enum Buffer {
 
 // How a request is served: the clock, and how many bytes of output, strip, table and second buffer
 // are lent.
-#[derive(Drop)]
+#[derive(Clone, Copy)]
 pub struct Setting {
     pub clock: i64,
     pub room: usize,
@@ -31,7 +33,7 @@ pub struct Setting {
 }
 
 // What a line comes to: whether it is one of a script, and the setting after it.
-#[derive(Drop)]
+#[derive(Clone, Copy)]
 pub struct Done {
     pub good: bool,
     pub setting: Setting,

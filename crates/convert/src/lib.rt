@@ -1,6 +1,8 @@
 // The converter: a sound table of 01, with bodies of 56 bytes, or of L3, with bodies of 72, becomes
 // the table of today, with what is new not set: no name, and of a table of 01 no date and the
 // latest clock 0. Anything else is declined, and nothing is written then.
+#![tactic(auto)]
+
 ghost use Rattle.std.specs.Prelude.{◌≡◌};
 ghost use Rattle.std.proofs.lemmas.List.Edits.{sets};
 ghost use Rattle.table.specs.Layout.{body_start, small_count};

@@ -1,5 +1,7 @@
 // What a key's dates make of its state at a clock, and when it is too late to activate one. It asks
 // nothing and knows nothing of TTLV. Dates and clocks are their 64 bits; a date of 0 is not set.
+#![tactic(auto)]
+
 ghost use Rattle.std.specs.Prelude.{◌≡◌};
 ghost use Rattle.date_rules.specs.Dates.{has_come, started_state, stopped_state, dated_state, is_late};
 

@@ -1,6 +1,8 @@
 // What happens before the first item of an accepted request: the clock that counts is stored, and
 // what the keys' dates make due by it is done. It touches no output. `begin` asks for a table of so
 // many places; the check of the table, which the engine makes first, shows it.
+#![tactic(auto)]
+
 ghost use Rattle.std.specs.Prelude.{◌≡◌, ltb};
 ghost use Rattle.octets.specs.If.{ifb};
 ghost use Rattle.table.specs.Layout.{Table, Place};

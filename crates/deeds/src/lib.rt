@@ -1,6 +1,8 @@
 // What is done to the record at a place: Re-key, Get Usage Allocation, the moves of its state, Get
 // Attributes and Get. It touches no output. Each function asks for a place of the table; `act`, which
 // has found the record there, shows it.
+#![tactic(auto)]
+
 ghost use Rattle.std.specs.Prelude.{◌≡◌, []};
 ghost use Rattle.table.specs.Layout.{Place};
 ghost use Rattle.table.specs.Records.{place_at};
@@ -14,7 +16,7 @@ use table::Record;
 // What is done to a record that stands. A `Command` reads as a line of 01, a `Deed` as what the
 // record meets, so that a command is taken apart twice: which record it is about is seen to once,
 // between the two.
-#[derive(Drop)]
+#[derive(Clone, Copy)]
 pub enum Deed {
     // with the Offset that is asked for
     Replace(Offset),

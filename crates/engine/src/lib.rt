@@ -1,5 +1,7 @@
 // The engine: what an accepted request does, and `serve`, which asks for the refusals first.
 // `serve` asks nothing: bad input gets a refusal. What the functions below it ask, `serve` shows.
+#![tactic(auto)]
+
 ghost use Rattle.std.specs.Int.{w64};
 ghost use Rattle.std.proofs.Common.{of_z};
 ghost use Rattle.engine.specs.Calls.{RunsWhole, accepted_over, AcceptedIs, ServedIs};
@@ -14,7 +16,7 @@ pub const REQUEST_MOST: usize = refusals::REQUEST_MOST;
 const FRAME_SIZE: usize = 88;
 
 // What a call answers: the number of the refusal, or 0, and the bytes of the response.
-#[derive(Drop)]
+#[derive(Clone, Copy)]
 pub struct Served {
     pub number: u32,
     pub length: usize,

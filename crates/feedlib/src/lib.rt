@@ -1,6 +1,8 @@
 // The feed program's work: calls of the engine in a plain binary form from one file descriptor, and
 // all that each of them left, to another. What a head says is proved, and the call is the engine's;
 // what is written is tested and not proved. docs/CONTRACTS.md has the form.
+#![tactic(auto)]
+
 ghost use Rattle.std.specs.Prelude.{◌≡◌, ◌≤◌, length};
 ghost use Rattle.octets.specs.Octets.{from_be, part};
 ghost use Rattle.feedlib.specs.Head.{head_of};
@@ -20,7 +22,7 @@ const OUTPUT_MOST: usize = 9216;
 const UNDO_MOST: usize = 33792;
 
 // What stands in front of a call: the lengths of its buffers, and the clock.
-#[derive(Drop)]
+#[derive(Clone, Copy)]
 struct Head {
     request: usize,
     table: usize,

@@ -1,5 +1,7 @@
 // The fields of a run of items, first to last: what the readers of requests go by. It knows nothing
 // of keys. Assumes nothing: no function asks anything of its bytes.
+#![tactic(auto)]
+
 ghost use Rattle.std.specs.Prelude.{◌≡◌};
 ghost use Rattle.fields.specs.Found.{starts_at, bytes_at, number_at, body_at};
 
@@ -7,7 +9,7 @@ use ttlv::First;
 
 // The value of a wanted item at the front: len bytes, which start at 8, with the rest of the run
 // from next on. Or no such item stands there.
-#[derive(Drop)]
+#[derive(Clone, Copy)]
 pub enum BytesField {
     Span { len: usize, next: usize },
     NoSpan,
@@ -15,7 +17,7 @@ pub enum BytesField {
 
 // The number that the value of a wanted item at the front spells, with the rest of the run from
 // next on. Or no such item stands there.
-#[derive(Drop)]
+#[derive(Clone, Copy)]
 pub enum NumberField {
     Number { value: u64, next: usize },
     NoNumber,
@@ -23,7 +25,7 @@ pub enum NumberField {
 
 // The items of a wanted structure at the front, from 8 to next, with the rest of the run from next
 // on. Or no such structure stands there.
-#[derive(Drop)]
+#[derive(Clone, Copy)]
 pub enum BodyField {
     Body { next: usize },
     NoBody,

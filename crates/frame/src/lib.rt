@@ -1,6 +1,8 @@
 // The message frame of a request: its header, how many batch items follow, and refusals 6 to 9.
 // It knows TTLV by its items alone, and nothing of keys. A function that asks for a run of items is
 // given one by the TTLV check, which every request passes first.
+#![tactic(auto)]
+
 ghost use Rattle.std.specs.Prelude.{◌≡◌, true};
 ghost use Rattle.octets.specs.Maybe.{is_some};
 ghost use Rattle.ttlv.specs.Parse.{message};
@@ -28,7 +30,7 @@ const BATCH_MOST: u64 = 16;
 
 // How a request is taken as a frame: the refusal's number; or 0, the option, and where the batch
 // items start.
-#[derive(Drop)]
+#[derive(Clone, Copy)]
 pub struct Framing {
     pub number: u32,
     pub option: u32,
@@ -36,14 +38,14 @@ pub struct Framing {
 }
 
 // A Protocol Version, or that there is none by the rules.
-#[derive(Drop)]
+#[derive(Clone, Copy)]
 enum VersionRead {
     Version { major: u64, minor: u64 },
     NoVersion,
 }
 
 // A Request Header, or that there is none by the rules.
-#[derive(Drop)]
+#[derive(Clone, Copy)]
 enum HeaderRead {
     Read {
         major: u64,
@@ -56,7 +58,7 @@ enum HeaderRead {
 
 // The header's numbers, how many batch items follow and where they start, or that it is no frame by
 // the rules.
-#[derive(Drop)]
+#[derive(Clone, Copy)]
 enum FrameRead {
     Parts {
         major: u64,

@@ -1,6 +1,8 @@
 // The writer of what stands in front of the answers: the head of the message, the header. What a
 // function asks is shown by its callers here; what `write_front` asks, by the writer of the whole
 // response.
+#![tactic(auto)]
+
 ghost use Rattle.std.specs.Prelude.{◌≡◌, ◌+◌, ◌*◌, ◌%◌, ◌≤◌, length};
 ghost use Rattle.octets.specs.Octets.{over};
 ghost use Rattle.ttlv_types.specs.Types.{integer};

@@ -1,5 +1,7 @@
 // How a record is replaced, by value: the dates of a replacement, the replacement itself, and the
 // record that names it. Nothing is asked. Whether a Re-key is due is decided by rules.
+#![tactic(auto)]
+
 ghost use Rattle.std.specs.Prelude.{◌-◌, ◌≡◌};
 ghost use Rattle.heirs.specs.Heirs.{heir_dated, heir_dates, linked_to};
 
@@ -10,7 +12,7 @@ use table::Record;
 const DATE_MOST: u64 = 9223372036854775807;
 
 // The dates of a replacement, or an Offset that gives none.
-#[derive(Drop)]
+#[derive(Clone, Copy)]
 pub enum HeirDates {
     Dated { activation: u64, deactivation: u64 },
     OffsetWrong,

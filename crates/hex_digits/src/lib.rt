@@ -1,5 +1,7 @@
 // Hex digits: a digit and its character, 0 to 9 and then A to F.
 // Assumes nothing. The one `requires`, of a digit's character, is shown by its callers.
+#![tactic(auto)]
+
 ghost use Rattle.std.specs.Prelude.{◌≡◌, ◌<◌};
 ghost use Rattle.hex_digits.specs.Hex.{digit, value_of, pair_of};
 

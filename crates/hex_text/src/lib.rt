@@ -1,5 +1,7 @@
 // Bytes written as hex, in the lines of a script. Assumes nothing: any bytes are read, and what is no
 // such text is told.
+#![tactic(auto)]
+
 ghost use Rattle.std.specs.Prelude.{◌≡◌, ◌<◌, length, drop};
 ghost use Rattle.hex_text.specs.Bytes.{byte_of, first_byte, BytesRead};
 
@@ -7,7 +9,7 @@ ghost use Rattle.hex_text.specs.Bytes.{byte_of, first_byte, BytesRead};
 const NO_BYTE: usize = 256;
 
 // How many bytes were read, or that what stood there was no bytes or too many.
-#[derive(Drop)]
+#[derive(Clone, Copy)]
 pub enum Bytes {
     Count(usize),
     NoBytes,

@@ -1,5 +1,7 @@
 // Identifier text: a serial as eight upper-case hex digits, and back.
 // Assumes nothing: no function asks anything.
+#![tactic(auto)]
+
 ghost use Rattle.std.specs.Prelude.{◌≡◌, ◌≤◌};
 ghost use Rattle.identifier.specs.Identifier.{identifier, serial_of};
 ghost use Rattle.identifier.specs.Words.{highest_digits, digits_in, characters_in, side_by_side};

@@ -1,5 +1,7 @@
 // The C boundary: one call of the engine over lent buffers. include/junctionmoth.h says what a host
 // must know. Asks nothing: its contract is the engine's, with the length through a reference.
+#![tactic(auto)]
+
 ghost use Rattle.std.specs.Int.{w64};
 ghost use Rattle.std.proofs.Common.{of_z};
 ghost use Rattle.junctionmoth.specs.Boundary.{CallIs};

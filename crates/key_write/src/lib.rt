@@ -1,6 +1,8 @@
 // The writer of a key that is handed out, in lent room: Symmetric Key with its Key Block.
 // What a function asks, the room, is shown by its callers: here, or for `write_key` in the writer
 // of answers.
+#![tactic(auto)]
+
 ghost use Rattle.std.specs.Prelude.{◌≤◌, length};
 ghost use Rattle.ttlv_types.specs.Types.{integer, enumeration, byte_string};
 ghost use Rattle.ttlv.specs.Items.{nil, value, group};

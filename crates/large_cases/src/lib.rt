@@ -1,2 +1,3 @@
 // A case on a table of 256 places, worked out.
 // It has no function.
+#![tactic(auto)]

@@ -1,6 +1,8 @@
 // A field with nothing behind it, the last of its run: a number or a structure that ends where the
 // bytes end. Like `fields` it knows nothing of keys. Assumes nothing: no function asks anything of
 // its bytes.
+#![tactic(auto)]
+
 ghost use Rattle.std.specs.Prelude.{◌≡◌};
 ghost use Rattle.last_field.specs.Last.{only_number_at, only_body_at};
 

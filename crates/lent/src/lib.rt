@@ -1,5 +1,7 @@
 // What programs lend to a call, made ready in bytes of their own: a blank table, a strip, room full
 // of one byte. It stands below the engine and knows nothing of requests.
+#![tactic(auto)]
+
 ghost use Rattle.std.specs.Prelude.{◌≡◌, length, replicate};
 ghost use Rattle.octets.specs.Octets.{counted_from};
 ghost use Rattle.table.specs.Layout.{Table};

@@ -1,5 +1,7 @@
 // Bytes as text in lines: where a byte or the end of a name stands, and whether two runs are the
 // same. For programs that read scripts. Assumes nothing: no function asks anything of its bytes.
+#![tactic(auto)]
+
 ghost use Rattle.std.specs.Prelude.{◌≡◌, ◌+◌, ◌≤◌, min, length};
 ghost use Rattle.octets.specs.Octets.{same};
 ghost use Rattle.lines.specs.Lines.{place_of, name_end, is_silent};

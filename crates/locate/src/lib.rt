@@ -1,5 +1,7 @@
 // Locate: the record with a name, if there is one. It touches neither table nor output. It asks for a
 // table of so many places; `act` shows it.
+#![tactic(auto)]
+
 ghost use Rattle.std.specs.Prelude.{◌≡◌};
 ghost use Rattle.table.specs.Layout.{Table};
 ghost use Rattle.name_search.specs.Names.{find_name};

@@ -1,6 +1,8 @@
 // A Name read from items: the name of a new key, if Create gives one, and the name that Locate asks
 // for. It knows TTLV by its items alone. A function that asks for a run of items is given one by
 // the readers of payloads, which cut it out of a payload that is a run.
+#![tactic(auto)]
+
 ghost use Rattle.std.specs.Prelude.{◌≡◌, true};
 ghost use Rattle.ttlv.specs.Tree.{is_run, tree_of};
 ghost use Rattle.name_read.specs.Name.{name_body, only_name_in, last_name_in};
@@ -13,7 +15,7 @@ use names::Name;
 const UNINTERPRETED_TEXT: u64 = 1;
 
 // A name, or something that is none by the rules.
-#[derive(Drop)]
+#[derive(Clone, Copy)]
 pub enum NameRead {
     Named { name: Name },
     InvalidField,

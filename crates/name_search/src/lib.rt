@@ -1,5 +1,7 @@
 // The search of the stored table for a record by its name.
 // It knows nothing of TTLV and nothing of what may happen to a key.
+#![tactic(auto)]
+
 ghost use Rattle.std.specs.Prelude.{◌≡◌};
 ghost use Rattle.table.specs.Layout.{Table, Place};
 ghost use Rattle.search.specs.Search.{first};

@@ -2,6 +2,8 @@
 // whether the name is text: names of a sound table are.
 // What a function asks, the room, is shown by its callers: here, or for `write_name` in the writer
 // of attributes.
+#![tactic(auto)]
+
 ghost use Rattle.std.specs.Prelude.{◌≤◌, length};
 ghost use Rattle.ttlv_types.specs.Types.{enumeration, text_string};
 ghost use Rattle.ttlv.specs.Items.{nil, value};

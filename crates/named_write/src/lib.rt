@@ -1,4 +1,6 @@
 // An identifier written into lent room, and, as laws, how writes of items compose. It asks nothing.
+#![tactic(auto)]
+
 ghost use Rattle.std.specs.Prelude.{true};
 ghost use Rattle.ttlv_types.specs.Types.{text_string};
 ghost use Rattle.ttlv_put.specs.Write.{WroteValue};

@@ -1,5 +1,7 @@
 // Names of keys: 1 to 32 bytes of text, as numbers, so that a record, a command and an answer can
 // hold one. It knows nothing of TTLV, tables or keys, and asks nothing.
+#![tactic(auto)]
+
 ghost use Rattle.std.specs.Prelude.{◌≡◌};
 ghost use Rattle.utf8.specs.Text.{text};
 ghost use Rattle.names.specs.Names.{no_name, name_text, name_of, name_ok, same_name, shape_right};
@@ -8,7 +10,7 @@ use words::Words;
 
 // A name as the table has it: the length byte, 0 where there is no name, the seven zeros as one
 // number, and the 32 name bytes.
-#[derive(Drop)]
+#[derive(Clone, Copy)]
 pub struct Name {
     pub len: u8,
     pub zeros: u64,

@@ -1,5 +1,7 @@
 // How a record begins, by value: what Create makes, and the material of a new key, which a
 // replacement has too. Nothing is asked.
+#![tactic(auto)]
+
 ghost use Rattle.std.specs.Prelude.{◌≡◌};
 ghost use Rattle.new_records.specs.New.{material_from, new_record};
 

@@ -1,5 +1,7 @@
 // Numbers and runs of bytes in lent bytes, the highest byte first: the layer under everything else.
 // It knows nothing of TTLV, tables or keys. Where a function asks for room, every caller shows it.
+#![tactic(auto)]
+
 ghost use Rattle.std.specs.Prelude.{◌≡◌, ◌+◌, ◌^◌, ◌≤◌, ◌<◌, min, length, take};
 ghost use Rattle.std.proofs.lemmas.List.Edits.{sets};
 ghost use Rattle.octets.specs.Octets.{be, from_be, part, all, is_zero};

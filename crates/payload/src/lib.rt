@@ -1,6 +1,8 @@
 // Payloads: what an item asks for, as a command, or that it is not allowed or not supported.
 // It knows TTLV by its items alone, and looks at no table. A function that asks for a run of items
 // is given one by the frame's reader, whose items are runs.
+#![tactic(auto)]
+
 ghost use Rattle.std.specs.Prelude.{◌≡◌, true};
 ghost use Rattle.ttlv.specs.Tree.{is_run, tree_of};
 ghost use Rattle.rules.specs.States.{code_ok};
@@ -31,7 +33,7 @@ const GET_USAGE_ALLOCATION: u32 = 0x11;
 const SYMMETRIC_KEY: u64 = 2;
 
 // What an item asks for.
-#[derive(Drop)]
+#[derive(Clone, Copy)]
 pub enum Command {
     // no operation of ours
     Unsupported,

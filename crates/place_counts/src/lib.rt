@@ -1,5 +1,7 @@
 // The check of a table by the place count that its lead says: 64 or 256.
 // It writes nothing, and takes bytes of any length and content.
+#![tactic(auto)]
+
 ghost use Rattle.std.specs.Prelude.{◌≡◌};
 ghost use Rattle.table.specs.Layout.{places_ok};
 ghost use Rattle.place_counts.specs.Counts.{table_right};

@@ -1,4 +1,6 @@
 // What became of a batch item, and what a failure answers. It touches no table and no output.
+#![tactic(auto)]
+
 ghost use Rattle.std.specs.Prelude.{◌≡◌};
 ghost use Rattle.plans.specs.Plans.{failed, is_failed};
 
@@ -8,7 +10,7 @@ use words::Words;
 
 // What Get Attributes shows of a record. A date of 0 is not set; unit 0 is no usage limit; a link
 // serial 0 is no link.
-#[derive(Drop)]
+#[derive(Clone, Copy)]
 pub struct Shown {
     pub serial: u32,
     pub bits: u16,
@@ -25,7 +27,7 @@ pub struct Shown {
 }
 
 // What Get hands out of a record: its material, as four numbers, and its length.
-#[derive(Drop)]
+#[derive(Clone, Copy)]
 pub struct Key {
     pub serial: u32,
     pub bits: u16,
@@ -33,7 +35,7 @@ pub struct Key {
 }
 
 // What became of an item.
-#[derive(Drop)]
+#[derive(Clone, Copy)]
 pub enum Outcome {
     Failed { reason: Reason },
     // Create: a new object of this serial
@@ -51,7 +53,7 @@ pub enum Outcome {
 }
 
 // What became of an item, and the placeholder after it, 0 where it is empty.
-#[derive(Drop)]
+#[derive(Clone, Copy)]
 pub struct Performed {
     pub outcome: Outcome,
     pub holder: u32,

@@ -1,5 +1,6 @@
 // What programs print: bytes as upper-case hex, what came of a call, and lines of scripts.
 // Assumes nothing. What is printed is tested and not proved.
+#![tactic(auto)]
 
 // A byte as two hex digits.
 pub fn byte(b: u8) {

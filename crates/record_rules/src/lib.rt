@@ -1,5 +1,7 @@
 // The soundness rules of a record by itself, with no table around it.
 // They ask nothing: a record of any numbers and any material gets an answer.
+#![tactic(auto)]
+
 ghost use Rattle.std.specs.Prelude.{◌≡◌, min};
 ghost use Rattle.table.specs.Layout.{material_size};
 ghost use Rattle.record_rules.specs.Rules.{limit_right};

@@ -1,5 +1,7 @@
 // The record at a place of the stored table, read whole or one link by itself.
 // It knows nothing of what may happen to a key.
+#![tactic(auto)]
+
 ghost use Rattle.std.specs.Prelude.{◌≡◌, ◌+◌, ◌≤◌, length};
 ghost use Rattle.octets.specs.Octets.{part};
 ghost use Rattle.table.specs.Layout.{material_size, Place};

@@ -1,5 +1,7 @@
 // The record at a place of the stored table, stored.
 // It knows nothing of what may happen to a key.
+#![tactic(auto)]
+
 ghost use Rattle.std.specs.Prelude.{◌≡◌, ◌+◌, ◌≤◌, length};
 ghost use Rattle.std.proofs.lemmas.List.Edits.{sets};
 ghost use Rattle.names.specs.Names.{name_size, name_field};

@@ -1,5 +1,7 @@
 // The refusals that are not the frame's: 1 to 5, which come first, and 10 and 11, which come last.
 // They ask nothing and write nothing.
+#![tactic(auto)]
+
 ghost use Rattle.std.specs.Prelude.{◌≡◌};
 ghost use Rattle.refusals.specs.Refusals.{early_refusal, late_refusal};
 

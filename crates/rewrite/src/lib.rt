@@ -1,5 +1,7 @@
 // A message written again from what the reader says of each of its items: the reader and the writer
 // undo each other. Assumes nothing. It knows nothing of keys.
+#![tactic(auto)]
+
 ghost use Rattle.std.specs.Prelude.{◌≡◌, true, ◌≤◌, ◌<◌, length};
 ghost use Rattle.ttlv_types.specs.Types.{structure, boolean, is_word, is_long, length_ok, value_ok};
 ghost use Rattle.ttlv.specs.Tree.{is_run};

@@ -1,6 +1,8 @@
 // What may happen to a record: which operation moves it from state to state, what it grants, and
 // why an operation fails. It asks nothing and knows nothing of TTLV; what becomes of the record is
 // for changes.
+#![tactic(auto)]
+
 ghost use Rattle.std.specs.Prelude.{◌≡◌};
 ghost use Rattle.rules.specs.Numbers.{reason_number};
 ghost use Rattle.rules.specs.States.{next_state, granting};
@@ -8,7 +10,7 @@ ghost use Rattle.rules.specs.States.{next_state, granting};
 use names::Name;
 
 // Why an item fails. `reason_number` gives each its number.
-#[derive(Drop)]
+#[derive(Clone, Copy)]
 pub enum Reason {
     OperationNotSupported,
     InvalidField,
@@ -22,14 +24,14 @@ pub enum Reason {
 }
 
 // What an operation makes of a state: the next state, or the failure.
-#[derive(Drop)]
+#[derive(Clone, Copy)]
 pub enum Next {
     To(u8),
     Fails(Reason),
 }
 
 // What a grant makes of a count: what is left, or the failure.
-#[derive(Drop)]
+#[derive(Clone, Copy)]
 pub enum Granted {
     Left(u64),
     Denied(Reason),
@@ -37,7 +39,7 @@ pub enum Granted {
 
 // The attributes that Create gives to a key; unit 0 and total 0 mean no usage limit, a date of 0 is
 // not set.
-#[derive(Drop)]
+#[derive(Clone, Copy)]
 pub struct Attributes {
     pub bits: u16,
     pub mask: u32,
@@ -50,7 +52,7 @@ pub struct Attributes {
 
 // The Offset that a Re-key asks for, if it does: the seconds from the clock to the activation date
 // of the replacement.
-#[derive(Drop)]
+#[derive(Clone, Copy)]
 pub enum Offset {
     NoOffset,
     Seconds { seconds: u32 },

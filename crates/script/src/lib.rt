@@ -1,5 +1,7 @@
 // What stands in the lines of a script: decimal numbers, clocks and parts of a buffer. Assumes
 // nothing: any bytes are read, and what is none of these is told.
+#![tactic(auto)]
+
 ghost use Rattle.std.specs.Prelude.{◌≡◌, ◌<◌};
 ghost use Rattle.script.specs.Numbers.{decimal_of, number_in, from_zero, below_zero, clock_in, span_of, span_in};
 
@@ -10,21 +12,21 @@ const NO_DIGIT: usize = 10;
 const CLOCK_TOP: usize = 0x8000000000000000;
 
 // A number, or none.
-#[derive(Drop)]
+#[derive(Clone, Copy)]
 pub enum Number {
     Is(usize),
     NoNumber,
 }
 
 // A clock, or none.
-#[derive(Drop)]
+#[derive(Clone, Copy)]
 pub enum Clock {
     At(i64),
     NoClock,
 }
 
 // Where bytes start and how many they are, or nothing.
-#[derive(Drop)]
+#[derive(Clone, Copy)]
 pub enum Span {
     Of { at: usize, len: usize },
     NoSpan,

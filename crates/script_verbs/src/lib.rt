@@ -1,10 +1,12 @@
 // The commands of a script of bench cards by their names. Assumes nothing: any bytes are read, and
 // what names no command is told.
+#![tactic(auto)]
+
 ghost use Rattle.std.specs.Prelude.{◌≡◌};
 ghost use Rattle.script_verbs.specs.Verbs.{verb_of};
 
 // The command of a line.
-#[derive(Drop)]
+#[derive(Clone, Copy)]
 pub enum Verb {
     Blank,
     Put,

@@ -1,5 +1,7 @@
 // Searches of the stored table: a record by its serial, and where a new key goes.
 // It knows nothing of TTLV and nothing of what may happen to a key.
+#![tactic(auto)]
+
 ghost use Rattle.std.specs.Prelude.{◌≡◌};
 ghost use Rattle.table.specs.Layout.{HasLine, Table};
 ghost use Rattle.table.specs.Records.{state_at};
@@ -8,7 +10,7 @@ ghost use Rattle.search.specs.Search.{first, has_serial, is_nothing, find, is_de
 use table::Layout;
 
 // Where a search ended: the lowest place that passed its test, or nowhere.
-#[derive(Drop)]
+#[derive(Clone, Copy)]
 pub enum Found {
     At(usize),
     Nothing,

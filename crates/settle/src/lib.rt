@@ -1,6 +1,8 @@
 // A batch under its option. Under Undo it is tried on the second buffer first, and only where every
 // item succeeds is it run on the table: nothing that failed ever touches the table, and the answers
 // of a batch that failed are written from the request alone.
+#![tactic(auto)]
+
 ghost use Rattle.std.specs.Prelude.{◌≡◌};
 ghost use Rattle.frame.specs.Frame.{undo};
 ghost use Rattle.batch.specs.Runs.{Carries, ran_over};
@@ -15,14 +17,14 @@ use table::Layout;
 const UNDO: u32 = 3;
 
 // Why an item failed, if it did.
-#[derive(Drop)]
+#[derive(Clone, Copy)]
 enum Failure {
     Because { reason: Reason },
     NoFailure,
 }
 
 // What comes of trying a batch: no item fails, or this one is the first.
-#[derive(Drop)]
+#[derive(Clone, Copy)]
 enum Trial {
     Passes,
     FailsAt { index: usize, reason: Reason },

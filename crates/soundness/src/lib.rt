@@ -1,6 +1,8 @@
 // The soundness check of a stored table. Its rules of a record by itself are those of record_rules,
 // those that two places break together of twin_rules.
 // It writes nothing, and takes a table of any size and any content.
+#![tactic(auto)]
+
 ghost use Rattle.std.specs.Prelude.{◌≡◌, max, eqb};
 ghost use Rattle.table.specs.Layout.{size_of, Place};
 ghost use Rattle.search.specs.Search.{find};

@@ -1,6 +1,8 @@
 // The stored table: lent bytes with a lead, a line for each place and a body for each place.
 // It knows nothing of TTLV and nothing of what may happen to a key. Where a field stands in the
 // lead, a line or a body is said here and nowhere else.
+#![tactic(auto)]
+
 ghost use Rattle.std.specs.Prelude.{◌≡◌, ◌+◌, ◌^◌, ◌≤◌, ◌<◌, length};
 ghost use Rattle.table.specs.Layout.{HasLead, HasLine, Place, line_start, body_start, size_of};
 ghost use Rattle.table.specs.Records.{serial_at, name_at, last_serial, with_last, places_said, latest_clock, with_clock};
@@ -9,7 +11,7 @@ use names::Name;
 
 // The layout of a table of so many places: constants for sizes and for where each field stands, and
 // the offsets of a place's line and body.
-#[derive(Drop)]
+#[derive(Clone, Copy)]
 pub struct Layout {
     pub places: usize,
 }
@@ -97,7 +99,7 @@ impl Layout {
 }
 
 // What a place holds, as its line and its body say it.
-#[derive(Drop)]
+#[derive(Clone, Copy)]
 pub struct Record {
     pub serial: u32,
     pub state: u8,

@@ -1,5 +1,7 @@
 // The tags, each once: readers and writers use these. And whether a number is a tag at all.
 // Assumes nothing: any number gets an answer.
+#![tactic(auto)]
+
 ghost use Rattle.std.specs.Prelude.{◌≡◌};
 ghost use Rattle.tags.specs.Tags.{tag_ok};
 

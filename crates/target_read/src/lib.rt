@@ -1,6 +1,8 @@
 // The target of an item: the record that it is about, by the identifier at the front of a payload
 // or by the placeholder. It looks at no table. Assumes nothing: no function asks anything of its
 // bytes.
+#![tactic(auto)]
+
 ghost use Rattle.std.specs.Prelude.{◌≡◌};
 ghost use Rattle.fields.specs.Found.{starts_in};
 ghost use Rattle.target_read.specs.Readers.{target_at};
@@ -9,7 +11,7 @@ use ttlv::First;
 
 // The record that an item is about: the one whose serial its identifier text names, 0 where it
 // names none; or the placeholder's.
-#[derive(Drop)]
+#[derive(Clone, Copy)]
 pub enum Target {
     Placeholder,
     Serial { serial: u32 },
@@ -17,7 +19,7 @@ pub enum Target {
 
 // The target at the front, with the rest of the run from next on. Or an identifier that is no Text
 // String stands there.
-#[derive(Drop)]
+#[derive(Clone, Copy)]
 pub enum TargetRead {
     Is { target: Target, next: usize },
     InvalidField,

@@ -1,6 +1,8 @@
 // A TTLV message as text: a line for each item, indented by its depth, or the byte at which it is
 // malformed. Assumes nothing. Every function is proved safe and ends; where a message is malformed
 // and which bytes of a text are escaped is proved, what is printed is tested.
+#![tactic(auto)]
+
 ghost use Rattle.std.specs.Prelude.{◌≡◌, ◌≤◌, ◌+◌, get_or};
 ghost use Rattle.treelib.specs.Malformed.{malformed_at};
 ghost use Rattle.treelib.specs.Escapes.{is_upper_control, is_control};

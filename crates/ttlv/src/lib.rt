@@ -1,5 +1,7 @@
 // The TTLV reader: what stands at the front of some bytes, and whether bytes are items by the
 // rules. It knows nothing of keys. Assumes nothing: no public function asks anything of its bytes.
+#![tactic(auto)]
+
 ghost use Rattle.std.specs.Prelude.{◌≡◌, ◌+◌, ◌-◌, ◌^◌, ◌≤◌, ◌<◌, length};
 ghost use Rattle.octets.specs.Maybe.{is_some};
 ghost use Rattle.octets.specs.Octets.{part, all_zero};
@@ -9,7 +11,7 @@ ghost use Rattle.ttlv.specs.Parse.{headed, first_of, parse, message};
 pub const DEPTH_MOST: usize = 8;
 
 // What stands at the front of some bytes.
-#[derive(Drop)]
+#[derive(Clone, Copy)]
 pub enum First {
     // nothing: the run of items has ended
     End,

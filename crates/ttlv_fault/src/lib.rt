@@ -1,5 +1,7 @@
 // Where bytes first differ from the rules of TTLV, for people who look for a mistake in a request.
 // Assumes nothing: the function asks nothing of its bytes.
+#![tactic(auto)]
+
 ghost use Rattle.std.specs.Prelude.{◌≡◌};
 ghost use Rattle.ttlv_fault.specs.Fault.{fault_of};
 

@@ -1,6 +1,8 @@
 // The TTLV writers of numbers, one for each type: one item of 16 bytes over the front of lent room.
 // They know nothing of keys. Assumes nothing. A writer answers the bytes written, or 0 with the
 // room as it was; so it does where the tag is none.
+#![tactic(auto)]
+
 ghost use Rattle.ttlv_types.specs.Types.{integer, long_integer, enumeration, boolean, date_time, interval, date_time_extended};
 ghost use Rattle.ttlv_put.specs.Write.{WroteNumber};
 ghost use Rattle.ttlv_numbers.specs.Bit.{bit};

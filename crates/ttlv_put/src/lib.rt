@@ -3,6 +3,8 @@
 // `spell_number` and `spell_value` are inner parts and no writers for a host: they spell what they
 // are given, also where the type does not allow such a value and the item would not read back. The
 // writers of ttlv_numbers and ttlv_write, one for each type, see to that.
+#![tactic(auto)]
+
 ghost use Rattle.std.specs.Prelude.{◌≡◌, true, ◌≤◌, ◌<◌, length};
 ghost use Rattle.std.proofs.lemmas.List.Edits.{sets};
 ghost use Rattle.ttlv.specs.Items.{head};

@@ -1,5 +1,7 @@
 // The types of TTLV: their numbers, and the lengths and values that each allows.
 // Assumes nothing: no function asks anything.
+#![tactic(auto)]
+
 ghost use Rattle.std.specs.Prelude.{◌≡◌, leb};
 ghost use Rattle.octets.specs.Octets.{from_be};
 ghost use Rattle.ttlv_types.specs.Types.{is_word, is_long, length_ok, value_ok};

@@ -1,6 +1,8 @@
 // The TTLV writers of values of any length, one for each type: one item over the front of lent
 // room. The writers of numbers stand in ttlv_numbers. They know nothing of keys. Assumes nothing. A
 // writer answers the bytes written, or 0 with the room as it was; so it does where the tag is none.
+#![tactic(auto)]
+
 ghost use Rattle.std.specs.Prelude.{true, length};
 ghost use Rattle.utf8.specs.Text.{text};
 ghost use Rattle.ttlv_types.specs.Types.{big_integer, text_string, byte_string, length_ok};

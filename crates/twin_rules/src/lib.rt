@@ -1,5 +1,7 @@
 // The soundness rules that two places break together: one serial, or one name, at both.
 // It knows nothing of the other rules, writes nothing, and takes a table of any content.
+#![tactic(auto)]
+
 ghost use Rattle.std.specs.Prelude.{◌≡◌};
 ghost use Rattle.table.specs.Layout.{Table};
 ghost use Rattle.search.specs.Search.{find};

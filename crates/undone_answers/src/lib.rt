@@ -1,5 +1,7 @@
 // The answers of a batch that failed under Undo, written from the request alone: the item that
 // failed carries its reason, and those in front of it were undone. No table is looked at.
+#![tactic(auto)]
+
 ghost use Rattle.std.specs.Prelude.{◌≡◌};
 ghost use Rattle.ttlv.specs.Items.{nil, group};
 ghost use Rattle.tags.specs.Tags.{batch_item};

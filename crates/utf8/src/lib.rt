@@ -1,5 +1,7 @@
 // Text: whether bytes are whole characters of RFC 3629 (UTF-8). It knows nothing of TTLV or keys.
 // Assumes nothing: no function asks anything.
+#![tactic(auto)]
+
 ghost use Rattle.std.specs.Prelude.{◌≡◌};
 ghost use Rattle.octets.specs.Octets.{all};
 ghost use Rattle.utf8.specs.Text.{is_plain, forms, begun, later, text};
@@ -7,7 +9,7 @@ ghost use Rattle.utf8.specs.Ranges.{to_come, ranges_of};
 
 // What is still to come of a character: so many bytes, the next of them from low to high and the
 // others any that continue a character.
-#[derive(Drop)]
+#[derive(Clone, Copy)]
 pub struct ToCome {
     pub more: u8,
     pub low: u8,

@@ -1,5 +1,7 @@
 // The values that a key may have. The soundness check and the reader of Create go by the same
 // tests, and Create by one more. Assumes nothing: any number gets an answer.
+#![tactic(auto)]
+
 ghost use Rattle.std.specs.Prelude.{◌≡◌};
 ghost use Rattle.values.specs.Values.{bits_ok, mask_ok, protects, unit_ok, total_ok, not_negative, above_zero, in_order};
 

@@ -2,6 +2,8 @@
 // standard output, with what is new not set. What is no sound table of an old size is declined on
 // standard error, and nothing is written then. Assumes nothing. The conversion is proved in
 // convert; what is read and written is tested.
+#![tactic(auto)]
+
 use table::Layout;
 
 fn main() {

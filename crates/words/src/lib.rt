@@ -1,12 +1,14 @@
 // Thirty-two bytes as four numbers, so that an answer that is an enum can hold them: an enum holds
 // numbers and no array. Where a function asks for room, every caller shows it. It knows nothing of keys.
+#![tactic(auto)]
+
 ghost use Rattle.std.specs.Prelude.{◌≡◌, ◌+◌, ◌≤◌, length};
 ghost use Rattle.std.proofs.lemmas.List.Edits.{sets};
 ghost use Rattle.octets.specs.Octets.{part};
 ghost use Rattle.words.specs.Words.{words_size, words_of, word_bytes, filled};
 
 // The first eight bytes as a number, the next eight, and so on; the highest byte first.
-#[derive(Drop)]
+#[derive(Clone, Copy)]
 pub struct Words {
     pub a: u64,
     pub b: u64,

@@ -17,122 +17,115 @@ use borrow.Author.Rules.{rules}
 use Rattle.records.proofs.load.Statement.{statement}
 use Rattle.records.proofs.load.Tie as tie
 
--- the place where the offset of the body is known, from the one where the first date has been read
-abbrev at_body : tie.After-number-at10 → tie.After-body
-at_body c =
-    let at_bits = c.before.before.before.before.before in
-    let at_serial = at_bits.before.before.before.before in
-    at_serial.before.before
-
 -- a whole body lies behind it
-inside : (c : tie.After-body) → c.body.result + body_size ≤ length c.before.before.before.args.t.now
+inside : (c : tie.After-body-body) → c.body-body.result + body_size ≤ length c.args.t.now
 inside c = omega arith
 
-reach : (c : tie.After-body) → Fits w64 (c.body.result + deactivation_in)
+reach : (c : tie.After-body-body) → Fits w64 (c.body-body.result + deactivation_in)
 reach c = omega arith
 
 -- so its last field does
 ends : (b l : ℕ) → b + body_size ≤ l → b + deactivation_in + 8 ≤ l
 ends b l h = omega arith
 
-line-requires : tie.Need-line-requires
-line-requires c κs = search rules
+line-line-requires : tie.Need-line-line-requires
+line-line-requires c κs = search rules
 
-body-requires : tie.Need-body-requires
-body-requires c κs = search rules
+body-body-requires : tie.Need-body-body-requires
+body-body-requires c κs = search rules
 
-add-number-at : tie.Need-overflow-add-number-at
-add-number-at c = search rules
+overflow_add-line : tie.Need-overflow_add-line
+overflow_add-line c = search rules
 
-number-at-requires : tie.Need-number-at-requires
-number-at-requires c κs = search rules
+number_at-serial-requires : tie.Need-number_at-serial-requires
+number_at-serial-requires c κs = search rules
 
-cast-serial : tie.Need-overflow-cast-serial
-cast-serial c = search rules
+overflow_cast-serial : tie.Need-overflow_cast-serial
+overflow_cast-serial c = search rules
 
-add-number-at-2 : tie.Need-overflow-add-number-at-2
-add-number-at-2 c = search rules
+overflow_add-line-2 : tie.Need-overflow_add-line-2
+overflow_add-line-2 c = search rules
 
-number-at-requires-2 : tie.Need-number-at-requires-2
-number-at-requires-2 c κs = search rules
+number_at-state-requires : tie.Need-number_at-state-requires
+number_at-state-requires c κs = search rules
 
-cast-state : tie.Need-overflow-cast-state
-cast-state c = search rules
+overflow_cast-state : tie.Need-overflow_cast-state
+overflow_cast-state c = search rules
 
-add-number-at-3 : tie.Need-overflow-add-number-at-3
-add-number-at-3 c = search rules
+overflow_add-line-3 : tie.Need-overflow_add-line-3
+overflow_add-line-3 c = search rules
 
-number-at-requires-3 : tie.Need-number-at-requires-3
-number-at-requires-3 c κs = search rules
+number_at-unit-requires : tie.Need-number_at-unit-requires
+number_at-unit-requires c κs = search rules
 
-cast-unit : tie.Need-overflow-cast-unit
-cast-unit c = search rules
+overflow_cast-unit : tie.Need-overflow_cast-unit
+overflow_cast-unit c = search rules
 
-add-number-at-4 : tie.Need-overflow-add-number-at-4
-add-number-at-4 c = search rules
+overflow_add-line-4 : tie.Need-overflow_add-line-4
+overflow_add-line-4 c = search rules
 
-number-at-requires-4 : tie.Need-number-at-requires-4
-number-at-requires-4 c κs = search rules
+number_at-bits-requires : tie.Need-number_at-bits-requires
+number_at-bits-requires c κs = search rules
 
-cast-bits : tie.Need-overflow-cast-bits
-cast-bits c = search rules
+overflow_cast-bits : tie.Need-overflow_cast-bits
+overflow_cast-bits c = search rules
 
-add-number-at-5 : tie.Need-overflow-add-number-at-5
-add-number-at-5 c = search rules
+overflow_add-line-5 : tie.Need-overflow_add-line-5
+overflow_add-line-5 c = search rules
 
-number-at-requires-5 : tie.Need-number-at-requires-5
-number-at-requires-5 c κs = search rules
+number_at-replaced-requires : tie.Need-number_at-replaced-requires
+number_at-replaced-requires c κs = search rules
 
-cast-replaced : tie.Need-overflow-cast-replaced
-cast-replaced c = search rules
+overflow_cast-replaced : tie.Need-overflow_cast-replaced
+overflow_cast-replaced c = search rules
 
-add-number-at-6 : tie.Need-overflow-add-number-at-6
-add-number-at-6 c = search rules
+overflow_add-line-6 : tie.Need-overflow_add-line-6
+overflow_add-line-6 c = search rules
 
-number-at-requires-6 : tie.Need-number-at-requires-6
-number-at-requires-6 c κs = search rules
+number_at-replacement-requires : tie.Need-number_at-replacement-requires
+number_at-replacement-requires c κs = search rules
 
-cast-replacement : tie.Need-overflow-cast-replacement
-cast-replacement c = search rules
+overflow_cast-replacement : tie.Need-overflow_cast-replacement
+overflow_cast-replacement c = search rules
 
-add-number-at-7 : tie.Need-overflow-add-number-at-7
-add-number-at-7 c = search rules
+overflow_add-body : tie.Need-overflow_add-body
+overflow_add-body c = search rules
 
-number-at-requires-7 : tie.Need-number-at-requires-7
-number-at-requires-7 c κs = search rules
+number_at-total-requires : tie.Need-number_at-total-requires
+number_at-total-requires c κs = search rules
 
-add-number-at-8 : tie.Need-overflow-add-number-at-8
-add-number-at-8 c = search rules
+overflow_add-body-2 : tie.Need-overflow_add-body-2
+overflow_add-body-2 c = search rules
 
-number-at-requires-8 : tie.Need-number-at-requires-8
-number-at-requires-8 c κs = search rules
+number_at-count-requires : tie.Need-number_at-count-requires
+number_at-count-requires c κs = search rules
 
-add-number-at-9 : tie.Need-overflow-add-number-at-9
-add-number-at-9 c = search rules
+overflow_add-body-3 : tie.Need-overflow_add-body-3
+overflow_add-body-3 c = search rules
 
-number-at-requires-9 : tie.Need-number-at-requires-9
-number-at-requires-9 c κs = search rules
+number_at-mask-requires : tie.Need-number_at-mask-requires
+number_at-mask-requires c κs = search rules
 
-cast-mask : tie.Need-overflow-cast-mask
-cast-mask c = search rules
+overflow_cast-mask : tie.Need-overflow_cast-mask
+overflow_cast-mask c = search rules
 
-add-material-at : tie.Need-overflow-add-material-at
-add-material-at c = search rules
+overflow_add-body-4 : tie.Need-overflow_add-body-4
+overflow_add-body-4 c = search rules
 
-material-at-requires : tie.Need-material-at-requires
-material-at-requires c κs = search rules
+material_at-material-requires : tie.Need-material_at-material-requires
+material_at-material-requires c κs = search rules
 
-add-number-at-10 : tie.Need-overflow-add-number-at-10
-add-number-at-10 c = search rules
+overflow_add-body-5 : tie.Need-overflow_add-body-5
+overflow_add-body-5 c = search rules
 
-number-at-requires-10 : tie.Need-number-at-requires-10
-number-at-requires-10 c κs = search rules
+number_at-activation-requires : tie.Need-number_at-activation-requires
+number_at-activation-requires c κs = search rules
 
-add-number-at-11 : tie.Need-overflow-add-number-at-11
-add-number-at-11 c = reach (at_body c)
+overflow_add-body-6 : tie.Need-overflow_add-body-6
+overflow_add-body-6 c = reach c.before.before.before.before.before.before.before.before.before.before.before
 
-number-at-requires-11 : tie.Need-number-at-requires-11
-number-at-requires-11 c κs = (ends _ _ (inside (at_body c)), omega arith)
+number_at-deactivation-requires : tie.Need-number_at-deactivation-requires
+number_at-deactivation-requires c κs = (ends _ _ (inside c.before.before.before.before.before.before.before.before.before.before.before), omega arith)
 
 -- the fields, each read where it stands
 fields_read : (n : ℕ) (t : List ℕ) (i : ℕ) {l b serial state unit bits replaced replacement total count mask activation deactivation : ℕ} {material : List ℕ} {name : Name} → l ≡ line_start i → b ≡ body_start n i
@@ -152,73 +145,63 @@ fields_read : (n : ℕ) (t : List ℕ) (i : ℕ) {l b serial state unit bits rep
     → ◌≡◌ {A = Record} (record { serial = serial; state = state; unit = unit; bits = bits; replaced = replaced; replacement = replacement; total = total; count = count; mask = mask; material = material; activation = activation; deactivation = deactivation; name = name }) (place_at n t i)
 fields_read n t i hl hb e₁ e₂ e₃ e₄ e₅ e₆ e₇ e₈ e₉ e₁₀ e₁₁ e₁₂ e₁₃ = rw (e₁, e₂, e₃, e₄, e₅, e₆, e₇, e₈, e₉, e₁₀, e₁₁, e₁₂, e₁₃, hl, hb) (place_fields n t i)
 
-name-at-requires : tie.Need-name-at-requires
-name-at-requires c κs = search rules
+name_at-name-requires : tie.Need-name_at-name-requires
+name_at-name-requires c κs = search rules
 
 returns : tie.Need-returns
 returns c =
-    let at_deactivation = c.before in
-    let at_activation = at_deactivation.before in
-    let at_material = at_activation.before in
-    let at_mask = at_material.before in
-    let at_total = at_mask.before.before in
-    let at_replaced = at_total.before.before in
-    let at_unit = at_replaced.before.before in
-    let at_serial = at_unit.before.before in
-    let at_body = at_serial.before in
-    let at-line = at_body.before in
-    let a = at-line.before.before.args in
-    fields_read a.n a.t.now a.i at-line.line.ensures at_body.body.ensures
-    at_serial.number_at.ensures.0
-    at_unit.before.number-at2.ensures.0
-    at_unit.number-at3.ensures.0
-    at_replaced.before.number-at4.ensures.0
-    at_replaced.number-at5.ensures.0
-    at_total.before.number-at6.ensures.0
-    at_total.number-at7.ensures.0
-    at_mask.before.number-at8.ensures.0
-    at_mask.number-at9.ensures.0
-    at_activation.number-at10.ensures.0
-    at_deactivation.number-at11.ensures.0
-    at_material.material-at.ensures
-    c.name-at.ensures
+                                            let a = c.args in
+    fields_read a.n a.t.now a.i c.line-line.ensures c.body-body.ensures
+    c.number_at-serial.ensures.0
+    c.number_at-state.ensures.0
+    c.number_at-unit.ensures.0
+    c.number_at-bits.ensures.0
+    c.number_at-replaced.ensures.0
+    c.number_at-replacement.ensures.0
+    c.number_at-total.ensures.0
+    c.number_at-count.ensures.0
+    c.number_at-mask.ensures.0
+    c.number_at-activation.ensures.0
+    c.number_at-deactivation.ensures.0
+    c.material_at-material.ensures
+    c.name_at-name.ensures
 
 pub load_spec : {M : Type 1} → statement M
 load_spec =
     tie.close
     (tie.spec
-    line-requires
-    body-requires
-    add-number-at
-    number-at-requires
-    cast-serial
-    add-number-at-2
-    number-at-requires-2
-    cast-state
-    add-number-at-3
-    number-at-requires-3
-    cast-unit
-    add-number-at-4
-    number-at-requires-4
-    cast-bits
-    add-number-at-5
-    number-at-requires-5
-    cast-replaced
-    add-number-at-6
-    number-at-requires-6
-    cast-replacement
-    add-number-at-7
-    number-at-requires-7
-    add-number-at-8
-    number-at-requires-8
-    add-number-at-9
-    number-at-requires-9
-    cast-mask
-    add-material-at
-    material-at-requires
-    add-number-at-10
-    number-at-requires-10
-    add-number-at-11
-    number-at-requires-11
-    name-at-requires
+    line-line-requires
+    body-body-requires
+    overflow_add-line
+    number_at-serial-requires
+    overflow_cast-serial
+    overflow_add-line-2
+    number_at-state-requires
+    overflow_cast-state
+    overflow_add-line-3
+    number_at-unit-requires
+    overflow_cast-unit
+    overflow_add-line-4
+    number_at-bits-requires
+    overflow_cast-bits
+    overflow_add-line-5
+    number_at-replaced-requires
+    overflow_cast-replaced
+    overflow_add-line-6
+    number_at-replacement-requires
+    overflow_cast-replacement
+    overflow_add-body
+    number_at-total-requires
+    overflow_add-body-2
+    number_at-count-requires
+    overflow_add-body-3
+    number_at-mask-requires
+    overflow_cast-mask
+    overflow_add-body-4
+    material_at-material-requires
+    overflow_add-body-5
+    number_at-activation-requires
+    overflow_add-body-6
+    number_at-deactivation-requires
+    name_at-name-requires
     returns)
