@@ -265,6 +265,13 @@ def turn(root, crate, f, names, said):
                 return m.group(0)
             here = [x for x in found if x[1] in on_path] or found
             now, of = here[0]
+            arm = fn.arms.get(of)
+            path = [x for x in (m.group(3) or "").split(".") if x]
+            if arm and path[:1] in (["given"], ["ensures"]):
+                fits = [(f, p) for f, _, p in arm[2] if p and path[: len(p)] == p]
+                if fits:
+                    f, p = max(fits, key=lambda x: len(x[1]))
+                    return m.group(1) + "." + arm[0] + "." + f + "".join("." + x for x in path[len(p) :])
             return m.group(1) + "." + now + fields(m.group(3) or "", of)
 
         def fields(rest, of):
