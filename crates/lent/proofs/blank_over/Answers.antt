@@ -5,4 +5,4 @@ use Rattle.lent.proofs.blank_over.Goals as goal
 
 pub returns : goal.returns
 returns c =
-                blank_made c.args.t.now c.args.n c.requires c.fill.ensures c.put.ensures
+    blank_made c.args.t.now c.args.n c.requires c.fill.ensures c.put.ensures

@@ -14,7 +14,7 @@ loop-i-init c = (c.if-a-b.false, (omega arith, refl))
 
 pub returns-then-a-i : goal.returns-then-a-i
 returns-then-a-i c =
-        sym (c.loop-i.invariant.1.1 ∙ same_other (c.args.a.now) (c.args.b.now) c.loop-i.i (omega arith) (omega arith) c.if-a-i.true)
+    sym (c.loop-i.invariant.1.1 ∙ same_other (c.args.a.now) (c.args.b.now) c.loop-i.i (omega arith) (omega arith) c.if-a-i.true)
 
 pub loop-i-preserved : goal.loop-i-preserved
 loop-i-preserved c =

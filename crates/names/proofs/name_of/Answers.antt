@@ -5,4 +5,4 @@ use Rattle.names.proofs.name_of.Goals as goal
 
 pub returns : goal.returns
 returns c =
-        named c.args.v.now c.fewer-len.ensures c.fill.ensures c.words_of-words.ensures
+    named c.args.v.now c.fewer-len.ensures c.fill.ensures c.words_of-words.ensures

@@ -8,4 +8,4 @@ returns-then-v c = ok_no c.args.v.now c.if-v.true
 
 pub returns : goal.returns
 returns c =
-        ok_sized c.args.v.now c.if-v.false c.text_ok.ensures
+    ok_sized c.args.v.now c.if-v.false c.text_ok.ensures

@@ -5,4 +5,4 @@ use Rattle.names.proofs.shape_right.Goals as goal
 
 pub returns : goal.returns
 returns c =
-            shaped_there c.args.m c.fewer-len.ensures c.bytes_of-room.ensures c.all_zero.ensures
+    shaped_there c.args.m c.fewer-len.ensures c.bytes_of-room.ensures c.all_zero.ensures

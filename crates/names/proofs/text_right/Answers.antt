@@ -12,4 +12,4 @@ slice_bounds-text_ok-end c = sym (length-take-le _ _ (omega arith))
 
 pub returns : goal.returns
 returns c =
-            c.text_ok.ensures ∙ ap text (text_there c.args.m c.fewer-end.ensures c.bytes_of-bytes.ensures)
+    c.text_ok.ensures ∙ ap text (text_there c.args.m c.fewer-end.ensures c.bytes_of-bytes.ensures)

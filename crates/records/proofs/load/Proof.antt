@@ -150,7 +150,7 @@ name_at-name-requires c κs = search rules
 
 returns : tie.Need-returns
 returns c =
-                                            let a = c.args in
+    let a = c.args in
     fields_read a.n a.t.now a.i c.line-line.ensures c.body-body.ensures
     c.number_at-serial.ensures.0
     c.number_at-state.ensures.0

@@ -5,5 +5,5 @@ use Rattle.table.proofs.name_start.Goals as goal
 
 pub returns : goal.returns
 returns c =
-        let a = c.args in
+    let a = c.args in
     name_starts a.n a.t.now a.i c.body-at.ensures c.number_at.ensures.0

@@ -10,8 +10,8 @@ loop-i-init c = (omega arith, text_start c.args.s.now c.tails-p.ensures)
 
 pub loop-i-preserved : goal.loop-i-preserved
 loop-i-preserved c =
-        (omega arith, text_goes_on (c.args.s.now) c.loop-i.i c.loop-i.p c.go_on-p.result (omega arith) c.go_on-p.ensures c.loop-i.invariant.1)
+    (omega arith, text_goes_on (c.args.s.now) c.loop-i.i c.loop-i.p c.go_on-p.result (omega arith) c.go_on-p.ensures c.loop-i.invariant.1)
 
 pub returns : goal.returns
 returns c =
-        text_ends (c.args.s.now) c.loop-i.i c.loop-i.p (omega arith) c.loop-i.invariant.1
+    text_ends (c.args.s.now) c.loop-i.i c.loop-i.p (omega arith) c.loop-i.invariant.1

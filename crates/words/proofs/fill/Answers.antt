@@ -15,4 +15,4 @@ put_all-requires c = rw length-take (omega arith)
 
 pub returns : goal.returns
 returns c =
-        c.put_all.ensures ∙ filled_stored c.args.v.now c.fewer-end.result (omega arith)
+    c.put_all.ensures ∙ filled_stored c.args.v.now c.fewer-end.result (omega arith)
