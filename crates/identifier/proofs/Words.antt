@@ -8,7 +8,7 @@ use mathlib.Core.Bool.{true, false}
 use mathlib.Core.List.{List, [], ◌∷◌}
 use lib.ListN.{length}
 use lib.Dec.{ltb}
-use lib.Bits.{bit_and, and_mask, and_high, and_zero_r}
+use lib.Bits.{and_mask, and_high, and_zero_r}
 use borrow.Author.Tests.{ltb-true, ltb-false}
 use Rattle.octets.specs.Octets.{all, Bytes, from_be, from_be_after}
 use Rattle.octets.proofs.Bools.{both}
