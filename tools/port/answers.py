@@ -109,10 +109,38 @@ def substitute(body, values):
     return lets + re.sub(W, one, body)
 
 
+def uncycled(text):
+    """The proof of a function that calls itself, as if it were another's; and the number of the argument that is its measure, None where it isn't so plain."""
+    lts = set(re.findall(r"use \S+\.(Lts-\S+) as (" + W + ")", text))
+    measure = re.search(r"(?m)^μ-?\S* κs a = a((?:\.[01])+)$", text)
+    if len(lts) != 1 or not measure:
+        return text, None
+    lts = next(iter(lts))[1]
+    text = re.sub(r"(?m)^(" + W + r") : \(t : ℕ\) → " + re.escape(lts) + r"\.(Need-\S+) \([\s\S]*?\n(?=(?:unfolding .*\n)?\1 t )", r"\1 : tie.\2\n", text)
+    text = re.sub(r"(?m)^(" + W + r" : tie\.Need-\S+\n(?:unfolding .*\n)?" + W + r") t ", r"\1 ", text)
+    text = text.replace(lts + ".", "tie.")
+    out = []
+    for part in re.split(r"\n\n+", text):
+        if re.match(r"(?:abbrev )?\S+ : (?:Measures |ℕ → In )", part) or re.search(r"statement|tie\.spec|\bclose\b", part) and not part.startswith(("--", "use ")):
+            continue
+        out.append(part)
+    text = "\n\n".join(out)
+    text = re.sub(r"(?m)^use (borrow\.Fn\.|\S+ as |\S+\.\{statement\}|\S+\.Tie\.).*\n?", "", text)
+    path = measure.group(1)
+    return text + ("" if text.endswith("\n") else "\n"), path.count("1")
+
+
 def turn(root, crate, f, names, said):
     folder = os.path.join(root, "crates", crate, "proofs", f)
     path = os.path.join(folder, "Proof.antt")
     text = open(path, encoding="utf-8").read()
+    measure = None
+    if f.startswith("+"):
+        text, measure = uncycled(text)
+        if measure is None:
+            said(f"{f}: left as it is (a cycle)")
+            return False
+    t = "t " if measure is not None else ""
     fn = Function(names, said)
     uses, decls = [], []
     parts = chunks(text)
@@ -346,7 +374,7 @@ def turn(root, crate, f, names, said):
             if more.strip() and re.search(r"(?<![\w.])" + re.escape(more.split()[0]) + r"(?![\w])", body):
                 said(f"{f}: {name} uses {more}")
             body = body_of(body, var, fn.at[new], True)
-            goals.append((head, name, new, [f"pub {new} : goal.{new}"] + unfold + [f"{new} {var} ="], body))
+            goals.append((head, name, new, [f"pub {new} : goal.{new}"] + unfold + [f"{new} {t}{var} ="], body))
             continue
         if name in place_fns or name in inline:
             continue
@@ -392,6 +420,14 @@ def turn(root, crate, f, names, said):
         return out
 
     files = {}
+    if measure is not None:
+        if by_hand:
+            said(f"{f}: left as it is (a cycle with lemmas over places)")
+            return False
+        last = f.rsplit("/", 1)[-1].lstrip("+")
+        of = next((v for k, v in fn.params.items() if k.split("::")[-1] == last), None)
+        inv.insert(0, f"abbrev pub decreases-{last} : goal.decreases-{last}\ndecreases-{last} l = l.{of[measure]}")
+        inv_text = "\n\n".join(inv)
     if by_hand:
         mine = {new for _, _, new, _, _ in goals if new}
         args = " ".join(f"{k}-{l}" for l, _, _ in fn.loops.values() for k in ("invariant", "decreases"))
@@ -441,8 +477,8 @@ def main(argv):
             if "Proof.antt" in fs:
                 f = os.path.relpath(folder, os.path.join(where, "proofs"))
                 text = open(os.path.join(folder, "Proof.antt"), encoding="utf-8").read()
-                if f.startswith("+") or ".Tie as tie" not in text or f not in by:
-                    print(f"{crate}: {f}: left as it is ({'cycle' if f.startswith('+') else 'by hand' if f in by else 'no names'})")
+                if (".Tie as tie" not in text and not f.startswith("+")) or f not in by:
+                    print(f"{crate}: {f}: left as it is ({'by hand' if f in by else 'no names'})")
                     continue
                 turn(root, crate, f, by[f], lambda s: print(f"{crate}: {s}"))
 

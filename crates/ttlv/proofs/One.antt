@@ -36,6 +36,15 @@ parse_ended d s t h = go t (first_of s) (reads d s t h)
     go nil End (r_end e) = unfold ended in rw e
     go (value tag kind v r) (Value tag2 kind2 n next) (r_value l b a o e) = unfold ended in sym (ne_eqb (length s) 0 (λ z. omega arith))
     go (group tag i r) (Group tag2 next) (r_group l b i2 e) = unfold ended in sym (ne_eqb (length s) 0 (λ z. omega arith))
+    go nil Bad x'' = elim x'' [ ]
+    go nil (Value tag2 kind2 n next) x3 = elim x3 [ ]
+    go nil (Group tag2 next) x4 = elim x4 [ ]
+    go (value tag kind v r) End x3 = elim x3 [ ]
+    go (value tag kind v r) Bad x4 = elim x4 [ ]
+    go (value tag kind v r) (Group tag2 next) x5 = elim x5 [ ]
+    go (group tag i r) End x4 = elim x4 [ ]
+    go (group tag i r) Bad x5 = elim x5 [ ]
+    go (group tag i r) (Value tag2 kind2 n next) x6 = elim x6 [ ]
 
 emptied_is : (d : ℕ) (s : List ℕ) → emptied (parse (suc d) s) ≡ eqb (length s) 0
 unfolding emptied

@@ -84,6 +84,15 @@ tree s h = go (tree_of s) (first_of s) (reads 7 s (tree_of s) (run_parse s h))
         subst (λ (x : Items). Tree s (group tg x rr) (Group tg nx)) (parse_tree (part s 8 (nx - 8)) bb q)
         (subst (λ (x : Items). Tree s (group tg (tree_of (part s 8 (nx - 8))) x) (Group tg nx)) (parse_tree (drop nx s) rr e)
         (t_group {next = nx} l b (parse_run (part s 8 (nx - 8)) bb q) (parse_run (drop nx s) rr e)))
+    go nil Bad x'' = elim x'' [ ]
+    go nil (Value tag2 kind2 n next) x3 = elim x3 [ ]
+    go nil (Group tag2 next) x4 = elim x4 [ ]
+    go (value tag kind v r) End x3 = elim x3 [ ]
+    go (value tag kind v r) Bad x4 = elim x4 [ ]
+    go (value tag kind v r) (Group tag2 next) x5 = elim x5 [ ]
+    go (group tag i r) End x4 = elim x4 [ ]
+    go (group tag i r) Bad x5 = elim x5 [ ]
+    go (group tag i r) (Value tag2 kind2 n next) x6 = elim x6 [ ]
 
 -- ---- the same as equations, for a caller that knows what stands at the front
 
@@ -108,6 +117,15 @@ bad_items : (s : List ℕ) (t : Items) (f : First) → Tree s t f → f ≡ Bad 
 bad_items s nil End (t_end e) h = let z : ◌≡◌ {A = ℕ} 0 1 = cc in omega arith
 bad_items s (value tag kind v r) (Value tag2 kind2 n next) (t_value l b a o e) h = let z : ◌≡◌ {A = ℕ} 0 1 = cc in omega arith
 bad_items s (group tag i r) (Group tag2 next) (t_group l b i2 e) h = let z : ◌≡◌ {A = ℕ} 0 1 = cc in omega arith
+bad_items s nil Bad x4 h = elim x4 [ ]
+bad_items s nil (Value tag2 kind2 n next) x5 h = elim x5 [ ]
+bad_items s nil (Group tag2 next) x6 h = elim x6 [ ]
+bad_items s (value tag kind v r) End x4 h = elim x4 [ ]
+bad_items s (value tag kind v r) Bad x5 h = elim x5 [ ]
+bad_items s (value tag kind v r) (Group tag2 next) x6 h = elim x6 [ ]
+bad_items s (group tag i r) End x5 h = elim x5 [ ]
+bad_items s (group tag i r) Bad x6 h = elim x6 [ ]
+bad_items s (group tag i r) (Value tag2 kind2 n next) x7 h = elim x7 [ ]
 
 module _ (s : List ℕ) (h : is_run s ≡ true) where
   by_first : {f : First} → first_of s ≡ f → Tree s (tree_of s) f
