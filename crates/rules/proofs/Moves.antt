@@ -29,10 +29,10 @@ pub data Move (operation code state next : ℕ) : Type 0 where
 pub moves : {operation code state next : ℕ} → Move operation code state next → next_state operation code state ≡ To next
 moves {operation} {code} {state} (activates o s n) = states.activates operation code state o s ∙ ap To (sym n)
 moves {operation} {code} {state} (compromises o c h k n) = states.compromises operation code state o c h k ∙ ap To (sym n)
-moves {operation} {code} {state} (compromises_destroyed o c s n) = states.compromises-destroyed operation code state o c s ∙ ap To (sym n)
+moves {operation} {code} {state} (compromises_destroyed o c s n) = states.compromises_destroyed operation code state o c s ∙ ap To (sym n)
 moves {operation} {code} {state} (deactivates o c s n) = states.deactivates operation code state o c s ∙ ap To (sym n)
 moves {operation} {code} {state} (destroys o s n) = states.destroys operation code state o s ∙ ap To (sym n)
-moves {operation} {code} {state} (destroys_compromised o s n) = states.destroys-compromised operation code state o s ∙ ap To (sym n)
+moves {operation} {code} {state} (destroys_compromised o s n) = states.destroys_compromised operation code state o s ∙ ap To (sym n)
 
 -- ---- and there is no other
 
@@ -51,44 +51,44 @@ module _ (operation code state next : ℕ) (is : next_state operation code state
   when_activate o =
       by_number state pre_active
       (λ s. activates o s (same_next (states.activates operation code state o s) is))
-      (λ s. not_both is (states.activates-not operation code state o s))
+      (λ s. not_both is (states.activates_not operation code state o s))
 
   when_compromise : operation ≡ revoke → is_compromise code ≡ true → Move operation code state next
   when_compromise o c =
       by_number state destroyed
-      (λ s. compromises_destroyed o c s (same_next (states.compromises-destroyed operation code state o c s) is))
+      (λ s. compromises_destroyed o c s (same_next (states.compromises_destroyed operation code state o c s) is))
       (λ s. elim (dec_le 1 state) [
         | yes h ↦ elim (dec_le state 3) [
           | yes k ↦ compromises o c h k (same_next (states.compromises operation code state o c h k) is)
-          | no k ↦ not_both is (states.compromises-not operation code state o c (omega arith) (omega arith) (omega arith) s)
+          | no k ↦ not_both is (states.compromises_not operation code state o c (omega arith) (omega arith) (omega arith) s)
         ]
-        | no h ↦ not_both is (states.compromises-not operation code state o c (omega arith) (omega arith) (omega arith) s)
+        | no h ↦ not_both is (states.compromises_not operation code state o c (omega arith) (omega arith) (omega arith) s)
       ])
 
   when_revoke : operation ≡ revoke → is_compromise code ≡ false → Move operation code state next
   when_revoke o c =
       by_number state active
       (λ s. deactivates o c s (same_next (states.deactivates operation code state o c s) is))
-      (λ s. not_both is (states.deactivates-not operation code state o c s))
+      (λ s. not_both is (states.deactivates_not operation code state o c s))
 
   when_destroy : operation ≡ destroy → Move operation code state next
   when_destroy o =
       by_number state pre_active (λ s. destroys o (inl s) (same_next (states.destroys operation code state o (inl s)) is)) (λ a.
       by_number state deactivated (λ s. destroys o (inr s) (same_next (states.destroys operation code state o (inr s)) is)) (λ b.
-      by_number state compromised (λ s. destroys_compromised o s (same_next (states.destroys-compromised operation code state o s) is)) (λ c.
+      by_number state compromised (λ s. destroys_compromised o s (same_next (states.destroys_compromised operation code state o s) is)) (λ c.
       elim (dec_le 5 state) [
         | yes h ↦ elim (dec_le state 6) [
-          | yes k ↦ not_both is (states.destroys-destroyed operation code state o h k)
-          | no k ↦ not_both is (states.destroys-not operation code state o (omega arith) (omega arith) a b c)
+          | yes k ↦ not_both is (states.destroys_destroyed operation code state o h k)
+          | no k ↦ not_both is (states.destroys_not operation code state o (omega arith) (omega arith) a b c)
         ]
-        | no h ↦ not_both is (states.destroys-not operation code state o (omega arith) (omega arith) a b c)
+        | no h ↦ not_both is (states.destroys_not operation code state o (omega arith) (omega arith) a b c)
       ])))
 
   pub move : Move operation code state next
   move =
       by_number operation activate when_activate (λ a.
       by_number operation revoke (λ o. on_bool (is_compromise code) (when_compromise o) (when_revoke o)) (λ b.
-      by_number operation destroy when_destroy (λ c. not_both is (states.on-other operation code state a b c))))
+      by_number operation destroy when_destroy (λ c. not_both is (states.on_other operation code state a b c))))
 
 -- ---- what a move leads to
 
