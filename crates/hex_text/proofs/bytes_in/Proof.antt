@@ -1,120 +1,111 @@
 -- `hex_text::bytes_in`. What is left decides, and what is read is written.
 -- Assumes nothing.
-use Prim.Native.Nat.{ℕ, ◌-◌, ◌<◌}
-use mathlib.Core.Path.{◌≡◌, sym, ap, ◌∙◌}
-use mathlib.Core.List.{List}
+use Prim.Native.Nat.{◌-◌, ◌<◌}
+use mathlib.Core.Path.{◌≡◌, sym, ◌∙◌}
 use native.Mathlib.Omega.{arith}
-use lib.ListN.{length, drop, set}
+use lib.ListN.{length, drop}
 use Rattle.hex_text.specs.Bytes.{first_byte}
 use Rattle.hex_text.proofs.Texts.{Mid, first_low, two_left, mid_start, mid_size, mid_gap, mid_end, mid_broken, mid_full, mid_byte}
 use borrow.Author.Rules.{rules}
 use Rattle.hex_text.proofs.bytes_in.Statement.{statement}
 use Rattle.hex_text.proofs.bytes_in.Tie as tie
 
-abbrev invariant-loop : tie.invariant-loop
-invariant-loop s out₀ n₀ i₀ out n i = Mid s out₀ out n i
+abbrev invariant-loop-i : tie.invariant-loop-i
+invariant-loop-i s out₀ n₀ i₀ out n i = Mid s out₀ out n i
 
-abbrev decreases-loop : tie.decreases-loop
-decreases-loop s out₀ n₀ i₀ out n i = length s - i
+abbrev decreases-loop-i : tie.decreases-loop-i
+decreases-loop-i s out₀ n₀ i₀ out n i = length s - i
 
--- the turn that a byte is read in, the text, that the byte stands in it, and what it is
-abbrev turn : tie.After-pair-at invariant-loop decreases-loop → tie.At-loop invariant-loop decreases-loop
-turn c = c.before.before.before.before
-
-abbrev S : tie.At-loop invariant-loop decreases-loop → List ℕ
-S k = k.before.before.before.args.s.now
-
-inside : (c : tie.After-pair-at invariant-loop decreases-loop) → (turn c).loop.i < length (S (turn c))
+inside : (c : tie.After-pair_at-b invariant-loop-i decreases-loop-i) → c.loop-i.i < length (c.args.s.now)
 inside c = omega arith
 
-is_byte : (c : tie.Else2 invariant-loop decreases-loop) → first_byte (drop (turn c.before).loop.i (S (turn c.before))) ≡ 256 → ⊥
-is_byte c e = c.if2.false (c.before.pair-at.ensures ∙ e)
+is_byte : (c : tie.Else-b-eq-NO_BYTE invariant-loop-i decreases-loop-i) → first_byte (drop c.loop-i.i (c.args.s.now)) ≡ 256 → ⊥
+is_byte c e = c.if-b-eq-NO_BYTE.false (c.pair_at-b.ensures ∙ e)
 
-low : (c : tie.Else2 invariant-loop decreases-loop) → c.before.pair-at.result < 256
+low : (c : tie.Else-b-eq-NO_BYTE invariant-loop-i decreases-loop-i) → c.pair_at-b.result < 256
 low c =
-    let m = first_low (drop (turn c.before).loop.i (S (turn c.before))) in
-    let e = c.before.pair-at.ensures in
-    let n = c.if2.false in
+    let m = first_low (drop c.loop-i.i (c.args.s.now)) in
+    let e = c.pair_at-b.ensures in
+    let n = c.if-b-eq-NO_BYTE.false in
     omega arith
 
-loop-holds : tie.Need-loop-init invariant-loop decreases-loop
-loop-holds c = mid_start _ _
+loop-i-init : tie.Need-loop-i-init invariant-loop-i decreases-loop-i
+loop-i-init c = mid_start _ _
 
-shared-slice-read-if1 : tie.Need-shared-slice-read-if1 invariant-loop decreases-loop
-shared-slice-read-if1 c = search rules
+bounds-s-i : tie.Need-bounds-s-i invariant-loop-i decreases-loop-i
+bounds-s-i c = search rules
 
-add-i : tie.Need-overflow-add-i invariant-loop decreases-loop
-add-i c = search rules
+overflow_add-i : tie.Need-overflow_add-i invariant-loop-i decreases-loop-i
+overflow_add-i c = search rules
 
-loop-less : tie.Need-loop-smaller invariant-loop decreases-loop
-loop-less c = search rules
+loop-i-smaller-then-s-i-eq32 : tie.Need-loop-i-smaller-then-s-i-eq32 invariant-loop-i decreases-loop-i
+loop-i-smaller-then-s-i-eq32 c = search rules
 
-loop-again : tie.Need-loop-preserved invariant-loop decreases-loop
-loop-again c = let k = c.before.before.before in mid_gap k.loop.invariant (omega arith) c.if1.true
+loop-i-preserved-then-s-i-eq32 : tie.Need-loop-i-preserved-then-s-i-eq32 invariant-loop-i decreases-loop-i
+loop-i-preserved-then-s-i-eq32 c = mid_gap c.loop-i.invariant (omega arith) c.if-s-i-eq32.true
 
-pair-at-requires : tie.Need-pair-at-requires invariant-loop decreases-loop
-pair-at-requires c κs = search rules
+pair_at-b-requires : tie.Need-pair_at-b-requires invariant-loop-i decreases-loop-i
+pair_at-b-requires c κs = search rules
 
-same_length : tie.Need-same-length invariant-loop decreases-loop
-same_length c = mid_size (turn c.before).loop.inv
+shape_of-out-then-b-eq-NO_BYTE : tie.Need-shape_of-out-then-b-eq-NO_BYTE invariant-loop-i decreases-loop-i
+shape_of-out-then-b-eq-NO_BYTE c = mid_size c.loop-i.invariant
 
-returns : tie.Need-returns invariant-loop decreases-loop
-returns c = mid_broken (turn c.before).loop.inv (inside c.before) c.before.before.if1.false (sym c.before.pair-at.ensures ∙ c.if2.true)
+returns-then-b-eq-NO_BYTE : tie.Need-returns-then-b-eq-NO_BYTE invariant-loop-i decreases-loop-i
+returns-then-b-eq-NO_BYTE c = mid_broken c.loop-i.invariant (inside c.before) c.if-s-i-eq32.false (sym c.pair_at-b.ensures ∙ c.if-b-eq-NO_BYTE.true)
 
-same-length-2 : tie.Need-same-length-2 invariant-loop decreases-loop
-same-length-2 c = mid_size (turn c.before.before).loop.inv
+shape_of-out-then-out-n : tie.Need-shape_of-out-then-out-n invariant-loop-i decreases-loop-i
+shape_of-out-then-out-n c = mid_size c.loop-i.invariant
 
-returns-2 : tie.Need-returns-2 invariant-loop decreases-loop
-returns-2 c = mid_full (turn c.before.before).loop.inv (inside c.before.before) c.before.before.before.if1.false (is_byte c.before) c.if3.true
+returns-then-out-n : tie.Need-returns-then-out-n invariant-loop-i decreases-loop-i
+returns-then-out-n c = mid_full c.loop-i.invariant (inside c.before.before) c.if-s-i-eq32.false (is_byte c.before) c.if-out-n.true
 
-cast-out : tie.Need-overflow-cast-out invariant-loop decreases-loop
-cast-out c = let l = low c.before in search rules
+overflow_cast-out : tie.Need-overflow_cast-out invariant-loop-i decreases-loop-i
+overflow_cast-out c = let l = low c.before in search rules
 
-slice-write-out : tie.Need-slice-write-out invariant-loop decreases-loop
-slice-write-out c = search rules
+bounds-out-n : tie.Need-bounds-out-n invariant-loop-i decreases-loop-i
+bounds-out-n c = search rules
 
-add-n : tie.Need-overflow-add-n invariant-loop decreases-loop
-add-n c = let r = (turn c.before.before).loop.inv.room in search rules
+overflow_add-n : tie.Need-overflow_add-n invariant-loop-i decreases-loop-i
+overflow_add-n c = let r = c.loop-i.invariant.room in search rules
 
-add-i-2 : tie.Need-overflow-add-i-2 invariant-loop decreases-loop
-add-i-2 c = let t = two_left (S (turn c.before.before)) (turn c.before.before).loop.i (inside c.before.before) (is_byte c.before) in search rules
+overflow_add-i-else-s-i-eq32 : tie.Need-overflow_add-i-else-s-i-eq32 invariant-loop-i decreases-loop-i
+overflow_add-i-else-s-i-eq32 c = let t = two_left (c.args.s.now) c.loop-i.i (inside c.before.before) (is_byte c.before) in search rules
 
-loop-less-2 : tie.Need-loop-smaller-2 invariant-loop decreases-loop
-loop-less-2 c = let h = inside c.before.before in omega arith
+loop-i-smaller : tie.Need-loop-i-smaller invariant-loop-i decreases-loop-i
+loop-i-smaller c = let h = inside c.before.before in omega arith
 
-loop-again-2 : tie.Need-loop-preserved-2 invariant-loop decreases-loop
-loop-again-2 c =
-    let k = c.before.before in
-    let written = mid_byte (turn k).loop.invariant (inside k) k.before.if1.false (is_byte c.before) (omega arith) in
-    rw k.pair-at.ensures written
+loop-i-preserved : tie.Need-loop-i-preserved invariant-loop-i decreases-loop-i
+loop-i-preserved c =
+    let written = mid_byte c.loop-i.invariant (inside c.before.before) c.if-s-i-eq32.false (is_byte c.before) (omega arith) in
+    rw c.pair_at-b.ensures written
 
-same-length-3 : tie.Need-same-length-3 invariant-loop decreases-loop
-same-length-3 c = mid_size c.before.loop.invariant
+shape_of-out : tie.Need-shape_of-out invariant-loop-i decreases-loop-i
+shape_of-out c = mid_size c.loop-i.invariant
 
-returns-3 : tie.Need-returns-3 invariant-loop decreases-loop
-returns-3 c = mid_end c.before.loop.invariant (omega arith)
+returns : tie.Need-returns invariant-loop-i decreases-loop-i
+returns c = mid_end c.loop-i.invariant (omega arith)
 
 pub bytes_in_spec : {M : Type 1} → statement M
 bytes_in_spec =
     tie.close
     (tie.spec
-    invariant-loop
-    decreases-loop
-    loop-holds
-    shared-slice-read-if1
-    add-i
-    loop-less
-    loop-again
-    pair-at-requires
-    same_length
-    returns
-    same-length-2
-    returns-2
-    cast-out
-    slice-write-out
-    add-n
-    add-i-2
-    loop-less-2
-    loop-again-2
-    same-length-3
-    returns-3)
+    invariant-loop-i
+    decreases-loop-i
+    loop-i-init
+    bounds-s-i
+    overflow_add-i
+    loop-i-smaller-then-s-i-eq32
+    loop-i-preserved-then-s-i-eq32
+    pair_at-b-requires
+    shape_of-out-then-b-eq-NO_BYTE
+    returns-then-b-eq-NO_BYTE
+    shape_of-out-then-out-n
+    returns-then-out-n
+    overflow_cast-out
+    bounds-out-n
+    overflow_add-n
+    overflow_add-i-else-s-i-eq32
+    loop-i-smaller
+    loop-i-preserved
+    shape_of-out
+    returns)
