@@ -220,7 +220,7 @@ def turn(root, crate, f, names, said):
 
     def expand(text):
         """The text with each abbreviation over a place written out."""
-        for _ in range(12):
+        for _ in range(400):
             found = None
             for name in inline:
                 found = re.search(r"(?<![\w.'-])" + re.escape(name) + r" (?=[\w(])", text)
@@ -243,6 +243,7 @@ def turn(root, crate, f, names, said):
             var, body = inline[name]
             put = re.sub(r"(?<![\w.'-])" + re.escape(var) + r"(?![\w'-])", lambda m: arg, body.strip())
             # in brackets where it is a word of a larger term
+            put = re.sub(r"\(\(([^()]*)\)\)", r"(\1)", put)
             tight = re.match(r"^[\w'.-]+$|^\(.*\)(?:\.[\w-]+)*$", put)
             text = text[: found.start()] + (put if tight else "(" + put + ")") + text[j:]
         return text
