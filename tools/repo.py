@@ -6,13 +6,13 @@ import subprocess
 TOP = pathlib.Path(__file__).resolve().parent.parent
 CRATES = TOP / "crates"
 
-HEAD = re.compile(r'^((?: *//[^\n]*\n)*) *(?:#\[no_mangle\]\n)?(pub )?(?:extern "C" )?fn (\w+)\(([^)]*)\)', re.M)
+HEAD = re.compile(r'^((?: *//[^\n]*\n)*) *(?:#\[unsafe\(no_mangle\)\]\n)?(pub )?(?:extern "C" )?fn (\w+)\(([^)]*)\)', re.M)
 
 
 def crates():
     """The crates of crates.txt, lowest first."""
     lines = (TOP / "crates.txt").read_text().splitlines()
-    return [line.split(":")[0].strip() for line in lines if ":" in line and not line.startswith("#")]
+    return [line.split(":")[0].split()[0] for line in lines if ":" in line and not line.startswith("#")]
 
 
 class Edit:

@@ -1,5 +1,5 @@
-// The C boundary: one call of the engine over lent buffers. include/junctionmoth.h says what a host
-// must know. Asks nothing: its contract is the engine's, with the length through a reference.
+// The C boundary: one call of the engine over lent buffers, which junctionmoth_c exports to C.
+// Asks nothing: its contract is the engine's, with the length through a reference.
 #![tactic(auto)]
 
 ghost use Rattle.std.specs.Int.{w64};
@@ -7,8 +7,7 @@ ghost use Rattle.std.proofs.Common.{of_z};
 ghost use Rattle.junctionmoth.specs.Boundary.{CallIs};
 
 // The number of the refusal, or 0; *len is the length of the response, 0 on refusal.
-#[unsafe(no_mangle)]
-pub extern "C" fn junctionmoth_serve(
+pub fn junctionmoth_serve(
     request: &[u8],
     table: &mut [u8],
     fresh: &[u8],
