@@ -314,6 +314,11 @@ def turn(root, crate, f, names, said):
                     said(f"{f}: arm {of}: {json.dumps(arm, ensure_ascii=False)} at {rest}")
             return rest
 
+        # an arm that a let has named
+        for m in list(re.finditer(r"let (" + W + r") = " + re.escape(var) + r"\.(" + W + r") in\s+", text)):
+            if any(of in fn.arms for _, of in fn.labels.get(norm(m.group(2)), [])):
+                text = text.replace(m.group(0), "", 1)
+                text = re.sub(r"(?<![\w.'-])" + re.escape(m.group(1)) + r"(?=\.)", var + "." + m.group(2), text)
         # a test of `!x` says now what x is
         text = re.sub(r"\bnot-(true|false) _ ((?:" + W + r"\.)+\1)(?![\w'-])", r"\2", text)
         text = re.sub(r"\bnot_(true|false) _ ((?:" + W + r"\.)+\1)(?![\w'-])", r"\2", text)
