@@ -7,7 +7,7 @@ SHELL := /bin/bash
 .PHONY: run test quick
 
 run:
-	rt check bench tree
+	tools/programs
 	@echo "request:"
 	@tools/run tree < crates/bench/stdin
 	@echo "response:"

@@ -1,4 +1,4 @@
-//! Links the archive of the proved engine, which `rt staticlib junctionmoth` writes, on x86-64, and stops if it is not there.
+//! Links the archive of the proved engine, which `tools/programs` writes, on x86-64, and stops if it is not there.
 //! Reads nothing but the archive's own path inside the repository.
 
 use std::path::PathBuf;
@@ -15,7 +15,7 @@ fn main() {
     println!("cargo:rerun-if-changed={}", archive.display());
     assert!(
         archive.is_file(),
-        "target/staticlib/libjunctionmoth.a is missing: run `rt staticlib junctionmoth` at the top of the repository, \
+        "target/staticlib/libjunctionmoth.a is missing: run `tools/programs` at the top of the repository, \
          or build with --no-default-features, which leaves the archive out"
     );
     println!("cargo:rustc-link-search=native={}", folder.display());
