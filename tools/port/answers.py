@@ -1,7 +1,7 @@
 #!/usr/bin/env python3
 """Turns proofs/F/Proof.antt of the older Rattle, which names a proof for each goal, into proofs/F/Invariants.antt and proofs/F/Answers.antt of today's.
 
-usage: answers.py CRATE..     at the top of the repository; the crates below each must be proved
+usage: answers.py [--hand] CRATE..     at the top of the repository; the crates below each must be proved
 
 `rt check --generated DIR --old-names` says how goals, places, steps and loops are called now. A goal that the check finds alone is left out (`search rules`), chains of `.before` go,
 and what is handed a place by name is handed it again. What it can't turn it says, and leaves as it was. It proves nothing: rt check decides.
@@ -14,6 +14,8 @@ import subprocess
 import sys
 import tempfile
 
+# whether a function with lemmas over places stays a Proof.antt (--hand)
+HAND = False
 W = r"[^\s(){}\[\];,.\"`|]+"
 
 
@@ -94,6 +96,15 @@ class Function:
 
     def place(self, old):
         return self.new_place.get(norm(old))
+
+    def whole(self, at):
+        """The place where an arm has all its names: the last of those that the older Rattle made of it."""
+        while at in self.arms:
+            more = [q for q, p in self.places.items() if p == at and q in self.arms and self.arms[q][0] == self.arms[at][0]]
+            if len(more) != 1:
+                break
+            at = more[0]
+        return at
 
 
 def substitute(body, values):
@@ -182,9 +193,12 @@ def turn(root, crate, f, names, said):
     def types(sig):
         def one(m):
             name = norm(m.group(1))
-            new = fn.by_name.get(name)
+            new = fn.by_name.get(fn.whole(name))
             if not new:
                 return m.group(0)
+            if not HAND:
+                imported.add(new)
+                return new
             if by_hand:
                 return "tie." + new + re.sub(W, lambda x: loop_names.get(x.group(0), x.group(0)), m.group(2))
             rest = m.group(2).split(" ")[1:]
@@ -205,7 +219,7 @@ def turn(root, crate, f, names, said):
             if q and sig.count("→") == 1 and norm(q.group(1)) in fn.places:
                 place_fns[name] = (p, norm(q.group(1)))
             else:
-                helpers[name] = p
+                helpers[name] = fn.whole(p)
 
     # abbreviations over a place are written out where they stand
     inline = {}
@@ -216,7 +230,8 @@ def turn(root, crate, f, names, said):
                 inline[name] = c.groups()
                 del helpers[name]
     lemmas = [h for h in helpers]
-    by_hand = bool(lemmas)
+    by_hand = bool(lemmas) and HAND
+    imported = set()
 
     def expand(text):
         """The text with each abbreviation over a place written out."""
@@ -248,10 +263,10 @@ def turn(root, crate, f, names, said):
             text = text[: found.start()] + (put if tight else "(" + put + ")") + text[j:]
         return text
 
-    def body_of(text, var, place, is_view):
-        return flat(expand(text), var, place, is_view and not by_hand)
+    def body_of(text, var, place, is_view, goal=None):
+        return flat(expand(text), var, place, is_view and not by_hand, goal)
 
-    def flat(text, var, place, is_view):
+    def flat(text, var, place, is_view, goal):
         """The text with its chains and labels turned. var: the variable that holds a place."""
         env = {var: (place, is_view)}
         place_word = lambda: "(?:" + "|".join(re.escape(v) for v in env) + ")"
@@ -277,6 +292,8 @@ def turn(root, crate, f, names, said):
                 if n is None:
                     said(f"{f}: {h} at {place} wants {p}")
                     return m.group(0)
+                if not HAND:
+                    return h + " " + (var if n == 0 else f"(goal.at.{goal or fn.by_name[place]} {var}).{fn.by_name[p]}")
                 return h + " " + var + ".before" * (n + (1 if is_view else 0))
 
             text = re.sub(r"(?<![\w.'-])" + re.escape(h) + r" " + re.escape(var) + r"(?![\w'.-])", one, text)
@@ -319,6 +336,12 @@ def turn(root, crate, f, names, said):
             if any(of in fn.arms for _, of in fn.labels.get(norm(m.group(2)), [])):
                 text = text.replace(m.group(0), "", 1)
                 text = re.sub(r"(?<![\w.'-])" + re.escape(m.group(1)) + r"(?=\.)", var + "." + m.group(2), text)
+        # a name for all that an arm binds is written out
+        while True:
+            m = re.search(r"let (" + W + r") = (" + re.escape(var) + r"\." + W + r"\.given\.0) in\s+", text)
+            if not m:
+                break
+            text = text[: m.start()] + re.sub(r"(?<![\w.'-])" + re.escape(m.group(1)) + r"((?:\.\d+)+)(?![\w'-])", lambda x: m.group(2) + x.group(1), text[m.end() :])
         # a test of `!x` says now what x is
         text = re.sub(r"\bnot-(true|false) _ ((?:" + W + r"\.)+\1)(?![\w'-])", r"\2", text)
         text = re.sub(r"\bnot_(true|false) _ ((?:" + W + r"\.)+\1)(?![\w'-])", r"\2", text)
@@ -379,7 +402,7 @@ def turn(root, crate, f, names, said):
                 continue
             if more.strip() and re.search(r"(?<![\w.])" + re.escape(more.split()[0]) + r"(?![\w])", body):
                 said(f"{f}: {name} uses {more}")
-            body = body_of(body, var, fn.at[new], True)
+            body = body_of(body, var, fn.at[new], True, new)
             goals.append((head, name, new, [f"pub {new} : goal.{new}"] + unfold + [f"{new} {t}{var} ="], body))
             continue
         if name in place_fns or name in inline:
@@ -455,6 +478,8 @@ def turn(root, crate, f, names, said):
         files["Invariants.antt"] = "\n".join(head_lines + needed(inv_text) + [f"use {module}.Given as goal", "", inv_text, ""])
     if texts:
         lines = needed(all_text)
+        if imported:
+            lines.append(f"use {module}.Goals.{{{', '.join(sorted(imported))}}}")
         if "tie." in all_text:
             lines.append(f"use {module}.Tie as tie")
         files["Answers.antt"] = "\n".join(head_lines + lines + [f"use {module}.Goals as goal", "", all_text, ""])
@@ -466,6 +491,9 @@ def turn(root, crate, f, names, said):
 
 
 def main(argv):
+    global HAND
+    HAND = "--hand" in argv
+    argv = [a for a in argv if a != "--hand"]
     root = os.getcwd()
     for crate in argv:
         where = os.path.join(root, "crates", crate)

@@ -4,14 +4,10 @@ use mathlib.Core.Path.{◌≡◌, refl, sym, ap, ◌∙◌}
 use Prim.Native.Nat.{ℕ}
 use native.Mathlib.Omega.{arith}
 use mathlib.Core.Bool.{true, ◌&&◌}
-use mathlib.Core.List.{List, [], ◌∷◌}
-use mathlib.Core.Logic.{⊎_elim}
+use mathlib.Core.List.{List}
 use lib.ListN.{take}
 use lib.Dec.{eqb}
 use borrow.Author.Tests.{eqb-true, eq-eqb, ne_eqb}
-use types.Run.{OneOf}
-use denote.Enum.Declared.{tag_of}
-use Rattle.ttlv.specs.contracts.First.{the_type}
 use Rattle.octets.specs.Octets.{from_be, part}
 use Rattle.octets.proofs.If.{ifb_true, ifb_false, on_bool}
 use Rattle.ttlv.specs.Parse.{first_of}
@@ -29,11 +25,11 @@ use Rattle.ttlv.proofs.Step.{Within, Holds, value_ends, group_ends}
 
 module _ (tag kind : ℕ) where
   -- another variant than Value
-  pub no_value_first : (f : First) → OneOf (0 ∷ 1 ∷ 3 ∷ []) (tag_of the_type f) → bytes_in tag kind f ≡ NoSpan
+  pub no_value_first : (f : First) → ((t k n next : ℕ) → f ≡ Value t k n next → ⊥) → bytes_in tag kind f ≡ NoSpan
   unfolding bytes_in
   no_value_first End h = refl
   no_value_first Bad h = refl
-  no_value_first (Value t k n next) h = ⊎_elim (λ e. absurd (omega arith)) (λ w. ⊎_elim (λ e. absurd (omega arith)) (λ e. absurd (omega arith)) w) h
+  no_value_first (Value t k n next) h = absurd (h t k n next refl)
   no_value_first (Group t next) h = refl
 
   module _ (tag2 kind2 n next : ℕ) where
@@ -52,12 +48,12 @@ module _ (tag kind : ℕ) where
 
 module _ (tag : ℕ) where
   -- another variant than Group
-  pub no_group_first : (f : First) → OneOf (0 ∷ 1 ∷ 2 ∷ []) (tag_of the_type f) → body_in tag f ≡ NoBody
+  pub no_group_first : (f : First) → ((t next : ℕ) → f ≡ Group t next → ⊥) → body_in tag f ≡ NoBody
   unfolding body_in
   no_group_first End h = refl
   no_group_first Bad h = refl
   no_group_first (Value t k n next) h = refl
-  no_group_first (Group t next) h = ⊎_elim (λ e. absurd (omega arith)) (λ w. ⊎_elim (λ e. absurd (omega arith)) (λ e. absurd (omega arith)) w) h
+  no_group_first (Group t next) h = absurd (h t next refl)
 
   pub other_group : (tag2 next : ℕ) → (tag2 ≡ tag → ⊥) → body_in tag (Group tag2 next) ≡ NoBody
   unfolding body_in

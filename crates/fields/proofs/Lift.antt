@@ -22,7 +22,7 @@ use Rattle.ttlv.specs.Tree.{is_run, tree_of}
 use Rattle.fields.specs.Fields.{starts_with, bytes_of, body_of, number_of}
 use Rattle.fields.specs.Found.{starts_in, starts_at, bytes_in, bytes_at, number_in, number_at, body_in, body_at}
 use Rattle.ttlv.specs.declared.First.{First}
-use Rattle.ttlv.specs.declared.First.TheVariants.{End, Value, Group}
+use Rattle.ttlv.specs.declared.First.TheVariants.{Bad, End, Value, Group}
 use Rattle.fields.specs.declared.BytesField.{BytesField}
 use Rattle.fields.specs.declared.BytesField.TheVariants.{Span, NoSpan}
 use Rattle.fields.specs.declared.NumberField.{NumberField}
@@ -73,6 +73,15 @@ unfolding starts_with starts_in
 starts_at_lem s tag nil End (t_end e) = refl
 starts_at_lem s tag (value tag2 kind v r) (Value tag3 kind2 n next) (t_value l b a o e) = refl
 starts_at_lem s tag (group tag2 i r) (Group tag3 next) (t_group l b i2 e) = refl
+starts_at_lem s tag nil Bad x'' = elim x'' [ ]
+starts_at_lem s tag nil (Value tag3 kind2 n next) x3 = elim x3 [ ]
+starts_at_lem s tag nil (Group tag3 next) x4 = elim x4 [ ]
+starts_at_lem s tag (value tag2 kind v r) End x3 = elim x3 [ ]
+starts_at_lem s tag (value tag2 kind v r) Bad x4 = elim x4 [ ]
+starts_at_lem s tag (value tag2 kind v r) (Group tag3 next) x5 = elim x5 [ ]
+starts_at_lem s tag (group tag2 i r) End x4 = elim x4 [ ]
+starts_at_lem s tag (group tag2 i r) Bad x5 = elim x5 [ ]
+starts_at_lem s tag (group tag2 i r) (Value tag3 kind2 n next) x6 = elim x6 [ ]
 
 bytes_at_lem : (s : List ℕ) (tag kind : ℕ) (t : Items) (f : First) → Tree s t f → bytes_of tag kind t ≡ bytes_read s (bytes_in tag kind f)
 unfolding bytes_of bytes_in ifb
@@ -83,6 +92,15 @@ bytes_at_lem s tag kind (value tag2 kind2 v r) (Value tag3 kind3 m nx) (t_value 
     arm true = refl
     arm false = refl
 bytes_at_lem s tag kind (group tag2 i r) (Group tag3 next) (t_group l b i2 e) = refl
+bytes_at_lem s tag kind nil Bad x'' = elim x'' [ ]
+bytes_at_lem s tag kind nil (Value tag3 kind3 m nx) x3 = elim x3 [ ]
+bytes_at_lem s tag kind nil (Group tag3 next) x4 = elim x4 [ ]
+bytes_at_lem s tag kind (value tag2 kind2 v r) End x3 = elim x3 [ ]
+bytes_at_lem s tag kind (value tag2 kind2 v r) Bad x4 = elim x4 [ ]
+bytes_at_lem s tag kind (value tag2 kind2 v r) (Group tag3 next) x5 = elim x5 [ ]
+bytes_at_lem s tag kind (group tag2 i r) End x4 = elim x4 [ ]
+bytes_at_lem s tag kind (group tag2 i r) Bad x5 = elim x5 [ ]
+bytes_at_lem s tag kind (group tag2 i r) (Value tag3 kind3 m nx) x6 = elim x6 [ ]
 
 body_at_lem : (s : List ℕ) (tag : ℕ) (t : Items) (f : First) → Tree s t f → body_of tag t ≡ body_read s (body_in tag f)
 unfolding body_of body_in ifb
@@ -93,6 +111,15 @@ body_at_lem s tag (group tag2 i r) (Group tag3 nx) (t_group {tag = tg} {next} l 
     arm : (c : Bool) → ifb c (some (tree_of (part s 8 (next - 8)), tree_of (drop next s))) none ≡ body_read s (ifb c (Body next) NoBody)
     arm true = refl
     arm false = refl
+body_at_lem s tag nil Bad x'' = elim x'' [ ]
+body_at_lem s tag nil (Value tag3 kind3 m nx) x3 = elim x3 [ ]
+body_at_lem s tag nil (Group tag3 nx) x4 = elim x4 [ ]
+body_at_lem s tag (value tag2 kind2 v r) End x3 = elim x3 [ ]
+body_at_lem s tag (value tag2 kind2 v r) Bad x4 = elim x4 [ ]
+body_at_lem s tag (value tag2 kind2 v r) (Group tag3 nx) x5 = elim x5 [ ]
+body_at_lem s tag (group tag2 i r) End x4 = elim x4 [ ]
+body_at_lem s tag (group tag2 i r) Bad x5 = elim x5 [ ]
+body_at_lem s tag (group tag2 i r) (Value tag3 kind3 m nx) x6 = elim x6 [ ]
 
 -- ---- the laws
 

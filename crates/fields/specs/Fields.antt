@@ -3,7 +3,7 @@
 use Rattle.std.specs.Prelude.{ℕ, Bool, false, ◌&&◌, List, eqb}
 use Rattle.std.proofs.Math.Option.{Option, none, some}
 use Rattle.octets.specs.If.{ifb}
-use Rattle.octets.specs.Maybe.{◌>>=◌, ◌>>◌}
+use Rattle.octets.specs.Maybe.{◌>>=◌}
 use Rattle.octets.specs.Octets.{from_be}
 use Rattle.ttlv.specs.Items.{Items, nil, value, group}
 
