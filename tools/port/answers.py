@@ -422,6 +422,7 @@ def turn(root, crate, f, names, said):
     rename = {name: new for _, name, new, _, _ in goals if new and name != new}
     texts = list(blocks)
     for head, name, new, first, body in goals:
+        body = re.sub(r"\(\(([^()]*)\)\)", r"(\1)", re.sub(r"=\n {6,}(?=\S)", "=\n    ", body))
         body = re.sub(W, lambda m: rename.get(m.group(0), m.group(0)) if body[m.start() - 1 : m.start()] != "." else m.group(0), body)
         texts.append("\n".join(head + first) + body)
     module = f"Rattle.{crate}.proofs.{f.replace('/', '.')}"
