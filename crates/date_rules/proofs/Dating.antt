@@ -5,10 +5,9 @@ use mathlib.Core.Logic.{◌⊎◌, inl, inr}
 use Prim.Native.Nat.{ℕ, ◌≤◌, ◌<◌}
 use native.Mathlib.Omega.{arith}
 use native.Mathlib.Decide.{ℕ_discrete}
-use mathlib.Core.Bool.{Bool, true, false, ◌&&◌, true≢false}
+use mathlib.Core.Bool.{true, false}
 use lib.Dec.{leb, eqb}
-use borrow.Author.Tests.{eq-eqb, ne_eqb, eqb-true, leb-true, leb-false}
-use Rattle.octets.specs.If.{ifb}
+use borrow.Author.Tests.{eq-eqb, ne_eqb, leb-true, leb-false}
 use Rattle.octets.proofs.If.{ifb_true, ifb_false, on_bool}
 use Rattle.octets.proofs.Bools.{and_r, and_i, and_no, and_second}
 use Rattle.rules.specs.Numbers.{activate, pre_active, active, deactivated}
