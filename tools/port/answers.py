@@ -346,6 +346,8 @@ def turn(root, crate, f, names, said):
         text = re.sub(r"\bnot-(true|false) _ ((?:" + W + r"\.)+\1)(?![\w'-])", r"\2", text)
         text = re.sub(r"\bnot_(true|false) _ ((?:" + W + r"\.)+\1)(?![\w'-])", r"\2", text)
         text = text.replace(".well-formed", ".well_formed").replace(".type-inv", ".type_inv")
+        text = re.sub(r"(?<=[\w'])\.inv(?![\w'-])", ".invariant", text)
+        text = re.sub(r"(?<![\w.'-])(" + re.escape(var) + r")\.pre(?![\w'-])", r"\1.requires", text)
         for a, b in fn.args:
             text = re.sub(r"(?<![\w'-])" + re.escape(var + a) + r"(?![\w'-])", var + b, text)
         return re.sub(r"(?<![\w.'-])(" + re.escape(var) + r")\.(" + W + r")((?:\." + W + r")*)", label, text)

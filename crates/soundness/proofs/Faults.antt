@@ -64,6 +64,7 @@ module _ (n : ℕ) (t : List ℕ) where
 
   from_first : (k : ℕ) (later : List Rule) (fault : Fault) → First n t k later fault → fault_from k later n t ≡ some fault
   unfolding fault_from or_later
+  from_first k [] fault h = elim h [ ]
   from_first k (of_table rule ∷ later) _ (broken_whole h) = ifb_false _ _ _ h
   from_first k (of_places broken ∷ later) _ (broken_at i l h g) = ap (or_later k _) (found_is n (broken n t) i l h g)
   from_first k (of_table rule ∷ later) fault (past_whole h f) = ifb_true _ _ _ h ∙ from_first (suc k) later fault f
