@@ -1,6 +1,6 @@
 -- A table of either count as plain facts, from the check and back.
 -- Assumes nothing.
-use Prim.Native.Nat.{ℕ, ◌+◌, ◌*◌, ◌^◌, ◌<◌}
+use Prim.Native.Nat.{ℕ, ◌^◌, ◌<◌}
 use native.Mathlib.Omega.{arith}
 use mathlib.Core.Path.{◌≡◌, refl, sym, ap, subst, ◌∙◌}
 use mathlib.Core.Bool.{Bool, true, false, ◌&&◌, ◌||◌}
@@ -9,11 +9,10 @@ use lib.ListN.{length}
 use lib.Dec.{eqb}
 use borrow.Author.Tests.{eqb-true}
 use Rattle.octets.proofs.Bools.{and_l, and_r, and_i, no_unless}
-use Rattle.table.specs.Layout.{lead_size, size_of, small_count, large_count, places_ok}
+use Rattle.table.specs.Layout.{lead_size, small_count, large_count, places_ok}
 use Rattle.table.specs.Records.{places_said, blank}
-use Rattle.table.proofs.Blank.{said_blank}
 use Rattle.soundness.specs.Sound.{sound}
-use Rattle.soundness.proofs.SoundIs.{Sound, sound_is}
+use Rattle.soundness.proofs.SoundIs.{sound_is}
 use Rattle.soundness.proofs.Blank.{blank_sound}
 use Rattle.place_counts.specs.Counts.{table_right}
 
