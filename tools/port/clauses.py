@@ -48,4 +48,10 @@ for f,items in byfile.items():
         new=[' '*ind+c for c in cl]
         lines[last+1:last+1]=new
         print(f,l,name,len(new))
-    open(f,'w',encoding='utf-8').write('\n'.join(lines))
+    # constructors that the file doesn't import
+    text='\n'.join(lines)
+    for mod,name in set(re.findall(r'(Rattle\.[\w.]+\.TheVariants)\.(\w+)',re.sub(r'(?m)^use .*$','',text))):
+        text=re.sub(r'(?<![\w.])'+re.escape(mod+'.'+name)+r'(?!\w)',name,text)
+        if re.search(r'(?m)^use '+re.escape(mod)+r'\.\{',text): text=re.sub(r'(?m)^(use '+re.escape(mod)+r'\.\{)',r'\1'+name+', ',text)
+        else: text=re.sub(r'(?m)^use ',lambda m:'use '+mod+'.{'+name+'}\nuse ',text,count=1)
+    open(f,'w',encoding='utf-8').write(text)

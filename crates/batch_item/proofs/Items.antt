@@ -17,7 +17,7 @@ use Rattle.ttlv.specs.Parse.{first_of}
 use Rattle.ttlv.specs.Tree.{is_run, tree_of}
 use Rattle.fields.specs.Found.{body_in, body_at}
 use Rattle.ttlv.specs.declared.First.{First}
-use Rattle.ttlv.specs.declared.First.TheVariants.{End, Value, Group}
+use Rattle.ttlv.specs.declared.First.TheVariants.{Bad, End, Value, Group}
 use Rattle.fields.specs.declared.BodyField.{BodyField}
 use Rattle.fields.specs.declared.BodyField.TheVariants.{Body, NoBody}
 use Rattle.ttlv.proofs.Step.{rest}
@@ -59,6 +59,15 @@ not_there s (group tag i r) (Group tag2 next) (t_group {tag = tg} {next = nx} l 
     on_bool (eqb tg batch_item)
     (λ y. let q : Body nx ≡ NoBody = sym (ifb_true _ _ _ y) ∙ h in let z : ◌≡◌ {A = ℕ} 0 1 = cc in absurd (omega arith))
     (λ n. rw n)
+not_there s nil Bad x7 x h = elim x7 [ ]
+not_there s nil (Value tag2 kind2 n next) x8 x h = elim x8 [ ]
+not_there s nil (Group tag2 next) x9 x h = elim x9 [ ]
+not_there s (value tag kind v r) End x7 x h = elim x7 [ ]
+not_there s (value tag kind v r) Bad x8 x h = elim x8 [ ]
+not_there s (value tag kind v r) (Group tag2 next) x9 x h = elim x9 [ ]
+not_there s (group tag i r) End x8 x h = elim x8 [ ]
+not_there s (group tag i r) Bad x9 x h = elim x9 [ ]
+not_there s (group tag i r) (Value tag2 kind2 n next) x10 x h = elim x10 [ ]
 
 module _ (s : List ℕ) (run : is_run s ≡ true) where
   pub items_end : length s ≡ 0 → items_in (tree_of s) ≡ some []
