@@ -35,7 +35,7 @@ def chunks(text):
     out, head, body = [], [], []
     name = None
     for line in text.split("\n"):
-        if line and not line[0].isspace():
+        if line and not line[0].isspace() and line[0] not in ")]}":
             if line.startswith("--"):
                 if body:
                     out.append((head, body))
@@ -427,6 +427,21 @@ def turn(root, crate, f, names, said):
         body = re.sub(r"\(\(([^()]*)\)\)", r"(\1)", re.sub(r"=\n {6,}(?=\S)", "=\n    ", body))
         body = re.sub(W, lambda m: rename.get(m.group(0), m.group(0)) if body[m.start() - 1 : m.start()] != "." else m.group(0), body)
         texts.append("\n".join(head + first) + body)
+    # what the invariants cite of the file goes with them
+    moved = []
+    if not by_hand:
+        more = list(inv)
+        while more:
+            words = set(re.findall(W, more.pop()))
+            for g in goals:
+                if g[2] is None and g[1] in words and g[1] not in helpers and g not in moved:
+                    moved.append(g)
+                    more.append("\n".join(g[3]) + g[4])
+    for g in [g for g in goals if g in moved]:
+        text = "\n".join(g[0] + g[3]) + g[4]
+        texts.remove(text)
+        first = re.sub(r"^((?:abbrev |unfoldable )*)(?:pub )?", r"\1pub ", g[3][0])
+        inv.insert([h for h in goals if h in moved].index(g), "\n".join(g[0] + [first] + g[3][1:]) + g[4])
     module = f"Rattle.{crate}.proofs.{f.replace('/', '.')}"
     uses = [u for u in uses if not re.search(r"\.(Statement\.\{statement\}|Tie as tie)$", u)]
     head_lines = [l for l in header if l.startswith("--")]
@@ -481,6 +496,9 @@ def turn(root, crate, f, names, said):
         files["Invariants.antt"] = "\n".join(head_lines + needed(inv_text) + [f"use {module}.Given as goal", "", inv_text, ""])
     if texts:
         lines = needed(all_text)
+        here = [g[1] for g in goals if g in moved and g[1] in set(re.findall(W, all_text))]
+        if here:
+            lines.append(f"use {module}.Invariants.{{{', '.join(here)}}}")
         if imported:
             lines.append(f"use {module}.Goals.{{{', '.join(sorted(imported))}}}")
         if "tie." in all_text:
