@@ -1,7 +1,7 @@
 -- `batch_item::count_items`. What is counted and what is left decide; the rest of the run is shorter.
 -- Assumes nothing.
 use mathlib.Core.Path.{◌≡◌, sym, ap, ◌∙◌}
-use Prim.Native.Nat.{◌+◌, ◌-◌, ◌≤◌}
+use Prim.Native.Nat.{◌+◌, ◌≤◌}
 use native.Mathlib.Omega.{arith}
 use lib.ListN.{length, length-take, length-drop}
 use mathlib.Core.Bool.{true}
@@ -24,7 +24,7 @@ loop-t-init c = (c.requires, counted_none (items_in (tree_of c.args.s.now)), ome
 
 pub returns-in_default : goal.returns-in_default
 returns-in_default c =
-            let l = c.loop-t in
+    let l = c.loop-t in
     sym (l.invariant.1 ∙ ap (counted l.count) (items_other l.t.now l.invariant.0 c.loop-t-test.true (sym c.body_field.ensures ∙ c.in_default.is)))
 
 run : (c : In-Body) → is_run (c.loop-t.t.now) ≡ true
@@ -50,7 +50,7 @@ find_item-requires c = body_is_run (c.loop-t.t.now) (run (goal.at.find_item-requ
 
 pub returns-in_default-find_item : goal.returns-in_default-find_item
 returns-in_default-find_item c =
-            sym (c.loop-t.invariant.1 ∙ ap (counted c.loop-t.count) (items_bad (c.loop-t.t.now) (run (goal.at.returns-in_default-find_item c).In-Body) (found (goal.at.returns-in_default-find_item c).In-Body) (item_absent _ _ (sym c.find_item.ensures ∙ c.in_default-find_item.is))))
+    sym (c.loop-t.invariant.1 ∙ ap (counted c.loop-t.count) (items_bad (c.loop-t.t.now) (run (goal.at.returns-in_default-find_item c).In-Body) (found (goal.at.returns-in_default-find_item c).In-Body) (item_absent _ _ (sym c.find_item.ensures ∙ c.in_default-find_item.is))))
 
 pub slice_bounds-t-count : goal.slice_bounds-t-count
 slice_bounds-t-count c = (ends (goal.at.slice_bounds-t-count c).In-Body).within
@@ -70,7 +70,7 @@ loop-t-smaller c = rw (length-take, length-drop) (omega (arith, ends (goal.at.lo
 
 pub loop-t-preserved : goal.loop-t-preserved
 loop-t-preserved c =
-            let l = c.loop-t in
+    let l = c.loop-t in
     let item = told_item _ _ (sym c.find_item.ensures ∙ c.in-Item.is) in
     (run_behind (c.loop-t.t.now) (run (goal.at.loop-t-preserved c).In-Body) (ends (goal.at.loop-t-preserved c).In-Body), l.invariant.1 ∙ items_more (c.loop-t.t.now) (run (goal.at.loop-t-preserved c).In-Body) (found (goal.at.loop-t-preserved c).In-Body) l.count item.there, rw (length-take, length-drop) (omega (arith, ends (goal.at.loop-t-preserved c).In-Body, fewer (goal.at.loop-t-preserved c).In-Item)))
 

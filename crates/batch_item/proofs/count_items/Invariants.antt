@@ -1,7 +1,7 @@
 -- `batch_item::count_items`. What is counted and what is left decide; the rest of the run is shorter.
 -- Assumes nothing.
 use mathlib.Core.Path.{◌≡◌}
-use Prim.Native.Nat.{◌+◌, ◌-◌, ◌≤◌}
+use Prim.Native.Nat.{◌+◌, ◌≤◌}
 use lib.ListN.{length}
 use mathlib.Core.Bool.{true}
 use Rattle.ttlv.specs.Tree.{is_run, tree_of}

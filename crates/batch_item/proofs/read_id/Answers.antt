@@ -17,7 +17,7 @@ use Rattle.batch_item.proofs.read_id.Goals as goal
 pub returns-then-starts_with : goal.returns-then-starts_with
 unfolding id_at id_span
 returns-then-starts_with c =
-            sym (ifb_true _ _ _ (sym c.starts_with.ensures ∙ c.if-starts_with.true) ∙ ap id_span (sym c.bytes_field.ensures ∙ c.in_default.is))
+    sym (ifb_true _ _ _ (sym c.starts_with.ensures ∙ c.if-starts_with.true) ∙ ap id_span (sym c.bytes_field.ensures ∙ c.in_default.is))
 
 pub returns-in_default : goal.returns-in_default
 unfolding id_at
@@ -32,7 +32,7 @@ read c =
 pub returns-then-len-lt1 : goal.returns-then-len-lt1
 unfolding id_span
 returns-then-len-lt1 c =
-        sym (read (goal.at.returns-then-len-lt1 c).In-Span ∙ ifb_false _ _ _ (and_no (leb 1 (c.in-Span.len)) (leb (c.in-Span.len) id_most) (lt-leb 1 (c.in-Span.len) c.if-len-lt1.true)))
+    sym (read (goal.at.returns-then-len-lt1 c).In-Span ∙ ifb_false _ _ _ (and_no (leb 1 (c.in-Span.len)) (leb (c.in-Span.len) id_most) (lt-leb 1 (c.in-Span.len) c.if-len-lt1.true)))
 
 pub returns-then-len-gt-ID_MOST : goal.returns-then-len-gt-ID_MOST
 unfolding id_span
@@ -43,5 +43,5 @@ returns-then-len-gt-ID_MOST c =
 pub returns : goal.returns
 unfolding id_span
 returns c =
-        let m = c.in-Span.len in
+    let m = c.in-Span.len in
     sym (read (goal.at.returns c).In-Span ∙ ifb_true _ _ _ (and_i (leb 1 m) (leb m id_most) (le-leb 1 m c.if-len-lt1.false) (le-leb m id_most c.if-len-gt-ID_MOST.false)))

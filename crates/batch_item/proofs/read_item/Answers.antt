@@ -1,7 +1,7 @@
 -- `batch_item::read_item`. The parts that the item reader tells, with the ID carried by its struct.
 -- Assumes nothing.
 use mathlib.Core.Path.{◌≡◌, sym, ◌∙◌}
-use Prim.Native.Nat.{◌+◌, ◌-◌, ◌≤◌}
+use Prim.Native.Nat.{◌+◌, ◌≤◌}
 use native.Mathlib.Omega.{arith}
 use mathlib.Core.Bool.{true}
 use lib.ListN.{length}
@@ -18,7 +18,7 @@ find_item-requires c = c.requires.0
 
 pub returns-in_default : goal.returns-in_default
 returns-in_default c =
-                absurd (no_item c.args.body.now _ c.requires.1 (sym c.find_item.ensures ∙ c.in_default.is))
+    absurd (no_item c.args.body.now _ c.requires.1 (sym c.find_item.ensures ∙ c.in_default.is))
 
 run : (c : In-Item) → is_run (c.args.body.now) ≡ true
 run c = c.requires.0

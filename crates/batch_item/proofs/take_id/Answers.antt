@@ -5,4 +5,4 @@ use Rattle.batch_item.proofs.take_id.Goals as goal
 
 pub returns : goal.returns
 returns c =
-            id_filled c.args.v.now _ c.requires c.put_all.ensures
+    id_filled c.args.v.now _ c.requires c.put_all.ensures
