@@ -282,7 +282,8 @@ def turn(root, crate, f, names, said):
                 for m in re.finditer(r"let (" + W + r") = " + re.escape(v) + r" in(\s)", new):
                     x = m.group(1)
                     new = new[: m.start()] + new[m.end() :]
-                    new = re.sub(r"(?<![\w.'-])" + re.escape(x) + r"(?![\w'-])", v, new)
+                    # `rw e at h`: the word, not a variable of that name
+                    new = re.sub(r"\b(?:rw|simp) [^()]*? at(?= )|(?<![\w.'-])" + re.escape(x) + r"(?![\w'-])", lambda y: v if y.group(0) == x else y.group(0), new)
                     break
             if new != text:
                 text, changed = new, True
