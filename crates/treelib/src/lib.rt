@@ -1,84 +1,81 @@
 // A TTLV message as text: a line for each item, indented by its depth, or the byte at which it is
 // malformed. Assumes nothing. Every function is proved safe and ends; where a message is malformed
-// and which bytes of a text are escaped is proved, what is printed is tested.
+// and which bytes of a text are escaped is proved, what is printed is tested. A failed write ends
+// each function with its error.
 #![tactic(auto)]
 
 ghost use Rattle.std.specs.Prelude.{◌≡◌, ◌≤◌, ◌+◌, get_or};
 ghost use Rattle.treelib.specs.Malformed.{malformed_at};
 ghost use Rattle.treelib.specs.Escapes.{is_upper_control, is_control};
 
+use std::io;
 use ttlv::First;
 
-fn print_tag(tag: u32) {
-    printlib::byte((tag / 65536 % 256) as u8);
-    printlib::byte((tag / 256 % 256) as u8);
-    printlib::byte((tag % 256) as u8);
+fn print_tag(rt: &impl Print, tag: u32) -> io::Result<()> {
+    printlib::byte(rt, (tag / 65536 % 256) as u8)?;
+    printlib::byte(rt, (tag / 256 % 256) as u8)?;
+    printlib::byte(rt, (tag % 256) as u8)
 }
 
-// A type's name. Answers, as the write does, whether it was written.
-fn print_type(kind: u8) -> bool {
+// A type's name.
+fn print_type(rt: &impl Print, kind: u8) -> io::Result<()> {
     match kind {
-        ttlv_types::STRUCTURE => io::write_all(1, b"Structure"),
-        ttlv_types::INTEGER => io::write_all(1, b"Integer"),
-        ttlv_types::LONG_INTEGER => io::write_all(1, b"Long Integer"),
-        ttlv_types::BIG_INTEGER => io::write_all(1, b"Big Integer"),
-        ttlv_types::ENUMERATION => io::write_all(1, b"Enumeration"),
-        ttlv_types::BOOLEAN => io::write_all(1, b"Boolean"),
-        ttlv_types::TEXT_STRING => io::write_all(1, b"Text String"),
-        ttlv_types::BYTE_STRING => io::write_all(1, b"Byte String"),
-        ttlv_types::DATE_TIME => io::write_all(1, b"Date-Time"),
-        ttlv_types::INTERVAL => io::write_all(1, b"Interval"),
-        _ => io::write_all(1, b"Date-Time Extended"),
+        ttlv_types::STRUCTURE => rt.write_all(b"Structure"),
+        ttlv_types::INTEGER => rt.write_all(b"Integer"),
+        ttlv_types::LONG_INTEGER => rt.write_all(b"Long Integer"),
+        ttlv_types::BIG_INTEGER => rt.write_all(b"Big Integer"),
+        ttlv_types::ENUMERATION => rt.write_all(b"Enumeration"),
+        ttlv_types::BOOLEAN => rt.write_all(b"Boolean"),
+        ttlv_types::TEXT_STRING => rt.write_all(b"Text String"),
+        ttlv_types::BYTE_STRING => rt.write_all(b"Byte String"),
+        ttlv_types::DATE_TIME => rt.write_all(b"Date-Time"),
+        ttlv_types::INTERVAL => rt.write_all(b"Interval"),
+        _ => rt.write_all(b"Date-Time Extended"),
     }
 }
 
 // Two blanks for each level above.
-fn print_indent(depth: usize) {
-    let mut k = depth;
-    while k < ttlv::DEPTH_MOST {
-        io::write_all(1, b"  ");
-        k += 1;
+fn print_indent(rt: &impl Print, depth: usize) -> io::Result<()> {
+    for _ in depth..ttlv::DEPTH_MOST {
+        rt.write_all(b"  ")?;
     }
+    Ok(())
 }
 
 // Tag in hex, type and length; `depth` levels are still allowed here.
-fn print_head(depth: usize, tag: u32, kind: u8, len: usize) {
-    print_indent(depth);
-    print_tag(tag);
-    io::write_all(1, b" ");
-    print_type(kind);
-    io::write_all(1, b" ");
-    io::print_decimal(1, len as u64);
+fn print_head(rt: &impl Print, depth: usize, tag: u32, kind: u8, len: usize) -> io::Result<()> {
+    print_indent(rt, depth)?;
+    print_tag(rt, tag)?;
+    rt.write_all(b" ")?;
+    print_type(rt, kind)?;
+    rt.write_all(b" ")?;
+    rt.print(len)
 }
 
 // A number in two's complement; half is the first that stands for one below zero. `print_number`
 // shows the bound.
-fn print_signed(bits: u64, half: u64)
+fn print_signed(rt: &impl Print, bits: u64, half: u64) -> io::Result<()>
     requires { bits ≤ half + half }
 {
     if bits < half {
-        io::print_decimal(1, bits);
-        return;
+        return rt.print(bits);
     }
-    io::write_all(1, b"-");
-    io::print_decimal(1, half - (bits - half));
+    rt.write_all(b"-")?;
+    rt.print(half - (bits - half))
 }
 
 // A number by its type.
-fn print_number(kind: u8, bits: u64) {
+fn print_number(rt: &impl Print, kind: u8, bits: u64) -> io::Result<()> {
     if kind == ttlv_types::INTEGER {
-        print_signed(bits % 0x100000000, 0x80000000);
-        return;
+        return print_signed(rt, bits % 0x100000000, 0x80000000);
     }
     if kind == ttlv_types::ENUMERATION {
-        io::print_decimal(1, bits);
-        return;
+        return rt.print(bits);
     }
     if kind == ttlv_types::INTERVAL {
-        io::print_decimal(1, bits);
-        return;
+        return rt.print(bits);
     }
-    print_signed(bits, 0x8000000000000000);
+    print_signed(rt, bits, 0x8000000000000000)
 }
 
 // Whether two bytes spell one of the control characters U+0080 to U+009F.
@@ -97,17 +94,16 @@ fn is_control(before: u8, b: u8, next: u8) -> bool
 }
 
 // A byte of a text: \xHH for one of a control character, a backslash twice, any other as it is.
-fn print_text_byte(before: u8, b: u8, next: u8) {
+fn print_text_byte(rt: &impl Print, before: u8, b: u8, next: u8) -> io::Result<()> {
     if is_control(before, b, next) {
-        io::write_all(1, b"\\x");
-        printlib::byte(b);
-        return;
+        rt.write_all(b"\\x")?;
+        return printlib::byte(rt, b);
     }
     if b == b'\\' {
-        io::write_all(1, b"\\");
+        rt.write_all(b"\\")?;
     }
     let alone = [b];
-    io::write_all(1, &alone);
+    rt.write_all(&alone)
 }
 
 // The byte at i, or 0 past the end.
@@ -122,56 +118,52 @@ fn byte_at(v: &[u8], i: usize) -> u8
 
 // A text, with its control characters escaped, so that it neither forges a line of the tree nor
 // drives a terminal.
-fn print_text(v: &[u8]) {
+fn print_text(rt: &impl Print, v: &[u8]) -> io::Result<()> {
     let mut before: u8 = 0;
-    let mut i = 0;
-    while i < v.len() {
+    for i in 0..v.len() {
         let b = v[i];
-        print_text_byte(before, b, byte_at(v, i + 1));
+        print_text_byte(rt, before, b, byte_at(v, i + 1))?;
         before = b;
-        i += 1;
     }
+    Ok(())
 }
 
 // A value by its type: text as text, escaped, bytes in hex, numbers in decimal.
-fn print_plain(kind: u8, v: &[u8]) {
+fn print_plain(rt: &impl Print, kind: u8, v: &[u8]) -> io::Result<()> {
     if kind == ttlv_types::TEXT_STRING {
-        print_text(v);
-        return;
+        return print_text(rt, v);
     }
     if kind == ttlv_types::BYTE_STRING {
-        printlib::bytes(v);
-        return;
+        return printlib::bytes(rt, v);
     }
     if kind == ttlv_types::BIG_INTEGER {
-        printlib::bytes(v);
-        return;
+        return printlib::bytes(rt, v);
     }
-    print_number(kind, octets::number(v));
+    print_number(rt, kind, octets::number(v))
 }
 
-fn print_value(depth: usize, tag: u32, kind: u8, v: &[u8]) {
-    print_head(depth, tag, kind, v.len());
-    io::write_all(1, b": ");
-    print_plain(kind, v);
-    io::write_all(1, b"\n");
+fn print_value(rt: &impl Print, depth: usize, tag: u32, kind: u8, v: &[u8]) -> io::Result<()> {
+    print_head(rt, depth, tag, kind, v.len())?;
+    rt.write_all(b": ")?;
+    print_plain(rt, kind, v)?;
+    rt.write_all(b"\n")
 }
 
-fn print_group(depth: usize, tag: u32, len: usize) {
-    print_head(depth, tag, ttlv_types::STRUCTURE, len);
-    io::write_all(1, b"\n");
+fn print_group(rt: &impl Print, depth: usize, tag: u32, len: usize) -> io::Result<()> {
+    print_head(rt, depth, tag, ttlv_types::STRUCTURE, len)?;
+    rt.write_all(b"\n")
 }
 
 // The items of s, at most `depth` deep, each on a line.
-fn print_items(s: &[u8], depth: usize) {
+fn print_items(rt: &impl Print, s: &[u8], depth: usize) -> io::Result<()> {
     if depth == 0 {
-        return;
+        return Ok(());
     }
     let mut t = s;
     loop {
         match ttlv::read_first(t) {
-            First::End => return,
-            First::Bad => return,
+            First::End => return Ok(()),
+            First::Bad => return Ok(()),
             First::Value {
                 tag,
                 kind,
@@ -179,12 +171,12 @@ fn print_items(s: &[u8], depth: usize) {
                 next,
             } => {
                 let stop = 8 + len;
-                print_value(depth, tag, kind, &t[8..stop]);
+                print_value(rt, depth, tag, kind, &t[8..stop])?;
                 t = &t[next..];
             }
             First::Group { tag, next } => {
-                print_group(depth, tag, next - 8);
-                print_items(&t[8..next], depth - 1);
+                print_group(rt, depth, tag, next - 8)?;
+                print_items(rt, &t[8..next], depth - 1)?;
                 t = &t[next..];
             }
         }
@@ -214,12 +206,11 @@ fn malformed_at(s: &[u8]) -> usize
 }
 
 // Prints s as a tree of items, or where it is malformed.
-pub fn show(s: &[u8]) {
+pub fn show(rt: &impl Print, s: &[u8]) -> io::Result<()> {
     if ttlv::is_message(s) {
-        print_items(s, ttlv::DEPTH_MOST);
-        return;
+        return print_items(rt, s, ttlv::DEPTH_MOST);
     }
-    io::write_all(1, b"malformed at byte ");
-    io::print_decimal(1, malformed_at(s) as u64);
-    io::write_all(1, b"\n");
+    rt.write_all(b"malformed at byte ")?;
+    rt.print(malformed_at(s))?;
+    rt.write_all(b"\n")
 }
