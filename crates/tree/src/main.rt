@@ -1,9 +1,11 @@
 // Shows a TTLV message from standard input, at most 65,536 bytes of it, as an indented tree of
-// items. Assumes nothing.
+// items. Assumes nothing. A failed read or write ends it with the error.
 #![tactic(auto)]
 
-fn main() {
-    let mut s = io::large_buffer();
-    let n = io::read_full(0, &mut s);
-    treelib::show(&s[..n]);
+use std::io;
+
+fn main(rt: HostRuntime) -> io::Result<()> {
+    let mut s = [0u8; readlib::LARGE];
+    let n = readlib::read_full(&mut rt.stdin(), &mut s)?;
+    treelib::show(&rt, &s[..n])
 }
