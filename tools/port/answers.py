@@ -339,7 +339,7 @@ def turn(root, crate, f, names, said):
                 text = re.sub(r"(?<![\w.'-])" + re.escape(m.group(1)) + r"(?=\.)", var + "." + m.group(2), text)
         # a name for all that an arm binds is written out
         while True:
-            m = re.search(r"let (" + W + r") = (" + re.escape(var) + r"\." + W + r"\.given\.0) in\s+", text)
+            m = re.search(r"let (" + W + r") = (" + re.escape(var) + r"\." + W + r"\.given\.0(?:\.\d)*) in\s+", text)
             if not m:
                 break
             text = text[: m.start()] + re.sub(r"(?<![\w.'-])" + re.escape(m.group(1)) + r"((?:\.\d+)+)(?![\w'-])", lambda x: m.group(2) + x.group(1), text[m.end() :])
