@@ -347,6 +347,7 @@ def turn(root, crate, f, names, said):
         text = re.sub(r"\bnot-(true|false) _ ((?:" + W + r"\.)+\1)(?![\w'-])", r"\2", text)
         text = re.sub(r"\bnot_(true|false) _ ((?:" + W + r"\.)+\1)(?![\w'-])", r"\2", text)
         text = text.replace(".well-formed", ".well_formed").replace(".type-inv", ".type_inv")
+        text = re.sub(r"(?<=\.)(if\d+)\.left(?![\w'-])", r"\1.false", text)
         text = re.sub(r"(?<=[\w'])\.inv(?![\w'-])", ".invariant", text)
         text = re.sub(r"(?<![\w.'-])(" + re.escape(var) + r")\.pre(?![\w'-])", r"\1.requires", text)
         for a, b in fn.args:
