@@ -2,20 +2,18 @@
 -- Assumes nothing.
 use mathlib.Core.Path.{◌≡◌, refl, sym, ap, ◌∙◌}
 use mathlib.Core.Logic.{◌⊎◌, inl, inr, ⊎_elim}
-use Prim.Native.Nat.{ℕ, zero, suc, ◌+◌, ◌/◌, ◌^◌, ◌≤◌, ◌<◌}
+use Prim.Native.Nat.{ℕ, zero, suc, ◌+◌, ◌^◌, ◌≤◌, ◌<◌}
 use native.Mathlib.Omega.{arith}
 use native.Mathlib.Decide.{ℕ_discrete}
-use mathlib.Core.Bool.{Bool, true, false, not, ◌&&◌, false≢true}
+use mathlib.Core.Bool.{true, not, false≢true}
 use mathlib.Core.List.{List}
-use lib.ListN.{length, drop}
-use lib.Dec.{eqb}
 use borrow.Author.Tests.{eqb-true, eqb-false, not-true}
 use Rattle.octets.specs.Octets.{all_zero}
 use Rattle.octets.proofs.If.{on_if}
 use Rattle.octets.proofs.Bools.{and_l}
 use Rattle.names.specs.Names.{is_named}
 use Rattle.table.specs.declared.Record.{Record}
-use Rattle.table.specs.Records.{place_at, with_place, serial_at, is_free, last_serial, latest_clock, with_clock}
+use Rattle.table.specs.Records.{place_at, serial_at, is_free, last_serial, latest_clock, with_clock}
 use Rattle.table.proofs.Blank.{zero_place}
 use Rattle.table.proofs.Places.{place_range}
 use Rattle.table.proofs.Lead.{length_clock, bytes_clock, latest_clock_lem, last_clock, said_clock, line_clock, serial_clock, body_clock, zeros_clock, place_clock, name_clock}
