@@ -25,7 +25,7 @@ use Rattle.plans.specs.declared.Outcome.TheVariants.{Failed, Created, Done, Show
 use Rattle.answer.specs.Respond.{Answer, Response, outcome_items, id_items, answer_items, batch_items, version_items, header_items, respond}
 use Rattle.answer.specs.Read.{answer_in, answers_of, head_in, outcome_ok, answer_ok, allowed, if_allowed, answers_in}
 use Rattle.octets.proofs.Maybe.{not_some, some_is, on_bind, on_test}
-use Rattle.answer.proofs.Fields.{ended_is, body_spells, bytes_back, bytes_spells, spelled_back, spelled_spells, fixed_back, fixed_spells, absent_back, given_back, on-optional}
+use Rattle.answer.proofs.Fields.{ended_is, body_spells, bytes_back, bytes_spells, spelled_back, spelled_spells, fixed_back, fixed_spells, absent_back, given_back, on_optional}
 use Rattle.answer.proofs.Outcomes.{outcome_back, outcome_spells}
 
 -- ---- the ID

@@ -16,7 +16,7 @@ use Rattle.fields.specs.Fields.{starts_with, optional}
 use Rattle.attributes_read.specs.Attributes.{or_unset}
 use Rattle.answer.specs.Respond.{long, date_items}
 use Rattle.answer.specs.Read.{set_date}
-use Rattle.answer.proofs.Fields.{spelled_back, spelled_spells, absent_back, given_back, on-optional}
+use Rattle.answer.proofs.Fields.{spelled_back, spelled_spells, absent_back, given_back, on_optional}
 
 -- the date of a tag, as it is read in front of the rest
 pub record DateRead (tag date : ℕ) (rest : Items) : Type 0 where

@@ -1,19 +1,18 @@
 -- Keys that are handed out, read back; and that what is handed out is the record's material at its length.
 -- Assumes nothing.
-use mathlib.Core.Path.{◌≡◌, refl, sym, ap, ◌∙◌}
+use mathlib.Core.Path.{◌≡◌, sym, ap, ◌∙◌}
 use Prim.Native.Nat.{ℕ, ◌/◌, ◌^◌, ◌≤◌, ◌<◌}
 use native.Mathlib.Omega.{arith}
-use mathlib.Core.Bool.{true, ◌&&◌}
+use mathlib.Core.Bool.{true}
 use mathlib.Core.Option.{some}
 use mathlib.Core.List.{List}
 use lib.ListN.{length, take, drop}
-use lib.Dec.{leb}
 use Rattle.octets.specs.Maybe.{◌>>=◌, ◌>>◌}
-use Rattle.octets.specs.Octets.{Bytes, all_zero, same}
+use Rattle.octets.specs.Octets.{Bytes, all_zero}
 use Rattle.octets.proofs.Bools.{both}
 use Rattle.octets.proofs.Maybe.{some_is, on_bind, on_test}
 use Rattle.ttlv_types.specs.Types.{integer, enumeration, byte_string}
-use Rattle.ttlv.specs.Items.{Items, nil, value, group, ended}
+use Rattle.ttlv.specs.Items.{Items, nil, ended}
 use Rattle.tags.specs.Tags.{cryptographic_algorithm, cryptographic_length, key_block, key_format_type, key_material, key_value, object_type, symmetric_key_tag, unique_identifier}
 use Rattle.attributes_read.specs.Attributes.{aes}
 use Rattle.payload.specs.Payload.{symmetric_key}

@@ -21,7 +21,7 @@ use Rattle.answer.specs.Respond.{word, long, limit_items}
 use Rattle.answer.specs.Read.{Limits, limits_first, or_no_limits}
 use Rattle.answer.proofs.Tests.{on_or}
 use Rattle.octets.proofs.Maybe.{some_is, on_bind, on_test}
-use Rattle.answer.proofs.Fields.{ended_is, body_spells, spelled_back, spelled_spells, absent_back, given_back, on-optional}
+use Rattle.answer.proofs.Fields.{ended_is, body_spells, spelled_back, spelled_spells, absent_back, given_back, on_optional}
 
 -- ---- usage limits
 

@@ -1,14 +1,13 @@
 -- Names read back, present or absent.
 -- Assumes nothing.
 use mathlib.Core.Path.{◌≡◌, refl, sym, ap, ◌∙◌}
-use Prim.Native.Nat.{ℕ, ◌<◌}
+use Prim.Native.Nat.{ℕ}
 use native.Mathlib.Omega.{arith}
-use mathlib.Core.Bool.{true, false, not, ◌&&◌}
+use mathlib.Core.Bool.{true, false, not}
 use mathlib.Core.Option.{Option, none, some}
 use mathlib.Core.List.{List}
 use lib.Dec.{eqb}
 use borrow.Author.Tests.{not-true}
-use Rattle.octets.specs.If.{ifb}
 use Rattle.octets.specs.Maybe.{◌>>=◌, ◌>>◌}
 use Rattle.octets.proofs.If.{ifb_true, ifb_false, on_if, on_bool}
 use Rattle.octets.proofs.Bools.{both}
@@ -24,7 +23,7 @@ use Rattle.names.proofs.Texts.{name_back, of_named}
 use Rattle.name_read.specs.Name.{uninterpreted_text, or_no_name}
 use Rattle.answer.specs.Respond.{word, name_items}
 use Rattle.answer.specs.Read.{name_shown, name_shown_ok}
-use Rattle.answer.proofs.Fields.{ended_is, bytes_back, body_back, bytes_spells, body_spells, fixed_back, fixed_spells, absent_back, given_back, on-optional}
+use Rattle.answer.proofs.Fields.{ended_is, bytes_back, body_back, bytes_spells, body_spells, fixed_back, fixed_spells, absent_back, given_back, on_optional}
 
 -- a name as it is written
 abbrev pub name_group : List ℕ → Items → Items

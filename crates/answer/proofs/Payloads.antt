@@ -4,14 +4,14 @@ use mathlib.Core.Path.{◌≡◌, refl, sym, ap, ◌∙◌}
 use Prim.Native.Nat.{ℕ, ◌^◌, ◌≤◌, ◌<◌}
 use native.Mathlib.Omega.{arith}
 use mathlib.Core.Bool.{true, false, ◌&&◌, ◌||◌}
-use mathlib.Core.Option.{Option, none, some}
+use mathlib.Core.Option.{none, some}
 use lib.Dec.{leb, eqb}
 use borrow.Author.Tests.{eqb-true, leb-true, ltb-true}
 use Rattle.octets.specs.If.{ifb}
 use Rattle.octets.specs.Maybe.{◌>>=◌, ◌>>◌}
 use Rattle.ttlv_types.specs.Types.{integer, enumeration}
 use Rattle.ttlv.specs.Items.{Items, nil, group, ended}
-use Rattle.fields.specs.Fields.{starts_with, body_of, optional}
+use Rattle.fields.specs.Fields.{starts_with, body_of}
 use Rattle.octets.proofs.Bools.{both}
 use Rattle.octets.proofs.If.{ifb_true, ifb_false, on_if, on_bool}
 use Rattle.tags.specs.Tags.{activation_date, attributes, cryptographic_algorithm, cryptographic_length, cryptographic_usage_mask, deactivation_date, name_tag, object_type, unique_identifier, usage_limits, link, state_tag}
@@ -25,7 +25,7 @@ use Rattle.plans.specs.declared.Outcome.TheVariants.{Created, Done, Showed, Loca
 use Rattle.answer.specs.Respond.{word, named, date_items, limit_items, link_items, name_items, attribute_items, located_items, replaced_object_link, replacement_object_link}
 use Rattle.answer.specs.Read.{serial_in, link_first, shown_in, created_in, done_in, showed_in, link_ok, serial_ok, name_shown_ok, shown_ok, located_in}
 use Rattle.octets.proofs.Maybe.{some_is, on_bind, on_test}
-use Rattle.answer.proofs.Fields.{ended_is, body_spells, spelled_back, spelled_spells, fixed_back, fixed_spells, serial_in_back, serial_in_spells, absent_back, given_back, on-optional}
+use Rattle.answer.proofs.Fields.{ended_is, body_spells, spelled_back, spelled_spells, fixed_back, fixed_spells, serial_in_back, serial_in_spells, absent_back, given_back, on_optional}
 use Rattle.answer.proofs.Tests.{on_or}
 use Rattle.answer.proofs.Links.{link_in_back, link_in_spells, not_replaced, no_link_first, serial_linked}
 use Rattle.answer.proofs.Dates.{date_back, date_spells, no_date_first}
