@@ -1,6 +1,6 @@
 -- What each return of the functions of this crate answers, and that Locate meets its plan.
 -- Assumes nothing.
-use mathlib.Core.Path.{◌≡◌, refl, sym, ap, ◌∙◌}
+use mathlib.Core.Path.{◌≡◌, sym, ap, ◌∙◌}
 use Prim.Native.Nat.{ℕ}
 use native.Mathlib.Omega.{arith}
 use mathlib.Core.List.{List}
@@ -11,9 +11,8 @@ use Rattle.search.specs.declared.Found.{Found}
 use Rattle.search.specs.declared.Found.TheVariants.{At, Nothing}
 use Rattle.name_search.specs.Names.{find_name}
 use Rattle.name_search.proofs.Finds.{found_name_below}
-use Rattle.plans.specs.declared.Outcome.TheVariants.{Located}
 use Rattle.plans.specs.declared.Performed.{Performed}
-use Rattle.plans.specs.Plans.{Env, in_places, carried_out, leaves, serial_found, locate_plan}
+use Rattle.plans.specs.Plans.{in_places, carried_out, leaves, serial_found, locate_plan}
 use Rattle.plans.proofs.Plans.{is_done}
 use Rattle.locate.specs.Locate.{locating}
 
