@@ -9,8 +9,8 @@ room_least_lem : room_least ≡ 6360
 room_least_lem = refl
 
 -- "fresh strip not 512 bytes"
-strip_size : strip_size ≡ 512
-strip_size = refl
+strip_size_lem : strip_size ≡ 512
+strip_size_lem = refl
 
 -- "table not 8,208 bytes", with 64 places
 small_size : size_of small_count ≡ 8208
