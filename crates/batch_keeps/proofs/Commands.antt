@@ -87,7 +87,7 @@ name_first_ok : (t : Items) {a : Name × Items} → name_first t ≡ some a → 
 unfolding name_first
 name_first_ok t h = on_bind h λ b e1 h1. on_bind h1 λ m e2 h2. subst (λ (p : Name × Items). Called p.0) (some_is h2) (body_ok b.0 m e2)
 
-name_ok : (t : Items) {m : Name} → last_name_in t ≡ some m → Called m
+name_ok_lem : (t : Items) {m : Name} → last_name_in t ≡ some m → Called m
 unfolding last_name_in or_no_name
 name_ok_lem t h =
     on_bind h λ a e1 h1. on_test h1 λ end h2.

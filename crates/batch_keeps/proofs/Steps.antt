@@ -80,7 +80,7 @@ locate_operation (to_locate o) = o
 
 -- ---- serials and records that may be answered
 
-serial_ok : (s : ℕ) → (s ≡ 0 → ⊥) → s < 256 ^ 4 → serial_ok s ≡ true
+serial_ok_lem : (s : ℕ) → (s ≡ 0 → ⊥) → s < 256 ^ 4 → serial_ok s ≡ true
 serial_ok_lem s z l = and_i (leb 1 s) (leb s serial_most) (le-leb 1 s (omega arith)) (le-leb s serial_most (omega arith))
 
 link_ok_lem : (s : ℕ) → s < 256 ^ 4 → link_ok s ≡ true
@@ -100,7 +100,7 @@ limit_ok r (inr l) =
     no_unit e = let y : ◌≡◌ {A = ℕ} 0 1 = cc in omega arith
 
 -- a name as a sound table has it is none, or one that its own text makes
-name_ok : (m : Name) → NameRange m → shape_right m ≡ true → text (name_text m) ≡ true → name_shown_ok m ≡ true
+name_ok_lem : (m : Name) → NameRange m → shape_right m ≡ true → text (name_text m) ≡ true → name_shown_ok m ≡ true
 unfolding name_shown_ok
 name_ok_lem m g shape is =
     on_if (λ (b : Bool). b ≡ true)
