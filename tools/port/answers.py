@@ -283,7 +283,7 @@ def turn(root, crate, f, names, said):
                     x = m.group(1)
                     new = new[: m.start()] + new[m.end() :]
                     # `rw e at h`: the word, not a variable of that name
-                    new = re.sub(r"\b(?:rw|simp) [^()]*? at(?= )|(?<![\w.'-])" + re.escape(x) + r"(?![\w'-])", lambda y: v if y.group(0) == x else y.group(0), new)
+                    new = re.sub((r"\b(?:rw|simp) [^()]*? at(?= )|" if x == "at" else "") + r"(?<![\w.'-])" + re.escape(x) + r"(?![\w'-])", lambda y: v if y.group(0) == x else y.group(0), new)
                     break
             if new != text:
                 text, changed = new, True
