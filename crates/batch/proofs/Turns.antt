@@ -12,7 +12,7 @@ use Rattle.octets.specs.If.{ifb}
 use Rattle.octets.specs.Octets.{part}
 use Rattle.octets.proofs.If.{ifb_true, ifb_false}
 use Rattle.fields.specs.Found.{body_at}
-use Rattle.fields.specs.declared.BodyField.TheVariants.{Body, NoBody}
+use Rattle.fields.specs.declared.BodyField.TheVariants.{NoBody}
 use Rattle.table.specs.Layout.{Table, material_size}
 use Rattle.tags.specs.Tags.{batch_item}
 use Rattle.batch_item.specs.Item.{Asked}

@@ -14,7 +14,6 @@ use Rattle.frame.specs.Frame.{batch_most}
 use Rattle.answer.specs.Respond.{Answer, batch_items}
 use Rattle.answer.specs.Front.{longest_item}
 use Rattle.answer.proofs.Front.{batch_append}
-use Rattle.batch.specs.declared.BatchDone.{BatchDone}
 use Rattle.batch.specs.Runs.{answer_bytes, answers_most, AnswersAre}
 
 -- these answers, i of them, stand at the front of the room, and end at `at`
