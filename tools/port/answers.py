@@ -326,6 +326,9 @@ def turn(root, crate, f, names, said):
             callee = fn.callee.get(of)
             if callee and callee in fn.params:
                 rest = re.sub(r"^\.(new|old)\.(\d)", lambda m: f".{m.group(1)}." + (fn.params[callee][int(m.group(2))] if int(m.group(2)) < len(fn.params[callee]) else m.group(2)), rest)
+                kept = re.match(r"^\.kept((?:\.1)*)\.0", rest)
+                if kept and len(kept.group(1)) // 2 < len(fn.params[callee]):
+                    rest = ".auto." + fn.params[callee][len(kept.group(1)) // 2] + rest[kept.end() :]
             arm = fn.arms.get(of)
             if rest.startswith(".given"):
                 if arm:
