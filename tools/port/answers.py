@@ -358,7 +358,16 @@ def turn(root, crate, f, names, said):
         return re.sub(r"(?<![\w.'-])(" + re.escape(var) + r")\.(" + W + r")((?:\." + W + r")*)", label, text)
 
     goals, inv = [], []
+    carry = []
     for head, mods, name, sig, rest in parsed:
+        # the heading of a section goes to the first of its declarations that stays
+        carry = [l for l in head if l.startswith("-- ---- ")] or carry
+
+        def headed():
+            lines = ["\n".join(carry), ""] if carry and carry[0] not in head else []
+            carry.clear()
+            return lines + head
+
         if re.search(r"→ statement M|^ statement|: statement", " :" + sig) or "statement M" in sig:
             spec = rest
             continue
@@ -386,7 +395,7 @@ def turn(root, crate, f, names, said):
             if len(args) != n + sum(changed):
                 said(f"{f}: {name} has {len(args)} arguments, expected {n + sum(changed)}")
             body = substitute(c.group(2), values)
-            inv.append("\n".join([f"abbrev pub {m.group(1)}-{new} : goal.{m.group(1)}-{new}"] + unfold + [f"{m.group(1)}-{new} l =" + body]))
+            inv.append("\n".join(head + [f"abbrev pub {m.group(1)}-{new} : goal.{m.group(1)}-{new}"] + unfold + [f"{m.group(1)}-{new} l =" + body]))
             continue
         m = re.match(r"\s*tie\.Need-(" + W + ")", sig)
         if m:
@@ -405,12 +414,12 @@ def turn(root, crate, f, names, said):
                 continue
             if by_hand:
                 local = " ".join(f"{k}-{l}" for l, _, _ in fn.loops.values() for k in ("invariant", "decreases"))
-                goals.append((head, name, new, [f"{new} : tie.Need-{new}" + (" " + local if local else "")] + unfold + [f"{new} {var}{more} ="], body_of(body, var, fn.at[new], True)))
+                goals.append((headed(), name, new, [f"{new} : tie.Need-{new}" + (" " + local if local else "")] + unfold + [f"{new} {var}{more} ="], body_of(body, var, fn.at[new], True)))
                 continue
             if more.strip() and re.search(r"(?<![\w.])" + re.escape(more.split()[0]) + r"(?![\w])", body):
                 said(f"{f}: {name} uses {more}")
             body = body_of(body, var, fn.at[new], True, new)
-            goals.append((head, name, new, [f"pub {new} : goal.{new}"] + unfold + [f"{new} {t}{var} ="], body))
+            goals.append((headed(), name, new, [f"pub {new} : goal.{new}"] + unfold + [f"{new} {t}{var} ="], body))
             continue
         if name in place_fns or name in inline:
             continue
@@ -424,12 +433,13 @@ def turn(root, crate, f, names, said):
         v = re.match(r"\s*\((" + W + r") : tie", sig)
         if p and v:
             newsig = body_of(newsig, v.group(1), p, False)
-        goals.append((head, name, None, [f"{mods}{name} :"], newsig + "\n" + "\n".join(unfold + [line])))
+        goals.append((headed(), name, None, [f"{mods}{name} :"], newsig + "\n" + "\n".join(unfold + [line])))
     # goals that are cited by the name that the old file gave them
     rename = {name: new for _, name, new, _, _ in goals if new and name != new}
     texts = list(blocks)
     for head, name, new, first, body in goals:
         body = re.sub(r"\(\(([^()]*)\)\)", r"(\1)", re.sub(r"=\n {6,}(?=\S)", "=\n    ", body))
+        body = re.sub(r"(?<=[\s(])\((\w(?:\.[\w'-]+)+)\)(?=[\s),]|$)", r"\1", body)
         body = re.sub(W, lambda m: rename.get(m.group(0), m.group(0)) if body[m.start() - 1 : m.start()] != "." else m.group(0), body)
         texts.append("\n".join(head + first) + body)
     # what the invariants cite of the file goes with them

@@ -15,28 +15,28 @@ use Rattle.answer_write.proofs.write_outcome.Goals.{After-write_named-n}
 use Rattle.answer_write.proofs.write_outcome.Goals as goal
 
 -- the payload of an arm that writes a name alone
-name : (c : After-write_named-n) → Puts 16 (named unique_identifier c.in-Done.serial nil) (mid_of 24 (length (c.args.out.now) - 24) (c.args.out.now)) c.write_named-n.new.out c.write_named-n.result
-name c = puts_name (c.args.out.now) _ c.write_named-n.ensures (omega arith)
+name : (c : After-write_named-n) → Puts 16 (named unique_identifier c.in-Done.serial nil) (mid_of 24 (length c.args.out.now - 24) c.args.out.now) c.write_named-n.new.out c.write_named-n.result
+name c = puts_name c.args.out.now _ c.write_named-n.ensures (omega arith)
 
 pub write_success-requires : goal.write_success-requires
 write_success-requires c =
-    opening_room (c.args.out.now) c.write_created-n.ensures (omega arith) (omega arith)
+    opening_room c.args.out.now c.write_created-n.ensures (omega arith) (omega arith)
 
 pub write_success-requires-in-Done : goal.write_success-requires-in-Done
 write_success-requires-in-Done c =
-    opening_room (c.args.out.now) (name (goal.at.write_success-requires-in-Done c).After-write_named-n) (omega arith) (omega arith)
+    opening_room c.args.out.now (name (goal.at.write_success-requires-in-Done c).After-write_named-n) (omega arith) (omega arith)
 
 pub write_success-requires-in-Showed : goal.write_success-requires-in-Showed
 write_success-requires-in-Showed c =
-    opening_room (c.args.out.now) c.write_showed-n.ensures (omega arith) (omega arith)
+    opening_room c.args.out.now c.write_showed-n.ensures (omega arith) (omega arith)
 
 pub write_success-requires-in-Got : goal.write_success-requires-in-Got
 write_success-requires-in-Got c =
-    opening_room (c.args.out.now) c.write_got-n.ensures (omega arith) (omega arith)
+    opening_room c.args.out.now c.write_got-n.ensures (omega arith) (omega arith)
 
 pub write_success-requires-in-Located : goal.write_success-requires-in-Located
 write_success-requires-in-Located c =
-    opening_room (c.args.out.now) c.write_located-n.ensures (omega arith) (omega arith)
+    opening_room c.args.out.now c.write_located-n.ensures (omega arith) (omega arith)
 
 pub returns-in-Failed : goal.returns-in-Failed
 returns-in-Failed c =
@@ -45,27 +45,27 @@ returns-in-Failed c =
 pub returns-in-Created : goal.returns-in-Created
 unfolding outcome_items
 returns-in-Created c =
-    puts_outcome c.in-Created.is (puts_succeeded 344 (c.args.out.now) c.write_created-n.ensures c.write_success.ensures (omega arith) (omega arith))
+    puts_outcome c.in-Created.is (puts_succeeded 344 c.args.out.now c.write_created-n.ensures c.write_success.ensures (omega arith) (omega arith))
 
 pub returns-in-Done : goal.returns-in-Done
 unfolding outcome_items
 returns-in-Done c =
-    puts_outcome c.in-Done.is (puts_succeeded 344 (c.args.out.now) (name (goal.at.returns-in-Done c).After-write_named-n) c.write_success-in-Done.ensures (omega arith) (omega arith))
+    puts_outcome c.in-Done.is (puts_succeeded 344 c.args.out.now (name (goal.at.returns-in-Done c).After-write_named-n) c.write_success-in-Done.ensures (omega arith) (omega arith))
 
 pub returns-in-Showed : goal.returns-in-Showed
 unfolding outcome_items
 returns-in-Showed c =
-    puts_outcome c.in-Showed.is (puts_succeeded 344 (c.args.out.now) c.write_showed-n.ensures c.write_success-in-Showed.ensures (omega arith) (omega arith))
+    puts_outcome c.in-Showed.is (puts_succeeded 344 c.args.out.now c.write_showed-n.ensures c.write_success-in-Showed.ensures (omega arith) (omega arith))
 
 pub returns-in-Got : goal.returns-in-Got
 unfolding outcome_items
 returns-in-Got c =
-    puts_outcome c.in-Got.is (puts_succeeded 344 (c.args.out.now) c.write_got-n.ensures c.write_success-in-Got.ensures (omega arith) (omega arith))
+    puts_outcome c.in-Got.is (puts_succeeded 344 c.args.out.now c.write_got-n.ensures c.write_success-in-Got.ensures (omega arith) (omega arith))
 
 pub returns-in-Located : goal.returns-in-Located
 unfolding outcome_items
 returns-in-Located c =
-    puts_outcome c.in-Located.is (puts_succeeded 344 (c.args.out.now) c.write_located-n.ensures c.write_success-in-Located.ensures (omega arith) (omega arith))
+    puts_outcome c.in-Located.is (puts_succeeded 344 c.args.out.now c.write_located-n.ensures c.write_success-in-Located.ensures (omega arith) (omega arith))
 
 pub returns-in-Undone : goal.returns-in-Undone
 returns-in-Undone c =

@@ -14,7 +14,9 @@ pub returns-then-not-starts_with : goal.returns-then-not-starts_with
 unfolding date_at
 returns-then-not-starts_with c = sym (ifb_false _ _ _ (sym c.starts_with.ensures ∙ c.if-not-starts_with.true))
 
-given : (c : Else-not-starts_with) {f : NumberField} → number_at (c.args.s.now) (c.args.tag) date_time ≡ f → date_at (c.args.s.now) (c.args.tag) ≡ date_field f
+-- ---- an item with the tag is there: what a number gives
+
+given : (c : Else-not-starts_with) {f : NumberField} → number_at c.args.s.now c.args.tag date_time ≡ f → date_at c.args.s.now c.args.tag ≡ date_field f
 unfolding date_at
 given c e = ifb_true _ _ _ (sym c.starts_with.ensures ∙ c.if-not-starts_with.false) ∙ ap date_field e
 
@@ -22,7 +24,9 @@ pub returns-in_default : goal.returns-in_default
 unfolding date_field
 returns-in_default c = sym (given (goal.at.returns-in_default c).Else-not-starts_with (sym c.number_field.ensures ∙ c.in_default.is))
 
-dated : (c : In-Number) → date_at (c.args.s.now) (c.args.tag) ≡ date_field (Number c.in-Number.date c.in-Number.next)
+-- ---- it is a number
+
+dated : (c : In-Number) → date_at c.args.s.now c.args.tag ≡ date_field (Number c.in-Number.date c.in-Number.next)
 dated c = given (goal.at.In-Number c).Else-not-starts_with (sym c.number_field.ensures ∙ c.in-Number.is)
 
 pub returns-then-not-above_zero : goal.returns-then-not-above_zero

@@ -24,14 +24,16 @@ unfolding dated_read
 returns-in_default c =
     sym (ap dated_read (dated_no_activation c.args.s.now c.requires (sym c.read_date.ensures ∙ c.in_default.is)))
 
-run : (c : In-Date) → is_run (c.args.s.now) ≡ true
+-- ---- the activation date is known: the items, and where it ends
+
+run : (c : In-Date) → is_run c.args.s.now ≡ true
 run c = c.requires
 
-started : (c : In-Date) → date_at (c.args.s.now) activation_date ≡ Date (c.in-Date.activation) (c.in-Date.next)
+started : (c : In-Date) → date_at c.args.s.now activation_date ≡ Date c.in-Date.activation c.in-Date.next
 started c = sym c.read_date.ensures ∙ c.in-Date.is
 
-within : (c : In-Date) → c.in-Date.next ≤ length (c.args.s.now)
-within c = (activation_is (c.args.s.now) (run c) (started c)).within
+within : (c : In-Date) → c.in-Date.next ≤ length c.args.s.now
+within c = (activation_is c.args.s.now (run c) (started c)).within
 
 pub slice_bounds-t-count : goal.slice_bounds-t-count
 slice_bounds-t-count c = within c
@@ -39,27 +41,33 @@ slice_bounds-t-count c = within c
 pub slice_bounds-t-start : goal.slice_bounds-t-start
 slice_bounds-t-start c = let w = within c in omega arith
 
+-- ---- what stands behind it
+
 pub returns-in_default-read_date : goal.returns-in_default-read_date
 unfolding dated_read
 returns-in_default-read_date c =
-    sym (ap dated_read (dated_no_deactivation (c.args.s.now) (run (goal.at.returns-in_default-read_date c).In-Date) (started (goal.at.returns-in_default-read_date c).In-Date) (sym c.read_date-2.ensures ∙ c.in_default-read_date.is)))
+    sym (ap dated_read (dated_no_deactivation c.args.s.now (run (goal.at.returns-in_default-read_date c).In-Date) (started (goal.at.returns-in_default-read_date c).In-Date) (sym c.read_date-2.ensures ∙ c.in_default-read_date.is)))
 
-stopped : (c : In-Date-read_date) → date_at ((tail (c.args.s.now) (c.in-Date.next))) deactivation_date ≡ Date (c.in-Date-read_date.deactivation) c.in-Date-read_date.end
+-- ---- both are known
+
+stopped : (c : In-Date-read_date) → date_at ((tail c.args.s.now c.in-Date.next)) deactivation_date ≡ Date c.in-Date-read_date.deactivation c.in-Date-read_date.end
 stopped c = sym c.read_date-2.ensures ∙ c.in-Date-read_date.is
 
 pub returns-then-not-in_order : goal.returns-then-not-in_order
 unfolding dated_read
 returns-then-not-in_order c =
-    sym (ap dated_read (dated_wrong_order (c.args.s.now) (run (goal.at.returns-then-not-in_order c).In-Date) (started (goal.at.returns-then-not-in_order c).In-Date) (stopped (goal.at.returns-then-not-in_order c).In-Date-read_date) (sym c.in_order.ensures ∙ c.if-not-in_order.true)))
+    sym (ap dated_read (dated_wrong_order c.args.s.now (run (goal.at.returns-then-not-in_order c).In-Date) (started (goal.at.returns-then-not-in_order c).In-Date) (stopped (goal.at.returns-then-not-in_order c).In-Date-read_date) (sym c.in_order.ensures ∙ c.if-not-in_order.true)))
 
-ordered : (c : Else-not-in_order) → in_order (c.in-Date.activation) (c.in-Date-read_date.deactivation) ≡ true
+-- ---- they are in order: what is left is the name
+
+ordered : (c : Else-not-in_order) → in_order c.in-Date.activation c.in-Date-read_date.deactivation ≡ true
 ordered c = sym c.in_order.ensures ∙ c.if-not-in_order.false
 
-stop : (c : Else-not-in_order) → Given ((tail (c.args.s.now) (c.in-Date.next))) (optional deactivation_date (date_first deactivation_date) (tree_of ((tail (c.args.s.now) (c.in-Date.next))))) c.in-Date-read_date.end (λ given. or_unset given ≡ c.in-Date-read_date.deactivation)
-stop c = deactivation_is (c.args.s.now) (run (goal.at.Else-not-in_order c).In-Date) (started (goal.at.Else-not-in_order c).In-Date) (stopped (goal.at.Else-not-in_order c).In-Date-read_date)
+stop : (c : Else-not-in_order) → Given ((tail c.args.s.now c.in-Date.next)) (optional deactivation_date (date_first deactivation_date) (tree_of ((tail c.args.s.now c.in-Date.next)))) c.in-Date-read_date.end (λ given. or_unset given ≡ c.in-Date-read_date.deactivation)
+stop c = deactivation_is c.args.s.now (run (goal.at.Else-not-in_order c).In-Date) (started (goal.at.Else-not-in_order c).In-Date) (stopped (goal.at.Else-not-in_order c).In-Date-read_date)
 
-left : (c : Else-not-in_order) → dated_in (tree_of (c.args.s.now)) ≡ with_name (c.in-Date.activation) (c.in-Date-read_date.deactivation) (last_name_in (tree_of ((tail ((tail (c.args.s.now) (c.in-Date.next))) c.in-Date-read_date.end))))
-left c = dated_name (c.args.s.now) (run (goal.at.Else-not-in_order c).In-Date) (started (goal.at.Else-not-in_order c).In-Date) (stopped (goal.at.Else-not-in_order c).In-Date-read_date) (ordered c)
+left : (c : Else-not-in_order) → dated_in (tree_of c.args.s.now) ≡ with_name c.in-Date.activation c.in-Date-read_date.deactivation (last_name_in (tree_of ((tail ((tail c.args.s.now c.in-Date.next)) c.in-Date-read_date.end))))
+left c = dated_name c.args.s.now (run (goal.at.Else-not-in_order c).In-Date) (started (goal.at.Else-not-in_order c).In-Date) (stopped (goal.at.Else-not-in_order c).In-Date-read_date) (ordered c)
 
 pub slice_bounds-read_last_name-count : goal.slice_bounds-read_last_name-count
 slice_bounds-read_last_name-count c = (stop c).within
@@ -69,6 +77,8 @@ slice_bounds-read_last_name-start c = let w = (stop c).within in omega arith
 
 pub read_last_name-requires : goal.read_last_name-requires
 read_last_name-requires c = (stop (goal.at.read_last_name-requires c).Else-not-in_order).behind
+
+-- ---- what the reader of the name answered
 
 pub returns-in_default-read_last_name : goal.returns-in_default-read_last_name
 unfolding dated_read

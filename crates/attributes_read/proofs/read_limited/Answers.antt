@@ -19,14 +19,16 @@ unfolding attributes_read
 returns-in_default c =
     sym (ap attributes_read (limited_none c.args.s.now c.requires _ _ (sym c.read_limits.ensures ∙ c.in_default.is)))
 
-measured : (c : In-Limits) → limits_at (c.args.mask) (c.args.s.now) ≡ Limits (c.in-Limits.unit) (c.in-Limits.total) (c.in-Limits.next)
+-- ---- the limit is known: the items, the length, the mask, and where the limit ends
+
+measured : (c : In-Limits) → limits_at c.args.mask c.args.s.now ≡ Limits c.in-Limits.unit c.in-Limits.total c.in-Limits.next
 measured c = sym c.read_limits.ensures ∙ c.in-Limits.is
 
-limit : (c : In-Limits) → Given (c.args.s.now) (optional usage_limits (limit_first (c.args.mask)) (tree_of (c.args.s.now))) (c.in-Limits.next) (LimitIs (c.in-Limits.unit) (c.in-Limits.total))
-limit c = limits_is (c.args.mask) (c.args.s.now) c.requires (measured c)
+limit : (c : In-Limits) → Given c.args.s.now (optional usage_limits (limit_first c.args.mask) (tree_of c.args.s.now)) c.in-Limits.next (LimitIs c.in-Limits.unit c.in-Limits.total)
+limit c = limits_is c.args.mask c.args.s.now c.requires (measured c)
 
-left : (c : In-Limits) → limited_in (c.args.bits) (c.args.mask) (tree_of (c.args.s.now)) ≡ with_dated (c.args.bits) (c.args.mask) (c.in-Limits.unit) (c.in-Limits.total) (dated_in (tree_of (tail (c.args.s.now) (c.in-Limits.next))))
-left c = limited_dated (c.args.s.now) c.requires (c.args.bits) (c.args.mask) (measured c)
+left : (c : In-Limits) → limited_in c.args.bits c.args.mask (tree_of c.args.s.now) ≡ with_dated c.args.bits c.args.mask c.in-Limits.unit c.in-Limits.total (dated_in (tree_of (tail c.args.s.now c.in-Limits.next)))
+left c = limited_dated c.args.s.now c.requires c.args.bits c.args.mask (measured c)
 
 pub slice_bounds-read_dated-count : goal.slice_bounds-read_dated-count
 slice_bounds-read_dated-count c = (limit c).within
@@ -36,6 +38,8 @@ slice_bounds-read_dated-start c = let w = (limit c).within in omega arith
 
 pub read_dated-requires : goal.read_dated-requires
 read_dated-requires c = (limit (goal.at.read_dated-requires c).In-Limits).behind
+
+-- ---- what the reader of the dates and the name answered
 
 pub returns-in_default-read_dated : goal.returns-in_default-read_dated
 unfolding attributes_read

@@ -23,28 +23,34 @@ pub returns-then-not-starts_with : goal.returns-then-not-starts_with
 unfolding limits_at
 returns-then-not-starts_with c = sym (ifb_false _ _ _ (sym c.starts_with.ensures ∙ c.if-not-starts_with.true))
 
-run : (c : Else-not-starts_with) → is_run (c.args.s.now) ≡ true
+-- ---- Usage Limits is there: the items, and what the mask gives
+
+run : (c : Else-not-starts_with) → is_run c.args.s.now ≡ true
 run c = c.requires
 
-there : (c : Else-not-starts_with) → limits_at (c.args.mask) (c.args.s.now) ≡ ifb (protects (c.args.mask)) (limits_body (c.args.s.now) (body_at (c.args.s.now) usage_limits)) InvalidField
+there : (c : Else-not-starts_with) → limits_at c.args.mask c.args.s.now ≡ ifb (protects c.args.mask) (limits_body c.args.s.now (body_at c.args.s.now usage_limits)) InvalidField
 unfolding limits_at
 there c = ifb_true _ _ _ (sym c.starts_with.ensures ∙ c.if-not-starts_with.false)
 
 pub returns-then-not-protects : goal.returns-then-not-protects
 returns-then-not-protects c = sym (there (goal.at.returns-then-not-protects c).Else-not-starts_with ∙ ifb_false _ _ _ (sym c.protects.ensures ∙ c.if-not-protects.true))
 
-given : (c : Else-not-protects) {b : BodyField} → body_at (c.args.s.now) usage_limits ≡ b → limits_at (c.args.mask) (c.args.s.now) ≡ limits_body (c.args.s.now) b
-given c e = there (goal.at.Else-not-protects c).Else-not-starts_with ∙ ifb_true _ _ _ (sym c.protects.ensures ∙ c.if-not-protects.false) ∙ ap (limits_body (c.args.s.now)) e
+-- ---- the mask protects: what a structure gives
+
+given : (c : Else-not-protects) {b : BodyField} → body_at c.args.s.now usage_limits ≡ b → limits_at c.args.mask c.args.s.now ≡ limits_body c.args.s.now b
+given c e = there (goal.at.Else-not-protects c).Else-not-starts_with ∙ ifb_true _ _ _ (sym c.protects.ensures ∙ c.if-not-protects.false) ∙ ap (limits_body c.args.s.now) e
 
 pub returns-in_default : goal.returns-in_default
 unfolding limits_body
 returns-in_default c = sym (given (goal.at.returns-in_default c).Else-not-protects (sym c.body_field.ensures ∙ c.in_default.is))
 
-body : (c : In-Body) → body_at (c.args.s.now) usage_limits ≡ Body (c.in-Body.next)
+-- ---- it is a structure
+
+body : (c : In-Body) → body_at c.args.s.now usage_limits ≡ Body c.in-Body.next
 body c = sym c.body_field.ensures ∙ c.in-Body.is
 
-ends : (c : In-Body) → Rest (c.args.s.now) (c.in-Body.next)
-ends c = body_rest (c.args.s.now) (run (goal.at.In-Body c).Else-not-starts_with) usage_limits (body c)
+ends : (c : In-Body) → Rest c.args.s.now c.in-Body.next
+ends c = body_rest c.args.s.now (run (goal.at.In-Body c).Else-not-starts_with) usage_limits (body c)
 
 pub slice_bounds-read_limit-count : goal.slice_bounds-read_limit-count
 slice_bounds-read_limit-count c = (ends c).past
@@ -56,7 +62,9 @@ pub slice_bounds-read_limit-end : goal.slice_bounds-read_limit-end
 slice_bounds-read_limit-end c = omega (arith, ends c)
 
 pub read_limit-requires : goal.read_limit-requires
-read_limit-requires c = body_is_run (c.args.s.now) (run (goal.at.read_limit-requires c).Else-not-starts_with) usage_limits (body (goal.at.read_limit-requires c).In-Body)
+read_limit-requires c = body_is_run c.args.s.now (run (goal.at.read_limit-requires c).Else-not-starts_with) usage_limits (body (goal.at.read_limit-requires c).In-Body)
+
+-- ---- what the reader of the limit answered
 
 pub returns-in_default-read_limit : goal.returns-in_default-read_limit
 unfolding limits_body

@@ -26,28 +26,32 @@ unfolding item_read
 returns-in_default c =
     sym (ap (item_read _) (item_no_operation c.args.body.now c.requires (sym c.number_field.ensures ∙ c.in_default.is)))
 
-run : (c : In-Number) → is_run (c.args.body.now) ≡ true
+-- ---- the operation is known: the item's bytes, and where the operation ends
+
+run : (c : In-Number) → is_run c.args.body.now ≡ true
 run c = c.requires
 
-does : (c : In-Number) → number_at (c.args.body.now) operation_tag enumeration ≡ Number c.in-Number.operation (c.in-Number.next)
+does : (c : In-Number) → number_at c.args.body.now operation_tag enumeration ≡ Number c.in-Number.operation c.in-Number.next
 does c = sym c.number_field.ensures ∙ c.in-Number.is
 
 pub slice_bounds-t-count : goal.slice_bounds-t-count
-slice_bounds-t-count c = (number_ends (c.args.body.now) operation_tag enumeration (does c)).1
+slice_bounds-t-count c = (number_ends c.args.body.now operation_tag enumeration (does c)).1
 
 pub slice_bounds-t-start : goal.slice_bounds-t-start
-slice_bounds-t-start c = omega (arith, number_ends (c.args.body.now) operation_tag enumeration (does c))
+slice_bounds-t-start c = omega (arith, number_ends c.args.body.now operation_tag enumeration (does c))
 
 pub returns-in_default-read_id : goal.returns-in_default-read_id
 unfolding item_read
 returns-in_default-read_id c =
-    sym (ap (item_read (c.args.body.now)) (item_bad_id (c.args.body.now) (run (goal.at.returns-in_default-read_id c).In-Number) (does (goal.at.returns-in_default-read_id c).In-Number) (sym c.read_id.ensures ∙ c.in_default-read_id.is)))
+    sym (ap (item_read c.args.body.now) (item_bad_id c.args.body.now (run (goal.at.returns-in_default-read_id c).In-Number) (does (goal.at.returns-in_default-read_id c).In-Number) (sym c.read_id.ensures ∙ c.in_default-read_id.is)))
 
-named : (c : In-Span) → id_at (tail (c.args.body.now) (c.in-Number.next)) ≡ Span c.in-Span.len (c.in-Span.after)
+-- ---- the ID is known, or that there is none
+
+named : (c : In-Span) → id_at (tail c.args.body.now c.in-Number.next) ≡ Span c.in-Span.len c.in-Span.after
 named c = sym c.read_id.ensures ∙ c.in-Span.is
 
-within : (c : In-Span) → c.in-Span.after ≤ length (tail (c.args.body.now) (c.in-Number.next))
-within c = (item_id (c.args.body.now) (run (goal.at.In-Span c).In-Number) (does (goal.at.In-Span c).In-Number) (named c)).within
+within : (c : In-Span) → c.in-Span.after ≤ length (tail c.args.body.now c.in-Number.next)
+within c = (item_id c.args.body.now (run (goal.at.In-Span c).In-Number) (does (goal.at.In-Span c).In-Number) (named c)).within
 
 pub slice_bounds-u-count : goal.slice_bounds-u-count
 slice_bounds-u-count c = within c
@@ -58,22 +62,26 @@ slice_bounds-u-start c = omega (arith, within c)
 pub returns-in_default-body_field : goal.returns-in_default-body_field
 unfolding item_read
 returns-in_default-body_field c =
-    sym (ap (item_read (c.args.body.now)) (item_no_payload (c.args.body.now) (run (goal.at.returns-in_default-body_field c).In-Number) (does (goal.at.returns-in_default-body_field c).In-Number) (named (goal.at.returns-in_default-body_field c).In-Span) (sym c.body_field.ensures ∙ c.in_default-body_field.is)))
+    sym (ap (item_read c.args.body.now) (item_no_payload c.args.body.now (run (goal.at.returns-in_default-body_field c).In-Number) (does (goal.at.returns-in_default-body_field c).In-Number) (named (goal.at.returns-in_default-body_field c).In-Span) (sym c.body_field.ensures ∙ c.in_default-body_field.is)))
 
-paid : (c : In-Body) → body_at (tail (tail (c.args.body.now) (c.in-Number.next)) (c.in-Span.after)) request_payload ≡ Body c.in-Body.end
+-- ---- the payload is there
+
+paid : (c : In-Body) → body_at (tail (tail c.args.body.now c.in-Number.next) c.in-Span.after) request_payload ≡ Body c.in-Body.end
 paid c = sym c.body_field.ensures ∙ c.in-Body.is
 
 pub returns-then-end-u : goal.returns-then-end-u
 unfolding item_read
 returns-then-end-u c =
-    sym (ap (item_read (c.args.body.now)) (item_more (c.args.body.now) (run (goal.at.returns-then-end-u c).In-Number) (does (goal.at.returns-then-end-u c).In-Number) (named (goal.at.returns-then-end-u c).In-Span) (paid (goal.at.returns-then-end-u c).In-Body) c.if-end-u.true))
+    sym (ap (item_read c.args.body.now) (item_more c.args.body.now (run (goal.at.returns-then-end-u c).In-Number) (does (goal.at.returns-then-end-u c).In-Number) (named (goal.at.returns-then-end-u c).In-Span) (paid (goal.at.returns-then-end-u c).In-Body) c.if-end-u.true))
 
-room : (c : In-Body) → (c.in-Number.next + c.in-Span.after + 8 ≤ length (c.args.body.now)) × (c.in-Number.next + 8 + c.in-Span.len ≤ length (c.args.body.now))
-room c = item_room (c.args.body.now) (run (goal.at.In-Body c).In-Number) (does (goal.at.In-Body c).In-Number) (named (goal.at.In-Body c).In-Span) (paid c)
+-- ---- and nothing is behind it
+
+room : (c : In-Body) → (c.in-Number.next + c.in-Span.after + 8 ≤ length c.args.body.now) × (c.in-Number.next + 8 + c.in-Span.len ≤ length c.args.body.now)
+room c = item_room c.args.body.now (run (goal.at.In-Body c).In-Number) (does (goal.at.In-Body c).In-Number) (named (goal.at.In-Body c).In-Span) (paid c)
 
 pub overflow_cast-result : goal.overflow_cast-result
 overflow_cast-result c =
-    omega (arith, word_below (c.args.body.now) operation_tag enumeration (bytes_of (c.args.body.now) (λ i. (c.shared_slice_known-1.given i).fits)) refl (does (goal.at.overflow_cast-result c).In-Number))
+    omega (arith, word_below c.args.body.now operation_tag enumeration (bytes_of c.args.body.now (λ i. (c.shared_slice_known-1.given i).fits)) refl (does (goal.at.overflow_cast-result c).In-Number))
 
 pub overflow_add-result : goal.overflow_add-result
 overflow_add-result c = omega (arith, room (goal.at.overflow_add-result c).In-Body)
@@ -86,4 +94,4 @@ overflow_add-result-3 c = omega (arith, room (goal.at.overflow_add-result-3 c).I
 
 pub returns : goal.returns
 returns c =
-    sym (item_reads (c.args.body.now) (run (goal.at.returns c).In-Number) (does (goal.at.returns c).In-Number) (named (goal.at.returns c).In-Span) (paid (goal.at.returns c).In-Body) c.if-end-u.false)
+    sym (item_reads c.args.body.now (run (goal.at.returns c).In-Number) (does (goal.at.returns c).In-Number) (named (goal.at.returns c).In-Span) (paid (goal.at.returns c).In-Body) c.if-end-u.false)

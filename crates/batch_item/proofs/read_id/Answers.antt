@@ -23,16 +23,20 @@ pub returns-in_default : goal.returns-in_default
 unfolding id_at
 returns-in_default c = sym (ifb_false _ _ _ (sym c.starts_with.ensures ∙ c.if-starts_with.false))
 
-read : (c : In-Span) → id_at (c.args.s.now) ≡ id_span (Span (c.in-Span.len) c.in-Span.next)
+-- ---- it was read: the bytes, and its length
+
+read : (c : In-Span) → id_at c.args.s.now ≡ id_span (Span c.in-Span.len c.in-Span.next)
 unfolding id_at
 read c =
     let e = sym c.bytes_field.ensures ∙ c.in-Span.is in
-    ifb_true _ _ _ (bytes_starts (c.args.s.now) unique_batch_item_id byte_string e) ∙ ap id_span e
+    ifb_true _ _ _ (bytes_starts c.args.s.now unique_batch_item_id byte_string e) ∙ ap id_span e
 
 pub returns-then-len-lt1 : goal.returns-then-len-lt1
 unfolding id_span
 returns-then-len-lt1 c =
-    sym (read (goal.at.returns-then-len-lt1 c).In-Span ∙ ifb_false _ _ _ (and_no (leb 1 (c.in-Span.len)) (leb (c.in-Span.len) id_most) (lt-leb 1 (c.in-Span.len) c.if-len-lt1.true)))
+    sym (read (goal.at.returns-then-len-lt1 c).In-Span ∙ ifb_false _ _ _ (and_no (leb 1 c.in-Span.len) (leb c.in-Span.len id_most) (lt-leb 1 c.in-Span.len c.if-len-lt1.true)))
+
+-- ---- it is not empty
 
 pub returns-then-len-gt-ID_MOST : goal.returns-then-len-gt-ID_MOST
 unfolding id_span

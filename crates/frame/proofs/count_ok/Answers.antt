@@ -8,7 +8,7 @@ pub returns-then-count-lt1 : goal.returns-then-count-lt1
 returns-then-count-lt1 c = rw (lt-leb 1 c.args.count c.if-count-lt1.true)
 
 pub returns-then-count-gt-BATCH_MOST : goal.returns-then-count-gt-BATCH_MOST
-returns-then-count-gt-BATCH_MOST c = rw (le-leb 1 (c.args.count) c.if-count-lt1.false, lt-leb (c.args.count) batch_most c.if-count-gt-BATCH_MOST.true)
+returns-then-count-gt-BATCH_MOST c = rw (le-leb 1 c.args.count c.if-count-lt1.false, lt-leb c.args.count batch_most c.if-count-gt-BATCH_MOST.true)
 
 pub returns : goal.returns
-returns c = rw (le-leb 1 (c.args.count) c.if-count-lt1.false, le-leb (c.args.count) batch_most c.if-count-gt-BATCH_MOST.false)
+returns c = rw (le-leb 1 c.args.count c.if-count-lt1.false, le-leb c.args.count batch_most c.if-count-gt-BATCH_MOST.false)

@@ -35,14 +35,16 @@ pub returns-in_default : goal.returns-in_default
 returns-in_default c =
     no_frame c.args.request.now (frame_no_message c.args.request.now c.requires (sym c.body_field.ensures ∙ c.in_default.is))
 
-one : (c : In-Body) → is_some (message (c.args.request.now)) ≡ true
+-- ---- the message is there: the request, and that it is one item
+
+one : (c : In-Body) → is_some (message c.args.request.now) ≡ true
 one c = c.requires
 
-sent : (c : In-Body) → body_at (c.args.request.now) request_message ≡ Body (c.in-Body.next)
+sent : (c : In-Body) → body_at c.args.request.now request_message ≡ Body c.in-Body.next
 sent c = sym c.body_field.ensures ∙ c.in-Body.is
 
-room : (c : In-Body) → 8 ≤ length (c.args.request.now)
-room c = message_room (c.args.request.now) (one c) request_message (sent c)
+room : (c : In-Body) → 8 ≤ length c.args.request.now
+room c = message_room c.args.request.now (one c) request_message (sent c)
 
 pub slice_bounds-s-count : goal.slice_bounds-s-count
 slice_bounds-s-count c = room c
@@ -52,13 +54,15 @@ slice_bounds-s-start c = omega (arith, room c)
 
 pub returns-in_default-body_field : goal.returns-in_default-body_field
 returns-in_default-body_field c =
-    no_frame (c.args.request.now) (frame_no_header (c.args.request.now) (one (goal.at.returns-in_default-body_field c).In-Body) (sent (goal.at.returns-in_default-body_field c).In-Body) (sym c.body_field-2.ensures ∙ c.in_default-body_field.is))
+    no_frame c.args.request.now (frame_no_header c.args.request.now (one (goal.at.returns-in_default-body_field c).In-Body) (sent (goal.at.returns-in_default-body_field c).In-Body) (sym c.body_field-2.ensures ∙ c.in_default-body_field.is))
 
-headed : (c : In-Body-body_field) → body_at (tail (c.args.request.now) 8) request_header ≡ Body (c.in-Body-body_field.next)
+-- ---- the header is there: where it ends
+
+headed : (c : In-Body-body_field) → body_at (tail c.args.request.now 8) request_header ≡ Body c.in-Body-body_field.next
 headed c = sym c.body_field-2.ensures ∙ c.in-Body-body_field.is
 
-ends : (c : In-Body-body_field) → Within (tail (c.args.request.now) 8) (c.in-Body-body_field.next)
-ends c = body_ends (tail (c.args.request.now) 8) request_header (headed c)
+ends : (c : In-Body-body_field) → Within (tail c.args.request.now 8) c.in-Body-body_field.next
+ends c = body_ends (tail c.args.request.now 8) request_header (headed c)
 
 pub slice_bounds-read_header-count : goal.slice_bounds-read_header-count
 slice_bounds-read_header-count c = omega (arith, ends c)
@@ -71,20 +75,22 @@ slice_bounds-read_header-end c = omega (arith, ends c)
 
 pub read_header-requires : goal.read_header-requires
 read_header-requires c =
-    body_is_run (tail (c.args.request.now) 8) (inner_run (c.args.request.now) (one (goal.at.read_header-requires c).In-Body) request_message (sent (goal.at.read_header-requires c).In-Body)) request_header (headed (goal.at.read_header-requires c).In-Body-body_field)
+    body_is_run (tail c.args.request.now 8) (inner_run c.args.request.now (one (goal.at.read_header-requires c).In-Body) request_message (sent (goal.at.read_header-requires c).In-Body)) request_header (headed (goal.at.read_header-requires c).In-Body-body_field)
 
 pub returns-in_default-read_header : goal.returns-in_default-read_header
 returns-in_default-read_header c =
-    no_frame (c.args.request.now) (frame_bad_header (c.args.request.now) (one (goal.at.returns-in_default-read_header c).In-Body) (sent (goal.at.returns-in_default-read_header c).In-Body) (headed (goal.at.returns-in_default-read_header c).In-Body-body_field) (sym c.read_header.ensures ∙ c.in_default-read_header.is))
+    no_frame c.args.request.now (frame_bad_header c.args.request.now (one (goal.at.returns-in_default-read_header c).In-Body) (sent (goal.at.returns-in_default-read_header c).In-Body) (headed (goal.at.returns-in_default-read_header c).In-Body-body_field) (sym c.read_header.ensures ∙ c.in_default-read_header.is))
+
+-- ---- the header is read: the batch behind it
 
 says : (c : In-Read)
-    → header_read (header_in (tree_of (part (tail ((c.args.request.now)) 8) 8 (c.in-Body-body_field.next - 8)))) ≡ Read c.in-Read.major c.in-Read.minor c.in-Read.option c.in-Read.count
+    → header_read (header_in (tree_of (part (tail c.args.request.now 8) 8 (c.in-Body-body_field.next - 8)))) ≡ Read c.in-Read.major c.in-Read.minor c.in-Read.option c.in-Read.count
 says c = sym c.read_header.ensures ∙ c.in-Read.is
 
-is_one_lem : (c : In-Read) → is_some (message ((c.args.request.now))) ≡ true
+is_one_lem : (c : In-Read) → is_some (message c.args.request.now) ≡ true
 is_one_lem c = one (goal.at.In-Read c).In-Body
 
-is_sent : (c : In-Read) → body_at ((c.args.request.now)) request_message ≡ Body (c.in-Body.next)
+is_sent : (c : In-Read) → body_at c.args.request.now request_message ≡ Body c.in-Body.next
 is_sent c = sent (goal.at.In-Read c).In-Body
 
 pub slice_bounds-batch-count : goal.slice_bounds-batch-count
@@ -95,20 +101,22 @@ slice_bounds-batch-start c = omega (arith, ends (goal.at.slice_bounds-batch-star
 
 pub returns-then-batch-eq0 : goal.returns-then-batch-eq0
 returns-then-batch-eq0 c =
-    no_frame ((c.args.request.now)) (frame_empty ((c.args.request.now)) (is_one_lem (goal.at.returns-then-batch-eq0 c).In-Read) (is_sent (goal.at.returns-then-batch-eq0 c).In-Read) (headed (goal.at.returns-then-batch-eq0 c).In-Body-body_field) (says (goal.at.returns-then-batch-eq0 c).In-Read) c.if-batch-eq0.true)
+    no_frame c.args.request.now (frame_empty c.args.request.now (is_one_lem (goal.at.returns-then-batch-eq0 c).In-Read) (is_sent (goal.at.returns-then-batch-eq0 c).In-Read) (headed (goal.at.returns-then-batch-eq0 c).In-Body-body_field) (says (goal.at.returns-then-batch-eq0 c).In-Read) c.if-batch-eq0.true)
+
+-- ---- the batch is not empty
 
 pub count_items-requires : goal.count_items-requires
 count_items-requires c =
-    batch_run ((c.args.request.now)) (is_one_lem (goal.at.count_items-requires c).In-Read) (is_sent (goal.at.count_items-requires c).In-Read) (headed (goal.at.count_items-requires c).In-Body-body_field)
+    batch_run c.args.request.now (is_one_lem (goal.at.count_items-requires c).In-Read) (is_sent (goal.at.count_items-requires c).In-Read) (headed (goal.at.count_items-requires c).In-Body-body_field)
 
 pub returns-in_default-count_items : goal.returns-in_default-count_items
 returns-in_default-count_items c =
-    no_frame ((c.args.request.now)) (frame_bad_items ((c.args.request.now)) (is_one_lem (goal.at.returns-in_default-count_items c).In-Read) (is_sent (goal.at.returns-in_default-count_items c).In-Read) (headed (goal.at.returns-in_default-count_items c).In-Body-body_field) (says (goal.at.returns-in_default-count_items c).In-Read) c.if-batch-eq0.false (sym c.count_items.ensures ∙ c.in_default-count_items.is))
+    no_frame c.args.request.now (frame_bad_items c.args.request.now (is_one_lem (goal.at.returns-in_default-count_items c).In-Read) (is_sent (goal.at.returns-in_default-count_items c).In-Read) (headed (goal.at.returns-in_default-count_items c).In-Body-body_field) (says (goal.at.returns-in_default-count_items c).In-Read) c.if-batch-eq0.false (sym c.count_items.ensures ∙ c.in_default-count_items.is))
 
 pub overflow_add-result : goal.overflow_add-result
 overflow_add-result c =
-    omega (arith, ends (goal.at.overflow_add-result c).In-Body-body_field, length_tail (c.args.request.now) 8)
+    omega (arith, ends (goal.at.overflow_add-result c).In-Body-body_field, length_tail c.args.request.now 8)
 
 pub returns : goal.returns
 returns c =
-    sym (frame_is ((c.args.request.now)) (is_one_lem (goal.at.returns c).In-Read) (is_sent (goal.at.returns c).In-Read) (headed (goal.at.returns c).In-Body-body_field) (says (goal.at.returns c).In-Read) c.if-batch-eq0.false (sym c.count_items.ensures ∙ c.in-Items.is))
+    sym (frame_is c.args.request.now (is_one_lem (goal.at.returns c).In-Read) (is_sent (goal.at.returns c).In-Read) (headed (goal.at.returns c).In-Body-body_field) (says (goal.at.returns c).In-Read) c.if-batch-eq0.false (sym c.count_items.ensures ∙ c.in-Items.is))

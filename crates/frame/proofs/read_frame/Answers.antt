@@ -18,37 +18,45 @@ unfolding framing_of framed
 returns-in_default c =
     c.refuse.ensures ∙ sym (taken_6 _ (items_at c.args.request.now) (sym c.find_frame.ensures ∙ c.in_default.is))
 
-tells : (c : In-Parts) → Told ((frame_in (tree_of (c.args.request.now)))) (items_at (c.args.request.now)) (c.in-Parts.major) (c.in-Parts.minor) (c.in-Parts.option) (c.in-Parts.count) (c.in-Parts.found) c.in-Parts.items
-tells c = told ((frame_in (tree_of (c.args.request.now)))) (items_at (c.args.request.now)) (sym c.find_frame.ensures ∙ c.in-Parts.is)
+-- ---- a frame was read: the request, and what is told of it
+
+tells : (c : In-Parts) → Told ((frame_in (tree_of c.args.request.now))) (items_at c.args.request.now) c.in-Parts.major c.in-Parts.minor c.in-Parts.option c.in-Parts.count c.in-Parts.found c.in-Parts.items
+tells c = told ((frame_in (tree_of c.args.request.now))) (items_at c.args.request.now) (sym c.find_frame.ensures ∙ c.in-Parts.is)
 
 pub returns-then-not-version_ok : goal.returns-then-not-version_ok
 unfolding framing_of framed
 returns-then-not-version_ok c =
-    c.refuse-then-not-version_ok.ensures ∙ sym (taken_7 ((frame_in (tree_of (c.args.request.now)))) (items_at (c.args.request.now)) (tells (goal.at.returns-then-not-version_ok c).In-Parts) (sym c.version_ok.ensures ∙ c.if-not-version_ok.true))
+    c.refuse-then-not-version_ok.ensures ∙ sym (taken_7 ((frame_in (tree_of c.args.request.now))) (items_at c.args.request.now) (tells (goal.at.returns-then-not-version_ok c).In-Parts) (sym c.version_ok.ensures ∙ c.if-not-version_ok.true))
 
-version : (c : Else-not-version_ok) → is_version (c.in-Parts.major) (c.in-Parts.minor) ≡ true
+-- ---- the version is 2.1
+
+version : (c : Else-not-version_ok) → is_version c.in-Parts.major c.in-Parts.minor ≡ true
 version c = sym c.version_ok.ensures ∙ c.if-not-version_ok.false
 
 pub returns-then-not-count_ok : goal.returns-then-not-count_ok
 unfolding framing_of framed
 returns-then-not-count_ok c =
-    c.refuse-then-not-count_ok.ensures ∙ sym (taken_8 ((frame_in (tree_of (c.args.request.now)))) (items_at (c.args.request.now)) (tells (goal.at.returns-then-not-count_ok c).In-Parts) (version (goal.at.returns-then-not-count_ok c).Else-not-version_ok) (sym c.count_ok.ensures ∙ c.if-not-count_ok.true))
+    c.refuse-then-not-count_ok.ensures ∙ sym (taken_8 ((frame_in (tree_of c.args.request.now))) (items_at c.args.request.now) (tells (goal.at.returns-then-not-count_ok c).In-Parts) (version (goal.at.returns-then-not-count_ok c).Else-not-version_ok) (sym c.count_ok.ensures ∙ c.if-not-count_ok.true))
 
-counts : (c : Else-not-count_ok) → is_count (c.in-Parts.count) (c.in-Parts.found) ≡ true
+-- ---- the count is right
+
+counts : (c : Else-not-count_ok) → is_count c.in-Parts.count c.in-Parts.found ≡ true
 counts c = sym c.count_ok.ensures ∙ c.if-not-count_ok.false
 
 pub returns-then-not-option_ok : goal.returns-then-not-option_ok
 unfolding framing_of framed
 returns-then-not-option_ok c =
-    c.refuse-then-not-option_ok.ensures ∙ sym (taken_9 ((frame_in (tree_of (c.args.request.now)))) (items_at (c.args.request.now)) (tells (goal.at.returns-then-not-option_ok c).In-Parts) (version (goal.at.returns-then-not-option_ok c).Else-not-version_ok) (counts (goal.at.returns-then-not-option_ok c).Else-not-count_ok) (sym c.option_ok.ensures ∙ c.if-not-option_ok.true))
+    c.refuse-then-not-option_ok.ensures ∙ sym (taken_9 ((frame_in (tree_of c.args.request.now))) (items_at c.args.request.now) (tells (goal.at.returns-then-not-option_ok c).In-Parts) (version (goal.at.returns-then-not-option_ok c).Else-not-version_ok) (counts (goal.at.returns-then-not-option_ok c).Else-not-count_ok) (sym c.option_ok.ensures ∙ c.if-not-option_ok.true))
 
-known : (c : Else-not-option_ok) → option_ok (c.in-Parts.option) ≡ true
+-- ---- the option is one that there is
+
+known : (c : Else-not-option_ok) → option_ok c.in-Parts.option ≡ true
 known c = sym c.option_ok.ensures ∙ c.if-not-option_ok.false
 
 pub overflow_cast-result : goal.overflow_cast-result
-overflow_cast-result c = omega (arith, option_small (c.in-Parts.option) (known c))
+overflow_cast-result c = omega (arith, option_small c.in-Parts.option (known c))
 
 pub returns : goal.returns
 unfolding framing_of framed
 returns c =
-    sym (taken ((frame_in (tree_of (c.args.request.now)))) (items_at (c.args.request.now)) (tells (goal.at.returns c).In-Parts) (version (goal.at.returns c).Else-not-version_ok) (counts (goal.at.returns c).Else-not-count_ok) (known c))
+    sym (taken ((frame_in (tree_of c.args.request.now))) (items_at c.args.request.now) (tells (goal.at.returns c).In-Parts) (version (goal.at.returns c).Else-not-version_ok) (counts (goal.at.returns c).Else-not-count_ok) (known c))

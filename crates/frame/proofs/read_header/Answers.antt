@@ -28,14 +28,16 @@ unfolding header_read
 returns-in_default c =
     sym (ap header_read (header_no_version c.args.s.now c.requires (sym c.body_field.ensures ∙ c.in_default.is)))
 
-run : (c : In-Body) → is_run (c.args.s.now) ≡ true
+-- ---- Protocol Version is there: the header's bytes, and where it ends
+
+run : (c : In-Body) → is_run c.args.s.now ≡ true
 run c = c.requires
 
-versioned : (c : In-Body) → body_at (c.args.s.now) protocol_version ≡ Body (c.in-Body.next)
+versioned : (c : In-Body) → body_at c.args.s.now protocol_version ≡ Body c.in-Body.next
 versioned c = sym c.body_field.ensures ∙ c.in-Body.is
 
-ends : (c : In-Body) → Within (c.args.s.now) (c.in-Body.next)
-ends c = body_ends (c.args.s.now) protocol_version (versioned c)
+ends : (c : In-Body) → Within c.args.s.now c.in-Body.next
+ends c = body_ends c.args.s.now protocol_version (versioned c)
 
 pub slice_bounds-read_version-count : goal.slice_bounds-read_version-count
 slice_bounds-read_version-count c = omega (arith, ends c)
@@ -47,14 +49,16 @@ pub slice_bounds-read_version-end : goal.slice_bounds-read_version-end
 slice_bounds-read_version-end c = omega (arith, ends c)
 
 pub read_version-requires : goal.read_version-requires
-read_version-requires c = body_is_run (c.args.s.now) (run (goal.at.read_version-requires c).In-Body) protocol_version (versioned (goal.at.read_version-requires c).In-Body)
+read_version-requires c = body_is_run c.args.s.now (run (goal.at.read_version-requires c).In-Body) protocol_version (versioned (goal.at.read_version-requires c).In-Body)
 
 pub returns-in_default-read_version : goal.returns-in_default-read_version
 unfolding header_read
 returns-in_default-read_version c =
-    sym (ap header_read (header_bad_version (c.args.s.now) (run (goal.at.returns-in_default-read_version c).In-Body) (versioned (goal.at.returns-in_default-read_version c).In-Body) (sym c.read_version.ensures ∙ c.in_default-read_version.is)))
+    sym (ap header_read (header_bad_version c.args.s.now (run (goal.at.returns-in_default-read_version c).In-Body) (versioned (goal.at.returns-in_default-read_version c).In-Body) (sym c.read_version.ensures ∙ c.in_default-read_version.is)))
 
-says : (c : In-Version) → version_read (version_in (tree_of (part (c.args.s.now) 8 (c.in-Body.next - 8)))) ≡ Version c.in-Version.major c.in-Version.minor
+-- ---- the version is known
+
+says : (c : In-Version) → version_read (version_in (tree_of (part c.args.s.now 8 (c.in-Body.next - 8)))) ≡ Version c.in-Version.major c.in-Version.minor
 says c = sym c.read_version.ensures ∙ c.in-Version.is
 
 pub slice_bounds-t-count : goal.slice_bounds-t-count
@@ -66,13 +70,15 @@ slice_bounds-t-start c = omega (arith, ends (goal.at.slice_bounds-t-start c).In-
 pub returns-in_default-read_option : goal.returns-in_default-read_option
 unfolding header_read
 returns-in_default-read_option c =
-    sym (ap header_read (header_bad_option (c.args.s.now) (run (goal.at.returns-in_default-read_option c).In-Body) (versioned (goal.at.returns-in_default-read_option c).In-Body) (says (goal.at.returns-in_default-read_option c).In-Version) (sym c.read_option.ensures ∙ c.in_default-read_option.is)))
+    sym (ap header_read (header_bad_option c.args.s.now (run (goal.at.returns-in_default-read_option c).In-Body) (versioned (goal.at.returns-in_default-read_option c).In-Body) (says (goal.at.returns-in_default-read_option c).In-Version) (sym c.read_option.ensures ∙ c.in_default-read_option.is)))
 
-chosen : (c : In-Number) → option_at ((tail (c.args.s.now) (c.in-Body.next))) ≡ Number c.in-Number.option (c.in-Number.after)
+-- ---- the option is known, or that there is none: where it ends
+
+chosen : (c : In-Number) → option_at ((tail c.args.s.now c.in-Body.next)) ≡ Number c.in-Number.option c.in-Number.after
 chosen c = sym c.read_option.ensures ∙ c.in-Number.is
 
-within : (c : In-Number) → c.in-Number.after ≤ length ((tail (c.args.s.now) (c.in-Body.next)))
-within c = option_within ((tail (c.args.s.now) (c.in-Body.next))) (header_behind (c.args.s.now) (run (goal.at.In-Number c).In-Body) (versioned (goal.at.In-Number c).In-Body)) (chosen c)
+within : (c : In-Number) → c.in-Number.after ≤ length ((tail c.args.s.now c.in-Body.next))
+within c = option_within ((tail c.args.s.now c.in-Body.next)) (header_behind c.args.s.now (run (goal.at.In-Number c).In-Body) (versioned (goal.at.In-Number c).In-Body)) (chosen c)
 
 pub slice_bounds-u-count : goal.slice_bounds-u-count
 slice_bounds-u-count c = within c
@@ -83,16 +89,18 @@ slice_bounds-u-start c = omega (arith, within c)
 pub returns-in_default-number_field : goal.returns-in_default-number_field
 unfolding header_read
 returns-in_default-number_field c =
-    sym (ap header_read (header_no_count (c.args.s.now) (run (goal.at.returns-in_default-number_field c).In-Body) (versioned (goal.at.returns-in_default-number_field c).In-Body) (says (goal.at.returns-in_default-number_field c).In-Version) (chosen (goal.at.returns-in_default-number_field c).In-Number) (sym c.number_field.ensures ∙ c.in_default-number_field.is)))
+    sym (ap header_read (header_no_count c.args.s.now (run (goal.at.returns-in_default-number_field c).In-Body) (versioned (goal.at.returns-in_default-number_field c).In-Body) (says (goal.at.returns-in_default-number_field c).In-Version) (chosen (goal.at.returns-in_default-number_field c).In-Number) (sym c.number_field.ensures ∙ c.in_default-number_field.is)))
 
-counted : (c : In-Number-number_field) → number_at (tail ((tail (c.args.s.now) (c.in-Body.next))) (c.in-Number.after)) batch_count integer ≡ Number c.in-Number-number_field.count c.in-Number-number_field.end
+-- ---- the count is known
+
+counted : (c : In-Number-number_field) → number_at (tail ((tail c.args.s.now c.in-Body.next)) c.in-Number.after) batch_count integer ≡ Number c.in-Number-number_field.count c.in-Number-number_field.end
 counted c = sym c.number_field.ensures ∙ c.in-Number-number_field.is
 
 pub returns-then-end-u : goal.returns-then-end-u
 unfolding header_read
 returns-then-end-u c =
-    sym (ap header_read (header_more (c.args.s.now) (run (goal.at.returns-then-end-u c).In-Body) (versioned (goal.at.returns-then-end-u c).In-Body) (says (goal.at.returns-then-end-u c).In-Version) (chosen (goal.at.returns-then-end-u c).In-Number) (counted (goal.at.returns-then-end-u c).In-Number-number_field) c.if-end-u.true))
+    sym (ap header_read (header_more c.args.s.now (run (goal.at.returns-then-end-u c).In-Body) (versioned (goal.at.returns-then-end-u c).In-Body) (says (goal.at.returns-then-end-u c).In-Version) (chosen (goal.at.returns-then-end-u c).In-Number) (counted (goal.at.returns-then-end-u c).In-Number-number_field) c.if-end-u.true))
 
 pub returns : goal.returns
 returns c =
-    sym (header_is (c.args.s.now) (run (goal.at.returns c).In-Body) (versioned (goal.at.returns c).In-Body) (says (goal.at.returns c).In-Version) (chosen (goal.at.returns c).In-Number) (counted (goal.at.returns c).In-Number-number_field) c.if-end-u.false)
+    sym (header_is c.args.s.now (run (goal.at.returns c).In-Body) (versioned (goal.at.returns c).In-Body) (says (goal.at.returns c).In-Version) (chosen (goal.at.returns c).In-Number) (counted (goal.at.returns c).In-Number-number_field) c.if-end-u.false)

@@ -21,14 +21,16 @@ unfolding version_read
 returns-in_default c =
     sym (ap version_read (version_no_major c.args.s.now c.requires (sym c.number_field.ensures ∙ c.in_default.is)))
 
-run : (c : In-Number) → is_run (c.args.s.now) ≡ true
+-- ---- the major number is known: the bytes, and where it ends
+
+run : (c : In-Number) → is_run c.args.s.now ≡ true
 run c = c.requires
 
-major : (c : In-Number) → number_at (c.args.s.now) protocol_version_major integer ≡ Number c.in-Number.major (c.in-Number.next)
+major : (c : In-Number) → number_at c.args.s.now protocol_version_major integer ≡ Number c.in-Number.major c.in-Number.next
 major c = sym c.number_field.ensures ∙ c.in-Number.is
 
-ends : (c : In-Number) → Within (c.args.s.now) (c.in-Number.next)
-ends c = number_ends (c.args.s.now) protocol_version_major integer (major c)
+ends : (c : In-Number) → Within c.args.s.now c.in-Number.next
+ends c = number_ends c.args.s.now protocol_version_major integer (major c)
 
 pub slice_bounds-t-count : goal.slice_bounds-t-count
 slice_bounds-t-count c = omega (arith, ends c)
@@ -39,17 +41,19 @@ slice_bounds-t-start c = omega (arith, ends c)
 pub returns-in_default-number_field : goal.returns-in_default-number_field
 unfolding version_read
 returns-in_default-number_field c =
-    sym (ap version_read (version_no_minor (c.args.s.now) (run (goal.at.returns-in_default-number_field c).In-Number) (major (goal.at.returns-in_default-number_field c).In-Number) (sym c.number_field-2.ensures ∙ c.in_default-number_field.is)))
+    sym (ap version_read (version_no_minor c.args.s.now (run (goal.at.returns-in_default-number_field c).In-Number) (major (goal.at.returns-in_default-number_field c).In-Number) (sym c.number_field-2.ensures ∙ c.in_default-number_field.is)))
 
-minor : (c : In-Number-number_field) → number_at (tail (c.args.s.now) (c.in-Number.next)) protocol_version_minor integer ≡ Number c.in-Number-number_field.minor c.in-Number-number_field.end
+-- ---- the minor number is known
+
+minor : (c : In-Number-number_field) → number_at (tail c.args.s.now c.in-Number.next) protocol_version_minor integer ≡ Number c.in-Number-number_field.minor c.in-Number-number_field.end
 minor c = sym c.number_field-2.ensures ∙ c.in-Number-number_field.is
 
 pub returns-then-end-t : goal.returns-then-end-t
 unfolding version_read
 returns-then-end-t c =
-    sym (ap version_read (version_more (c.args.s.now) (run (goal.at.returns-then-end-t c).In-Number) (major (goal.at.returns-then-end-t c).In-Number) (minor (goal.at.returns-then-end-t c).In-Number-number_field) c.if-end-t.true))
+    sym (ap version_read (version_more c.args.s.now (run (goal.at.returns-then-end-t c).In-Number) (major (goal.at.returns-then-end-t c).In-Number) (minor (goal.at.returns-then-end-t c).In-Number-number_field) c.if-end-t.true))
 
 pub returns : goal.returns
 unfolding version_read
 returns c =
-    sym (ap version_read (version_is (c.args.s.now) (run (goal.at.returns c).In-Number) (major (goal.at.returns c).In-Number) (minor (goal.at.returns c).In-Number-number_field) c.if-end-t.false))
+    sym (ap version_read (version_is c.args.s.now (run (goal.at.returns c).In-Number) (major (goal.at.returns c).In-Number) (minor (goal.at.returns c).In-Number-number_field) c.if-end-t.false))

@@ -9,6 +9,8 @@ use Rattle.last_field.specs.Last.{last_body, only_body_at}
 use Rattle.last_field.proofs.only_body.Goals.{After-body_field}
 use Rattle.last_field.proofs.only_body.Goals as goal
 
+-- ---- what was read, and where the bytes end
+
 known : (c : After-body_field) {f : BodyField} → c.body_field.result ≡ f → only_body_at c.args.s.now c.args.tag ≡ last_body (length c.args.s.now) f
 unfolding only_body_at
 known c e = ap (last_body (length c.args.s.now)) (sym c.body_field.ensures ∙ e)
@@ -16,6 +18,8 @@ known c e = ap (last_body (length c.args.s.now)) (sym c.body_field.ensures ∙ e
 pub returns-in_default : goal.returns-in_default
 unfolding last_body
 returns-in_default c = sym (known (goal.at.returns-in_default c).After-body_field c.in_default.is)
+
+-- ---- it was found: where it ends
 
 pub returns-then-end-s : goal.returns-then-end-s
 unfolding last_body

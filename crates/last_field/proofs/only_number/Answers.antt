@@ -9,6 +9,8 @@ use Rattle.last_field.specs.Last.{last_number, only_number_at}
 use Rattle.last_field.proofs.only_number.Goals.{After-number_field}
 use Rattle.last_field.proofs.only_number.Goals as goal
 
+-- ---- what was read, and where the bytes end
+
 known : (c : After-number_field) {f : NumberField} → c.number_field.result ≡ f → only_number_at c.args.s.now c.args.tag c.args.kind ≡ last_number (length c.args.s.now) f
 unfolding only_number_at
 known c e = ap (last_number (length c.args.s.now)) (sym c.number_field.ensures ∙ e)
@@ -16,6 +18,8 @@ known c e = ap (last_number (length c.args.s.now)) (sym c.number_field.ensures �
 pub returns-in_default : goal.returns-in_default
 unfolding last_number
 returns-in_default c = sym (known (goal.at.returns-in_default c).After-number_field c.in_default.is)
+
+-- ---- it was found: where it ends
 
 pub returns-then-next-s : goal.returns-then-next-s
 unfolding last_number

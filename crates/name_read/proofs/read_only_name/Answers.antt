@@ -18,14 +18,16 @@ unfolding name_read
 returns-in_default c =
     sym (ap name_read (only_no_body c.args.s.now c.requires (sym c.only_body.ensures ∙ c.in_default.is)))
 
-run : (c : In-Body) → is_run (c.args.s.now) ≡ true
+-- ---- a Name is there, and nothing behind it
+
+run : (c : In-Body) → is_run c.args.s.now ≡ true
 run c = c.requires
 
-body : (c : In-Body) → only_body_at (c.args.s.now) name_tag ≡ Body (c.in-Body.end)
+body : (c : In-Body) → only_body_at c.args.s.now name_tag ≡ Body c.in-Body.end
 body c = sym c.only_body.ensures ∙ c.in-Body.is
 
-inside : (c : In-Body) → Whole (c.args.s.now) (run c) name_tag (c.in-Body.end)
-inside c = whole (c.args.s.now) (run c) name_tag (body c)
+inside : (c : In-Body) → Whole c.args.s.now (run c) name_tag c.in-Body.end
+inside c = whole c.args.s.now (run c) name_tag (body c)
 
 pub slice_bounds-read_body-count : goal.slice_bounds-read_body-count
 slice_bounds-read_body-count c = (inside c).past
@@ -41,4 +43,4 @@ read_body-requires c = (inside (goal.at.read_body-requires c).In-Body).inner
 
 pub returns : goal.returns
 returns c =
-    c.read_body.ensures ∙ sym (ap name_read (only_body (c.args.s.now) (run (goal.at.returns c).In-Body) (body (goal.at.returns c).In-Body)))
+    c.read_body.ensures ∙ sym (ap name_read (only_body c.args.s.now (run (goal.at.returns c).In-Body) (body (goal.at.returns c).In-Body)))

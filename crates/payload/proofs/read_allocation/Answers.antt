@@ -26,20 +26,22 @@ unfolding or_invalid allocation_in
 returns-in_default c =
     sym (ap or_invalid (target_stops c.args.s.now c.requires _ (sym c.read_target.ensures ∙ c.in_default.is)))
 
-run : (c : In-Is) → is_run (c.args.s.now) ≡ true
+-- ---- the target is known: the payload, and where the target ends
+
+run : (c : In-Is) → is_run c.args.s.now ≡ true
 run c = c.requires
 
-named : (c : In-Is) → target_at (c.args.s.now) ≡ Is (c.in-Is.target) (c.in-Is.next)
+named : (c : In-Is) → target_at c.args.s.now ≡ Is c.in-Is.target c.in-Is.next
 named c = sym c.read_target.ensures ∙ c.in-Is.is
 
-within : (c : In-Is) → c.in-Is.next ≤ length (c.args.s.now)
-within c = target_within (c.args.s.now) (run c) (named c)
+within : (c : In-Is) → c.in-Is.next ≤ length c.args.s.now
+within c = target_within c.args.s.now (run c) (named c)
 
-behind : (c : In-Is) → is_run ((tail (c.args.s.now) (c.in-Is.next))) ≡ true
-behind c = target_behind (c.args.s.now) (run c) (named c)
+behind : (c : In-Is) → is_run ((tail c.args.s.now c.in-Is.next)) ≡ true
+behind c = target_behind c.args.s.now (run c) (named c)
 
-left : (c : In-Is) → allocation_in (tree_of (c.args.s.now)) ≡ amount_behind (c.in-Is.target) (tree_of ((tail (c.args.s.now) (c.in-Is.next))))
-left c = allocation_target (c.args.s.now) (run c) (named c)
+left : (c : In-Is) → allocation_in (tree_of c.args.s.now) ≡ amount_behind c.in-Is.target (tree_of ((tail c.args.s.now c.in-Is.next)))
+left c = allocation_target c.args.s.now (run c) (named c)
 
 pub slice_bounds-only_number-count : goal.slice_bounds-only_number-count
 slice_bounds-only_number-count c = within c
@@ -50,17 +52,19 @@ slice_bounds-only_number-start c = let w = within c in omega arith
 pub returns-in_default-only_number : goal.returns-in_default-only_number
 unfolding or_invalid
 returns-in_default-only_number c =
-    sym (ap or_invalid (left (goal.at.returns-in_default-only_number c).In-Is ∙ only_stops ((tail (c.args.s.now) (c.in-Is.next))) (behind (goal.at.returns-in_default-only_number c).In-Is) usage_limits_count long_integer refl above_zero (asks _) (sym c.only_number.ensures ∙ c.in_default-only_number.is)))
+    sym (ap or_invalid (left (goal.at.returns-in_default-only_number c).In-Is ∙ only_stops ((tail c.args.s.now c.in-Is.next)) (behind (goal.at.returns-in_default-only_number c).In-Is) usage_limits_count long_integer refl above_zero (asks _) (sym c.only_number.ensures ∙ c.in_default-only_number.is)))
 
-asked : (c : In-Number) → only_number_at ((tail (c.args.s.now) (c.in-Is.next))) usage_limits_count long_integer ≡ Number c.in-Number.amount c.in-Number.next
+-- ---- the amount is known, and nothing is behind it
+
+asked : (c : In-Number) → only_number_at ((tail c.args.s.now c.in-Is.next)) usage_limits_count long_integer ≡ Number c.in-Number.amount c.in-Number.next
 asked c = sym c.only_number.ensures ∙ c.in-Number.is
 
 pub returns-then-not-above_zero : goal.returns-then-not-above_zero
 unfolding or_invalid
 returns-then-not-above_zero c =
-    sym (ap or_invalid (left (goal.at.returns-then-not-above_zero c).In-Is ∙ only_bad ((tail (c.args.s.now) (c.in-Is.next))) (behind (goal.at.returns-then-not-above_zero c).In-Is) usage_limits_count long_integer refl above_zero (asks _) (asked (goal.at.returns-then-not-above_zero c).In-Number) (sym c.above_zero.ensures ∙ c.if-not-above_zero.true)))
+    sym (ap or_invalid (left (goal.at.returns-then-not-above_zero c).In-Is ∙ only_bad ((tail c.args.s.now c.in-Is.next)) (behind (goal.at.returns-then-not-above_zero c).In-Is) usage_limits_count long_integer refl above_zero (asks _) (asked (goal.at.returns-then-not-above_zero c).In-Number) (sym c.above_zero.ensures ∙ c.if-not-above_zero.true)))
 
 pub returns : goal.returns
 unfolding or_invalid
 returns c =
-    sym (ap or_invalid (left (goal.at.returns c).In-Is ∙ only_is ((tail (c.args.s.now) (c.in-Is.next))) (behind (goal.at.returns c).In-Is) usage_limits_count long_integer refl above_zero (asks _) (asked (goal.at.returns c).In-Number) (sym c.above_zero.ensures ∙ c.if-not-above_zero.false)))
+    sym (ap or_invalid (left (goal.at.returns c).In-Is ∙ only_is ((tail c.args.s.now c.in-Is.next)) (behind (goal.at.returns c).In-Is) usage_limits_count long_integer refl above_zero (asks _) (asked (goal.at.returns c).In-Number) (sym c.above_zero.ensures ∙ c.if-not-above_zero.false)))

@@ -19,10 +19,12 @@ unfolding or_invalid alone_in
 returns-in_default c =
     sym (ap or_invalid (target_stops c.args.s.now c.requires _ (sym c.read_target.ensures ∙ c.in_default.is)))
 
-run : (c : In-Is) → is_run (c.args.s.now) ≡ true
+-- ---- the target is known: the payload, and where the target ends
+
+run : (c : In-Is) → is_run c.args.s.now ≡ true
 run c = c.requires
 
-named : (c : In-Is) → target_at (c.args.s.now) ≡ Is (c.in-Is.target) (c.in-Is.after)
+named : (c : In-Is) → target_at c.args.s.now ≡ Is c.in-Is.target c.in-Is.after
 named c = sym c.read_target.ensures ∙ c.in-Is.is
 
 abbrev make : In-Is → Target → Command
@@ -30,9 +32,9 @@ make c = alone_of c.args.operation
 
 pub returns-then-after-s : goal.returns-then-after-s
 unfolding or_invalid
-returns-then-after-s c = sym (ap or_invalid (alone_more (c.args.s.now) (run (goal.at.returns-then-after-s c).In-Is) (named (goal.at.returns-then-after-s c).In-Is) (make (goal.at.returns-then-after-s c).In-Is) c.if-after-s.true))
+returns-then-after-s c = sym (ap or_invalid (alone_more c.args.s.now (run (goal.at.returns-then-after-s c).In-Is) (named (goal.at.returns-then-after-s c).In-Is) (make (goal.at.returns-then-after-s c).In-Is) c.if-after-s.true))
 
 pub returns : goal.returns
 unfolding or_invalid
 returns c =
-    c.alone.ensures ∙ sym (ap or_invalid (alone_is (c.args.s.now) (run (goal.at.returns c).In-Is) (named (goal.at.returns c).In-Is) (make (goal.at.returns c).In-Is) c.if-after-s.false))
+    c.alone.ensures ∙ sym (ap or_invalid (alone_is c.args.s.now (run (goal.at.returns c).In-Is) (named (goal.at.returns c).In-Is) (make (goal.at.returns c).In-Is) c.if-after-s.false))

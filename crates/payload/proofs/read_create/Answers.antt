@@ -25,18 +25,22 @@ unfolding or_invalid
 returns-in_default c =
     sym (ap or_invalid (create_no_type c.args.s.now c.requires (sym c.number_field.ensures ∙ c.in_default.is)))
 
-run : (c : In-Number) → is_run (c.args.s.now) ≡ true
+-- ---- the Object Type is known: the payload, and where the type ends
+
+run : (c : In-Number) → is_run c.args.s.now ≡ true
 run c = c.requires
 
-typed : (c : In-Number) → number_at (c.args.s.now) object_type enumeration ≡ Number c.in-Number.kind (c.in-Number.next)
+typed : (c : In-Number) → number_at c.args.s.now object_type enumeration ≡ Number c.in-Number.kind c.in-Number.next
 typed c = sym c.number_field.ensures ∙ c.in-Number.is
 
 pub returns-then-kind-ne-SYMMETRIC_KEY : goal.returns-then-kind-ne-SYMMETRIC_KEY
 unfolding or_invalid
-returns-then-kind-ne-SYMMETRIC_KEY c = sym (ap or_invalid (create_other_type (c.args.s.now) (run (goal.at.returns-then-kind-ne-SYMMETRIC_KEY c).In-Number) (typed (goal.at.returns-then-kind-ne-SYMMETRIC_KEY c).In-Number) c.if-kind-ne-SYMMETRIC_KEY.true))
+returns-then-kind-ne-SYMMETRIC_KEY c = sym (ap or_invalid (create_other_type c.args.s.now (run (goal.at.returns-then-kind-ne-SYMMETRIC_KEY c).In-Number) (typed (goal.at.returns-then-kind-ne-SYMMETRIC_KEY c).In-Number) c.if-kind-ne-SYMMETRIC_KEY.true))
 
-within : (c : In-Number) → c.in-Number.next ≤ length (c.args.s.now)
-within c = number_within (c.args.s.now) (run c) object_type enumeration refl (typed c)
+-- ---- it is a symmetric key
+
+within : (c : In-Number) → c.in-Number.next ≤ length c.args.s.now
+within c = number_within c.args.s.now (run c) object_type enumeration refl (typed c)
 
 pub slice_bounds-t-count : goal.slice_bounds-t-count
 slice_bounds-t-count c = within (goal.at.slice_bounds-t-count c).In-Number
@@ -47,16 +51,18 @@ slice_bounds-t-start c = let w = within (goal.at.slice_bounds-t-start c).In-Numb
 pub returns-in_default-only_body : goal.returns-in_default-only_body
 unfolding or_invalid
 returns-in_default-only_body c =
-    sym (ap or_invalid (create_no_attributes (c.args.s.now) (run (goal.at.returns-in_default-only_body c).In-Number) (typed (goal.at.returns-in_default-only_body c).In-Number) c.if-kind-ne-SYMMETRIC_KEY.false (sym c.only_body.ensures ∙ c.in_default-only_body.is)))
+    sym (ap or_invalid (create_no_attributes c.args.s.now (run (goal.at.returns-in_default-only_body c).In-Number) (typed (goal.at.returns-in_default-only_body c).In-Number) c.if-kind-ne-SYMMETRIC_KEY.false (sym c.only_body.ensures ∙ c.in_default-only_body.is)))
 
-behind : (c : In-Body) → is_run ((tail (c.args.s.now) (c.in-Number.next))) ≡ true
-behind c = number_behind (c.args.s.now) (run (goal.at.In-Body c).In-Number) object_type enumeration refl (typed (goal.at.In-Body c).In-Number)
+-- ---- Attributes is there, and nothing behind it
 
-body : (c : In-Body) → only_body_at ((tail (c.args.s.now) (c.in-Number.next))) attributes ≡ Body c.in-Body.end
+behind : (c : In-Body) → is_run ((tail c.args.s.now c.in-Number.next)) ≡ true
+behind c = number_behind c.args.s.now (run (goal.at.In-Body c).In-Number) object_type enumeration refl (typed (goal.at.In-Body c).In-Number)
+
+body : (c : In-Body) → only_body_at ((tail c.args.s.now c.in-Number.next)) attributes ≡ Body c.in-Body.end
 body c = sym c.only_body.ensures ∙ c.in-Body.is
 
-inside : (c : In-Body) → Whole ((tail (c.args.s.now) (c.in-Number.next))) (behind c) attributes c.in-Body.end
-inside c = whole ((tail (c.args.s.now) (c.in-Number.next))) (behind c) attributes (body c)
+inside : (c : In-Body) → Whole ((tail c.args.s.now c.in-Number.next)) (behind c) attributes c.in-Body.end
+inside c = whole ((tail c.args.s.now c.in-Number.next)) (behind c) attributes (body c)
 
 pub slice_bounds-read_attributes-count : goal.slice_bounds-read_attributes-count
 slice_bounds-read_attributes-count c = (inside c).past
@@ -70,8 +76,10 @@ slice_bounds-read_attributes-end c = omega (arith, inside c)
 pub read_attributes-requires : goal.read_attributes-requires
 read_attributes-requires c = (inside (goal.at.read_attributes-requires c).In-Body).inner
 
-created : (c : In-Body) → create_in (tree_of (c.args.s.now)) ≡ creates (tree_of (part ((tail (c.args.s.now) (c.in-Number.next))) 8 (c.in-Body.end - 8)))
-created c = create_body (c.args.s.now) (run (goal.at.In-Body c).In-Number) (typed (goal.at.In-Body c).In-Number) c.if-kind-ne-SYMMETRIC_KEY.false (body c)
+-- ---- what the reader of Attributes answered
+
+created : (c : In-Body) → create_in (tree_of c.args.s.now) ≡ creates (tree_of (part ((tail c.args.s.now c.in-Number.next)) 8 (c.in-Body.end - 8)))
+created c = create_body c.args.s.now (run (goal.at.In-Body c).In-Number) (typed (goal.at.In-Body c).In-Number) c.if-kind-ne-SYMMETRIC_KEY.false (body c)
 
 pub returns-in_default-read_attributes : goal.returns-in_default-read_attributes
 unfolding or_invalid

@@ -20,17 +20,19 @@ unfolding or_invalid
 returns-in_default c =
     sym (ap or_invalid (locate_no_attributes c.args.s.now c.requires (sym c.only_body.ensures ∙ c.in_default.is)))
 
-run : (c : In-Body) → is_run (c.args.s.now) ≡ true
+-- ---- Attributes is there, and nothing behind it: what is left is the name inside
+
+run : (c : In-Body) → is_run c.args.s.now ≡ true
 run c = c.requires
 
-body : (c : In-Body) → only_body_at (c.args.s.now) attributes ≡ Body (c.in-Body.end)
+body : (c : In-Body) → only_body_at c.args.s.now attributes ≡ Body c.in-Body.end
 body c = sym c.only_body.ensures ∙ c.in-Body.is
 
-inside : (c : In-Body) → Whole (c.args.s.now) (run c) attributes (c.in-Body.end)
-inside c = whole (c.args.s.now) (run c) attributes (body c)
+inside : (c : In-Body) → Whole c.args.s.now (run c) attributes c.in-Body.end
+inside c = whole c.args.s.now (run c) attributes (body c)
 
-left : (c : In-Body) → locate_in (tree_of (c.args.s.now)) ≡ locates (tree_of (part (c.args.s.now) 8 (c.in-Body.end - 8)))
-left c = locate_body (c.args.s.now) (run c) (body c)
+left : (c : In-Body) → locate_in (tree_of c.args.s.now) ≡ locates (tree_of (part c.args.s.now 8 (c.in-Body.end - 8)))
+left c = locate_body c.args.s.now (run c) (body c)
 
 pub slice_bounds-read_only_name-count : goal.slice_bounds-read_only_name-count
 slice_bounds-read_only_name-count c = (inside c).past
@@ -43,6 +45,8 @@ slice_bounds-read_only_name-end c = omega (arith, inside c)
 
 pub read_only_name-requires : goal.read_only_name-requires
 read_only_name-requires c = (inside (goal.at.read_only_name-requires c).In-Body).inner
+
+-- ---- what the reader of names answered
 
 pub returns-in_default-read_only_name : goal.returns-in_default-read_only_name
 unfolding or_invalid

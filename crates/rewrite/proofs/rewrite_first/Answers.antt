@@ -13,6 +13,8 @@ use Rattle.rewrite.proofs.Front.{value_fine, value_within, value_again, group_ag
 use Rattle.rewrite.proofs.rewrite_first.Goals.{In-Group, In-Value}
 use Rattle.rewrite.proofs.rewrite_first.Goals as goal
 
+-- ---- the arm of a value
+
 front_value : (c : In-Value) → first_of c.args.t.now ≡ Value c.in-Value.tag c.in-Value.kind c.in-Value.len c.in-Value.next
 front_value c = sym c.read_first.ensures ∙ c.in-Value.is
 
@@ -22,11 +24,15 @@ value_bytes c = bytes_of c.args.t.now (λ i. (c.shared_slice_known-1.given i).fi
 value_ends : (c : In-Value) → 8 + c.in-Value.len ≤ length c.args.t.now
 value_ends c = value_within c.args.t.now c.requires.1.0 (front_value c)
 
+-- ---- the arm of a structure
+
 front_group : (c : In-Group) → first_of c.args.t.now ≡ Group c.in-Group.tag c.in-Group.next
 front_group c = sym c.read_first.ensures ∙ c.in-Group.is
 
 group_bytes : (c : In-Group) → Bytes c.args.t.now
 group_bytes c = bytes_of c.args.t.now (λ i. (c.shared_slice_known-1.given i).fits)
+
+-- ---- the needs
 
 pub overflow_add-stop : goal.overflow_add-stop
 overflow_add-stop c = let l = value_ends c in omega arith

@@ -21,36 +21,44 @@ use Rattle.target_read.specs.declared.TargetRead.TheVariants.{Is}
 use Rattle.target_read.proofs.read_target.Goals.{After-is_tagged, Else-kind-ne-TEXT_STRING, Else-not-is_tagged, In-Value}
 use Rattle.target_read.proofs.read_target.Goals as goal
 
-starts : (c : After-is_tagged) {b : Bool} → c.is_tagged.result ≡ b → starts_at (c.args.s.now) unique_identifier ≡ b
+-- ---- the item at the front, and whether it is an identifier
+
+starts : (c : After-is_tagged) {b : Bool} → c.is_tagged.result ≡ b → starts_at c.args.s.now unique_identifier ≡ b
 unfolding starts_at
 starts c e = ap (starts_in unique_identifier) (sym c.read_first-item.ensures) ∙ sym c.is_tagged.ensures ∙ e
 
 pub returns-then-not-is_tagged : goal.returns-then-not-is_tagged
 unfolding target_at
-returns-then-not-is_tagged c = sym (ifb_false _ _ _ (starts (goal.at.returns-then-not-is_tagged c).After-is_tagged (c.if-not-is_tagged.true)))
+returns-then-not-is_tagged c = sym (ifb_false _ _ _ (starts (goal.at.returns-then-not-is_tagged c).After-is_tagged c.if-not-is_tagged.true))
 
-given : (c : Else-not-is_tagged) {b : BytesField} → bytes_in unique_identifier text_string c.read_first-item.result ≡ b → target_at (c.args.s.now) ≡ target_span (c.args.s.now) b
+-- ---- an identifier is there: what its bytes give is the answer
+
+given : (c : Else-not-is_tagged) {b : BytesField} → bytes_in unique_identifier text_string c.read_first-item.result ≡ b → target_at c.args.s.now ≡ target_span c.args.s.now b
 unfolding target_at bytes_at
 given c e =
-    ifb_true _ _ _ (starts (goal.at.Else-not-is_tagged c).After-is_tagged (c.if-not-is_tagged.false))
-    ∙ ap (target_span (c.args.s.now)) (ap (bytes_in unique_identifier text_string) (sym c.read_first-item.ensures) ∙ e)
+    ifb_true _ _ _ (starts (goal.at.Else-not-is_tagged c).After-is_tagged c.if-not-is_tagged.false)
+    ∙ ap (target_span c.args.s.now) (ap (bytes_in unique_identifier text_string) (sym c.read_first-item.ensures) ∙ e)
 
 pub returns-in_default : goal.returns-in_default
 unfolding target_span
 returns-in_default c = sym (given (goal.at.returns-in_default c).Else-not-is_tagged (no_value_first unique_identifier text_string _ c.in_default.not-Value))
+
+-- ---- it has a value: its tag is the identifier's
 
 tag_is : (c : In-Value) → c.in-Value.tag ≡ unique_identifier
 unfolding starts_in
 tag_is c =
     eqb-true c.in-Value.tag unique_identifier (ap (starts_in unique_identifier) (sym c.in-Value.is) ∙ sym c.is_tagged.ensures ∙ c.if-not-is_tagged.false)
 
-ends : (c : In-Value) → Holds (c.args.s.now) c.in-Value.kind c.in-Value.len c.in-Value.next
-ends c = value_ends (c.args.s.now) (sym c.read_first-item.ensures ∙ c.in-Value.is)
+ends : (c : In-Value) → Holds c.args.s.now c.in-Value.kind c.in-Value.len c.in-Value.next
+ends c = value_ends c.args.s.now (sym c.read_first-item.ensures ∙ c.in-Value.is)
 
 pub returns-then-kind-ne-TEXT_STRING : goal.returns-then-kind-ne-TEXT_STRING
 unfolding target_span
 returns-then-kind-ne-TEXT_STRING c =
     sym (given (goal.at.returns-then-kind-ne-TEXT_STRING c).Else-not-is_tagged (ap (bytes_in unique_identifier text_string) c.in-Value.is ∙ other_kind unique_identifier text_string _ _ _ _ (tag_is (goal.at.returns-then-kind-ne-TEXT_STRING c).In-Value) c.if-kind-ne-TEXT_STRING.true))
+
+-- ---- it is a Text String
 
 span : (c : Else-kind-ne-TEXT_STRING) → bytes_in unique_identifier text_string c.read_first-item.result ≡ Span c.in-Value.len c.in-Value.next
 span c =
@@ -68,5 +76,5 @@ unfolding target_span
 returns c =
     let v = c.in-Value in
     let cut : 8 + v.len - 8 ≡ v.len = omega arith in
-    ap (λ (x : ℕ). Is (Serial x) v.next) (c.serial_of.ensures ∙ ap (λ (m : ℕ). serial_of (part (c.args.s.now) 8 m)) cut)
+    ap (λ (x : ℕ). Is (Serial x) v.next) (c.serial_of.ensures ∙ ap (λ (m : ℕ). serial_of (part c.args.s.now 8 m)) cut)
     ∙ sym (given (goal.at.returns c).Else-not-is_tagged (span (goal.at.returns c).Else-kind-ne-TEXT_STRING))
