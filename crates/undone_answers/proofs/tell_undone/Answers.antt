@@ -3,6 +3,7 @@
 use Prim.Native.Nat.{◌<◌}
 use mathlib.Core.Path.{refl, sym, ◌∙◌}
 use native.Mathlib.Omega.{arith}
+use borrow.Author.Tests.{eq-eqb, ne_eqb}
 use Rattle.frame.specs.Frame.{batch_most}
 use Rattle.batch.proofs.Left.{Next, next_item, next_index, rest_less}
 use Rattle.batch.proofs.Written.{room_left}
@@ -59,7 +60,7 @@ overflow_cast-count-then-failed c = omega (arith, before_last (goal.at.overflow_
 pub returns-then-failed : goal.returns-then-failed
 returns-then-failed c =
     let d = c.tell_item-used in
-    stopped c.loop-next.invariant (item (goal.at.returns-then-failed c).In-Body) refl c.said_of-said.ensures d.ensures d.auto.out c.if-failed.true
+    stopped c.loop-next.invariant (item (goal.at.returns-then-failed c).In-Body) refl c.said_of-said.ensures d.ensures d.auto.out (eq-eqb c.loop-next.i c.args.index c.if-failed.true)
 
 pub slice_bounds-left-count : goal.slice_bounds-left-count
 slice_bounds-left-count c = (item (goal.at.slice_bounds-left-count c).In-Body).within
@@ -73,4 +74,4 @@ loop-next-smaller c = rest_less c.loop-next.invariant.items (item (goal.at.loop-
 pub loop-next-preserved : goal.loop-next-preserved
 loop-next-preserved c =
     let done = c.tell_item-used in
-    again c.loop-next.invariant (item (goal.at.loop-next-preserved c).In-Body) refl c.said_of-said.ensures done.ensures done.auto.out c.if-failed.false
+    again c.loop-next.invariant (item (goal.at.loop-next-preserved c).In-Body) refl c.said_of-said.ensures done.ensures done.auto.out (ne_eqb c.loop-next.i c.args.index c.if-failed.false)
