@@ -35,7 +35,7 @@ use Rattle.calls.specs.Effects.{Effect, room_least}
 use Rattle.engine.specs.Serving.{turned_away, answered, requested, carry_out, serving}
 use Rattle.refusals.specs.Refusals.{early_refusal, late_refusal}
 use Rattle.engine.specs.Calls.{RunsWhole, accepted_over, AcceptedIs, ServedIs}
-use Rattle.refusals.proofs.Early.{Passed, passed}
+use Rattle.refusals.proofs.Early.{Passed}
 use Rattle.refusals.proofs.Late.{timely}
 
 -- ---- the ladder
