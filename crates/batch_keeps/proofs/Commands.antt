@@ -32,7 +32,7 @@ use Rattle.payload.specs.Reasons.{operation_of, reason_of}
 use Rattle.payload.proofs.Commands.{of_create}
 use Rattle.payload.proofs.Reasons.{command_operation}
 use Rattle.octets.proofs.Maybe.{not_some, some_is, on_bind, on_test}
-use Rattle.answer.proofs.Fields.{on-optional}
+use Rattle.answer.proofs.Fields.{on_optional}
 
 -- the operation of each command, and what a Create may ask for
 pub data Commanded (operation : ℕ) : Command → Type 0 where

@@ -1,8 +1,8 @@
 -- What is left of a batch under its option: a sound table too, and answers that are those of a response.
 -- Assumes nothing.
 use Prim.Native.Nat.{ℕ, ◌^◌}
-use mathlib.Core.Path.{◌≡◌, refl, sym, ap, ◌∙◌}
-use mathlib.Core.Bool.{Bool, true, false, ◌&&◌, ◌||◌}
+use mathlib.Core.Path.{◌≡◌, refl}
+use mathlib.Core.Bool.{Bool, true, ◌&&◌, ◌||◌}
 use mathlib.Core.List.{List, [], ◌∷◌, map}
 use lib.ListN.{length, length-map}
 use lib.Dec.{leb, ltb, eqb}
@@ -17,9 +17,9 @@ use Rattle.plans.specs.declared.Outcome.{Outcome}
 use Rattle.plans.specs.declared.Outcome.TheVariants.{Failed, Created, Done, Showed, Got, Located, Undone}
 use Rattle.plans.specs.Plans.{is_failed}
 use Rattle.answer.specs.Respond.{Answer}
-use Rattle.answer.specs.Read.{serial_ok, link_ok, shown_ok, key_ok, answers_done, is_supported, outcome_ok, answer_ok}
+use Rattle.answer.specs.Read.{serial_ok, link_ok, shown_ok, key_ok, answers_done, outcome_ok, answer_ok}
 use Rattle.batch.specs.Batch.{Ran}
-use Rattle.settle.specs.Undo.{is_undone, settled}
+use Rattle.settle.specs.Undo.{settled}
 use Rattle.undone_answers.specs.Undone.{or_undone, undone_to}
 use Rattle.octets.proofs.If.{on_if}
 use Rattle.octets.specs.Octets.{Bytes}
