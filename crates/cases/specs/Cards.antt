@@ -1,6 +1,6 @@
 -- 01, "Bench cards": the cases marked P, as one list of tests over the definitions, at clock 1. Requests and responses stand as bytes.
 -- Assumes nothing. The bytes were worked out from the papers and not from these definitions.
-use Rattle.std.specs.Prelude.{ℕ, zero, suc, ◌+◌, Bool, true, false, not, ◌&&◌, List, [], ◌∷◌, ◌++◌, length, take, replicate, eqb}
+use Rattle.std.specs.Prelude.{ℕ, zero, suc, Bool, true, false, not, ◌&&◌, List, [], ◌∷◌, ◌++◌, length, take, replicate, eqb}
 use Rattle.std.proofs.Math.Option.{Option, none, some}
 use Rattle.octets.specs.Maybe.{is_some}
 use Rattle.octets.specs.Octets.{from_be, part, same, counted_from}
