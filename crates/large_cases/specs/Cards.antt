@@ -1,6 +1,6 @@
 -- A case of 02, L7, over the definitions: a Create on a table of 256 places of which the first 64 are taken. What goes through it as if it had 64 places finds no room there.
 -- Assumes nothing. The table is no sound one, since of its records only the serials are there: soundness of 256 places is too dear to compute, and an item does not ask for it.
-use Rattle.std.specs.Prelude.{ℕ, zero, suc, Bool, ◌&&◌, List, [], ◌∷◌, ◌++◌, replicate, eqb}
+use Rattle.std.specs.Prelude.{ℕ, zero, suc, Bool, ◌&&◌, List, [], ◌∷◌, ◌++◌, replicate}
 use Rattle.std.proofs.Math.Option.{Option, none, some}
 use Rattle.octets.specs.Octets.{be, same, counted_from}
 use Rattle.hex_digits.specs.Texts.{hex}
