@@ -43,7 +43,6 @@ use Rattle.plans.specs.declared.Outcome.TheVariants.{Failed, Created, Done, Show
 use Rattle.act.specs.Act.{sought}
 use Rattle.plans.specs.Plans.{is_failed}
 use Rattle.answer.specs.Respond.{Answer}
-use Rattle.calls.specs.Effects.{Effect}
 use Rattle.demands.specs.Box.{Call, Box, counted, places_of}
 use Rattle.demands.specs.Demand1.{refusals, longest}
 use Rattle.demands.specs.Demand2.{Link, refusal_conditions, of_frame, lowest, goes_on, link_at, answer_for, any_fails, is_undone, settled, undone_for, answers_for, kept_for}
