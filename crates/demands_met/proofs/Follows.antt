@@ -96,7 +96,7 @@ module _ {n : ℕ} (x units : ℕ) (z : x ≡ 0 → ⊥) where
 -- ---- along a run
 
 -- it is a point of the run
-pub later_run : {n : ℕ} {B : Box} {log log' : List Event} {t t' : List ℕ} → Run n B log t → Later n B log t log' t' → Run n B log' t'
+pub later_run : {n : ℕ} {B : Box} {log : List Event} {t : List ℕ} {log' : List Event} {t' : List ℕ} → Run n B log t → Later n B log t log' t' → Run n B log' t'
 later_run r here = r
 later_run r (further c e l same lent b) = calls c e (later_run r l) same lent b
 
@@ -107,7 +107,7 @@ module _ (B : Box) (n : ℕ) (ok : places_ok n ≡ true) (d : Demand3Of n B) whe
   in_order_lem begins = let books = blank_books n ok in inv_order [] (blank n) books.inv books.dead
   in_order_lem (calls {log} {t} c e r same lent b) = let g = d.goes log t r c e same lent b in path_order g.path g.order
 
-  later_gone : (x units : ℕ) → (x ≡ 0 → ⊥) → {log log' : List Event} {t t' : List ℕ} → Run n B log t → Gone n x units log t → Later n B log t log' t' → Gone n x units log' t'
+  later_gone : (x units : ℕ) → (x ≡ 0 → ⊥) → {log : List Event} {t : List ℕ} {log' : List Event} {t' : List ℕ} → Run n B log t → Gone n x units log t → Later n B log t log' t' → Gone n x units log' t'
   unfolding logged
   later_gone x units z r g here = g
   later_gone x units z r g (further {log'} {t'} c e l same lent b) =

@@ -144,14 +144,14 @@ module _ (B : Box) (n : ℕ) (ok : places_ok n ≡ true) (d : Demand3Of n B) whe
           (q, subst (λ (k : ℕ). Ways (place_at n t i).state (place_at n t k).state) (sym q) still)
 
   module _ (x i from : ℕ) (z : x ≡ 0 → ⊥) where
-    later_since : {log log' : List Event} {t t' : List ℕ} → Run n B log t → Since n x i from log t → Later n B log t log' t' → Since n x i from log' t'
+    later_since : {log : List Event} {t : List ℕ} {log' : List Event} {t' : List ℕ} → Run n B log t → Since n x i from log t → Later n B log t log' t' → Since n x i from log' t'
     unfolding logged
     later_since r s here = s
     later_since r s (further {log'} {t'} c e l same lent b) =
         let goes = d.goes log' t' (later_run r l) c e same lent b in
         path_since x i from z goes.path (opens_since x i from z goes.opens (subst (Since n x i from log') (sym same) (later_since r s l)))
 
-    later_idle : {log log' : List Event} {t t' : List ℕ} → Run n B log t → Since n x i from log t → is_destroyed from ≡ true → Later n B log t log' t' → granted x log' ≡ granted x log
+    later_idle : {log : List Event} {t : List ℕ} {log' : List Event} {t' : List ℕ} → Run n B log t → Since n x i from log t → is_destroyed from ≡ true → Later n B log t log' t' → granted x log' ≡ granted x log
     unfolding logged
     later_idle r s dead here = refl
     later_idle r s dead (further {log'} {t'} c e l same lent b) =
