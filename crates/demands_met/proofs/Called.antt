@@ -1,11 +1,11 @@
 -- Names by the log: in every box that meets demand 3 a key has the name that the log gives it.
 -- Assumes nothing.
-use Prim.Native.Nat.{ℕ, ◌<◌, ◌≤◌}
+use Prim.Native.Nat.{ℕ}
 use native.Mathlib.Omega.{arith}
 use native.Mathlib.Decide.{ℕ_discrete}
 use mathlib.Core.Path.{◌≡◌, refl, sym, ap, ap₂, subst, ◌∙◌}
-use mathlib.Core.Bool.{Bool, true, false, not, ◌&&◌, false≢true}
-use mathlib.Core.List.{List, [], ◌∷◌}
+use mathlib.Core.Bool.{Bool, true, false, not, false≢true}
+use mathlib.Core.List.{List, ◌∷◌}
 use lib.Dec.{eqb}
 use borrow.Author.Tests.{eqb-true, eq-eqb, ne_eqb}
 use Rattle.octets.specs.If.{ifb}
@@ -15,7 +15,7 @@ use Rattle.names.specs.declared.Name.{Name}
 use Rattle.names.specs.Names.{no_name}
 use Rattle.table.specs.Layout.{places_ok}
 use Rattle.table.specs.declared.Record.{Record}
-use Rattle.table.specs.Records.{place_at, serial_at, blank}
+use Rattle.table.specs.Records.{place_at, serial_at}
 use Rattle.table.proofs.Blank.{serial_blank}
 use Rattle.search.specs.declared.Found.{Found}
 use Rattle.search.specs.declared.Found.TheVariants.{At, Nothing}
@@ -29,11 +29,11 @@ use Rattle.payload.specs.declared.Command.TheVariants.{Unsupported, Invalid, Cre
 use Rattle.plans.specs.declared.Outcome.{Outcome}
 use Rattle.plans.specs.declared.Outcome.TheVariants.{Failed, Created, Done, Showed, Got, Located, Undone}
 use Rattle.act.specs.Act.{sought}
-use Rattle.demands.specs.Box.{Call, Box, counted}
-use Rattle.demands.specs.Log.{Event, command_of, issued_by, issued, onto, logged, name_by, heir_from, replaced_by, name_in}
-use Rattle.demands.specs.Demand3.{Run, begins, calls, Stands, named_by, asks_heir, is_made, name_born, found_in, takes, unnames, Tame, DueOnly, InOrder, Path, arrived, went, Opens, accepted, refused, Demand3Of}
+use Rattle.demands.specs.Box.{Call, Box}
+use Rattle.demands.specs.Log.{Event, command_of, issued_by, onto, logged, name_by, heir_from, replaced_by, name_in}
+use Rattle.demands.specs.Demand3.{Run, begins, calls, Stands, named_by, asks_heir, is_made, name_born, found_in, takes, unnames, Tame, InOrder, Path, arrived, went, Opens, accepted, refused, Demand3Of}
 use Rattle.demands_met.proofs.Logged.{issued_now}
-use Rattle.demands_met.proofs.Follows.{due_serial, in_order_lem}
+use Rattle.demands_met.proofs.Follows.{due_serial}
 
 -- every key that stands has the name that the log gives it
 pub record Told (n : ℕ) (log : List Event) (t : List ℕ) : Type 0 where

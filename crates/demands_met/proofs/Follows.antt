@@ -10,8 +10,7 @@ use Rattle.table.specs.declared.Record.{Record}
 use Rattle.table.specs.Records.{serial_at, blank}
 use Rattle.table.proofs.Places.{serial_is}
 use Rattle.changes.specs.Records.{in_state}
-use Rattle.calls.specs.Effects.{Effect}
-use Rattle.demands.specs.Box.{Call, Box, Lent, counted}
+use Rattle.demands.specs.Box.{Call, Box, counted}
 use Rattle.demands.specs.Log.{Event, command_of, issued_by, issued, granted, onto, logged}
 use Rattle.demands.specs.Demand3.{Later, here, further, Run, begins, calls, Stands, takes, Tame, DueOnly, InOrder, Path, arrived, went, Opens, accepted, refused, Demand3Of}
 use Rattle.demands_met.proofs.Logged.{granted_more, issued_now, issued_before}

@@ -1,16 +1,15 @@
 -- How an accepted call opens: what is due by the clock that counts is done, by the listed changes alone, and the books stay in order.
 -- Assumes nothing.
 use Prim.Native.Nat.{ℕ, ◌^◌, ◌≤◌, ◌<◌}
-use native.Mathlib.Omega.{arith}
 use mathlib.Core.Path.{◌≡◌, refl, sym, ap, subst, ◌∙◌}
 use mathlib.Core.Logic.{inr}
-use mathlib.Core.Bool.{Bool, true, false, ◌&&◌, ◌||◌, false≢true}
+use mathlib.Core.Bool.{Bool, true, ◌&&◌, ◌||◌, false≢true}
 use mathlib.Core.List.{List}
 use lib.Dec.{eqb}
 use borrow.Author.Tests.{eq-eqb}
 use Rattle.octets.proofs.Bools.{and_i, or_l, or_r}
 use Rattle.table.specs.declared.Record.{Record}
-use Rattle.table.specs.Records.{place_at, serial_at, last_serial, latest_clock}
+use Rattle.table.specs.Records.{place_at, serial_at, latest_clock}
 use Rattle.table.proofs.Places.{serial_is}
 use Rattle.search.specs.Search.{is_destroyed}
 use Rattle.date_rules.specs.Dates.{has_come}
@@ -20,7 +19,7 @@ use Rattle.changes.specs.Dates.{state_by, ripened, began}
 use Rattle.keeps.proofs.Keeps.{Held}
 use Rattle.keeps.proofs.Dates.{keeps_began, began_last, began_latest, began_places}
 use Rattle.demands.specs.Log.{Event}
-use Rattle.demands.specs.Demand3.{Stands, listed_by, DueOnly}
+use Rattle.demands.specs.Demand3.{listed_by, DueOnly}
 use Rattle.demands_met.proofs.Logged.{Balanced, Inv}
 use Rattle.demands_met.proofs.Dead.{Dead}
 use Rattle.demands_met.proofs.Paired.{Books}

@@ -1,35 +1,32 @@
 -- An item of an accepted call, and what is due before it: Active keys stay in time, units go only to keys in time, and what is stopped stays so.
 -- Assumes nothing.
-use Prim.Native.Nat.{ℕ, ◌+◌, ◌*◌, ◌≤◌, ◌<◌}
+use Prim.Native.Nat.{ℕ, ◌+◌, ◌≤◌, ◌<◌}
 use native.Mathlib.Omega.{arith}
 use native.Mathlib.Decide.{ℕ_discrete}
 use mathlib.Core.Path.{◌≡◌, refl, sym, ap, subst, ◌∙◌}
 use mathlib.Core.Logic.{◌⊎◌, ⊎_elim}
-use mathlib.Core.Bool.{Bool, true, false, not, ◌&&◌, ◌||◌}
-use mathlib.Core.List.{List, [], ◌∷◌}
+use mathlib.Core.Bool.{true, false, not, ◌&&◌, ◌||◌}
+use mathlib.Core.List.{List}
 use lib.ListN.{length}
 use lib.Dec.{eqb}
-use borrow.Author.Tests.{eqb-true, eqb-false, eq-eqb, not-true}
-use Rattle.octets.specs.If.{ifb}
+use borrow.Author.Tests.{eqb-true, eqb-false, not-true}
 use Rattle.octets.specs.Octets.{Bytes}
 use Rattle.octets.proofs.If.{on_bool, ifb_false}
 use Rattle.octets.proofs.Bools.{both, and_l}
 use Rattle.table.specs.declared.Record.{Record}
-use Rattle.search.specs.declared.Found.TheVariants.{At}
 use Rattle.table.specs.Layout.{material_size}
 use Rattle.table.specs.Records.{place_at, serial_at, last_serial, latest_clock}
 use Rattle.table.proofs.Places.{serial_is}
-use Rattle.search.specs.Search.{find}
 use Rattle.search.proofs.Finds.{find_below}
 use Rattle.rules.specs.Numbers.{activate, revoke, destroy, pre_active, active}
 use Rattle.rules.specs.States.{is_compromise}
 use Rattle.rules.proofs.Moves.{move}
 use Rattle.rules.proofs.Grants.{grant_is}
-use Rattle.date_rules.proofs.Dating.{Dating, still, starts, stops, passes, dating}
-use Rattle.changes.specs.Records.{in_state, with_dates, moved_to, with_count}
+use Rattle.date_rules.proofs.Dating.{still, starts, stops, passes, dating}
+use Rattle.changes.specs.Records.{in_state, with_count}
 use Rattle.heirs.specs.Heirs.{heir_dated, heir_of, linked_to}
 use Rattle.new_records.specs.New.{new_record}
-use Rattle.changes.specs.Dates.{state_by, ripened}
+use Rattle.changes.specs.Dates.{ripened}
 use Rattle.heirs.proofs.Heirs.{first_open}
 use Rattle.keeps.proofs.Stores.{Stored, other}
 use Rattle.keeps.proofs.Keeps.{Held, found_stands}
@@ -44,12 +41,11 @@ use Rattle.act.specs.Act.{sought, step}
 use Rattle.act.proofs.Went.{Kind, fails, creates, rekeys, grants, moves, shows, gets, locates, step_kind}
 use Rattle.answer.proofs.Tests.{on_or}
 use Rattle.batch_keeps.proofs.Commands.{Commanded, commanded}
-use Rattle.batch_keeps.proofs.Steps.{step_held, step_latest}
 use Rattle.demands.specs.Box.{Call, places_of, counted}
 use Rattle.demands.specs.Log.{issued_by, grant_by}
 use Rattle.demands.specs.Demand2.{Begins}
 use Rattle.demands.specs.Demand3.{Stands, takes, listed, Tame}
-use Rattle.hopes.specs.Hope.{InTimeAt, InTime, Spends, Stopped}
+use Rattle.hopes.specs.Hope.{InTime, Spends, Stopped}
 use Rattle.demands_met.proofs.Counted.{no_grant, move_grants, create_allowed, Counts, kind_counts}
 use Rattle.demands_met.proofs.Tame.{event_of, step_tame}
 

@@ -1,6 +1,6 @@
 -- The hope of dates that stand firm, for every box that meets demands 1 and 2, and for ours.
 -- Assumes nothing.
-use Prim.Native.Nat.{ℕ, suc, ◌+◌, ◌*◌, ◌≤◌, ◌<◌, max}
+use Prim.Native.Nat.{ℕ, suc, ◌+◌, ◌*◌, ◌≤◌, max}
 use native.Mathlib.Nat.{le-max_right, le_trans}
 use native.Mathlib.Omega.{arith}
 use native.Mathlib.Decide.{ℕ_discrete}
@@ -14,7 +14,6 @@ use Rattle.octets.proofs.If.{ifb_true, ifb_false, on_if}
 use Rattle.table.specs.declared.Record.{Record}
 use Rattle.table.specs.Layout.{places_ok, material_size}
 use Rattle.table.specs.Records.{place_at, last_serial, latest_clock, blank}
-use Rattle.table.proofs.Places.{serial_is}
 use Rattle.table.proofs.Blank.{latest_blank, place_blank}
 use Rattle.rules.specs.Numbers.{pre_active, active, deactivated}
 use Rattle.date_rules.specs.Dates.{has_come}
@@ -22,7 +21,7 @@ use Rattle.place_counts.proofs.Counts.{count_fits}
 use Rattle.keeps.proofs.Keeps.{Held, facts, held_blank}
 use Rattle.keeps.proofs.Dates.{began_latest}
 use Rattle.batch_item.specs.Item.{Asked}
-use Rattle.frame.specs.Frame.{Frame, option_of, batch_most}
+use Rattle.frame.specs.Frame.{Frame, option_of}
 use Rattle.plans.specs.Plans.{Did, env_at}
 use Rattle.act.specs.Act.{step}
 use Rattle.calls.specs.Effects.{Effect}
@@ -236,14 +235,14 @@ module _ (B : Box) (d1 : Demand1 B) (d2 : Demand2 B) where
     pub run_places : {log : List Event} {t : List ℕ} → Run n B log t → (c : Call) → c.table ≡ t → places_of c ≡ n
     run_places run c same = said_places c (subst (Held n) (sym same) (run_reached run).point.held)
 
-    later_forward : {log log' : List Event} {t t' : List ℕ} → Later n B log t log' t' → latest_clock t ≤ latest_clock t'
+    later_forward : {log : List Event} {t : List ℕ} {log' : List Event} {t' : List ℕ} → Later n B log t log' t' → latest_clock t ≤ latest_clock t'
     later_forward here = omega arith
     later_forward (further {log'} {t'} c e l same lent b) =
         let before = later_forward l in
         let on : latest_clock t' ≤ latest_clock e.table = subst (λ (u : List ℕ). latest_clock u ≤ latest_clock e.table) same (call_forward c e lent b) in
         le_trans before on
 
-    later_stopped : {log log' : List Event} {t t' : List ℕ} → Run n B log t → (x : ℕ) → Stopped n x t → Later n B log t log' t' → Stopped n x t'
+    later_stopped : {log : List Event} {t : List ℕ} {log' : List Event} {t' : List ℕ} → Run n B log t → (x : ℕ) → Stopped n x t → Later n B log t log' t' → Stopped n x t'
     later_stopped run x s here = s
     later_stopped run x s (further c e l same lent b) =
         subst (λ (k : ℕ). Stopped k x c.table → Stopped k x e.table) (run_places (later_run run l) c same) (call_stopped c e lent b x)

@@ -5,7 +5,7 @@ use native.Mathlib.Omega.{arith}
 use native.Mathlib.Decide.{ℕ_discrete}
 use mathlib.Core.Path.{◌≡◌, refl, sym, ap, subst, ◌∙◌}
 use mathlib.Core.Logic.{⊎_elim}
-use mathlib.Core.Bool.{true, false, true≢false}
+use mathlib.Core.Bool.{true}
 use mathlib.Core.List.{List, [], ◌∷◌}
 use lib.ListN.{length}
 use Rattle.octets.specs.If.{ifb}
@@ -36,16 +36,15 @@ use Rattle.payload.specs.Payload.{command}
 use Rattle.plans.specs.Plans.{Env, Did, create_plan, rekey_plan, env_at, locate_plan}
 use Rattle.act.specs.Act.{sought, step}
 use Rattle.act.proofs.Went.{Kind, fails, creates, rekeys, grants, moves, shows, gets, locates, step_kind}
-use Rattle.answer.specs.Respond.{Answer}
 use Rattle.batch.specs.Batch.{Ran, answer_to, lastly, firstly, ends_batch, batch}
 use Rattle.batch_keeps.proofs.Commands.{Commanded, commanded}
 use Rattle.batch_keeps.proofs.Steps.{step_held, step_latest}
 use Rattle.batch_keeps.proofs.Batches.{own_bytes, own_long}
-use Rattle.demands.specs.Log.{Event, held_after, paired, onto, grant_by, granted}
+use Rattle.demands.specs.Log.{Event, paired, onto, grant_by, granted}
 use Rattle.demands_met.proofs.Counted.{create_allowed, kind_counts}
 use Rattle.demands_met.proofs.Logged.{granted_more}
 use Rattle.demands_met.proofs.Paired.{paired_end}
-use Rattle.hopes.proofs.Firm.{Paid, kind_paid}
+use Rattle.hopes.proofs.Firm.{kind_paid}
 
 -- ---- one record
 

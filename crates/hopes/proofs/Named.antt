@@ -4,7 +4,7 @@ use Prim.Native.Nat.{ℕ, ◌+◌, ◌*◌, ◌≤◌}
 use native.Mathlib.Omega.{arith}
 use mathlib.Core.Path.{◌≡◌, sym, ap, subst, ◌∙◌}
 use mathlib.Core.Bool.{true}
-use mathlib.Core.List.{List, [], ◌∷◌}
+use mathlib.Core.List.{List}
 use lib.ListN.{length}
 use Rattle.octets.specs.Octets.{Bytes}
 use Rattle.names.specs.declared.Name.{Name}
@@ -15,14 +15,12 @@ use Rattle.batch_item.specs.Item.{Asked}
 use Rattle.frame.specs.Frame.{option_of}
 use Rattle.plans.specs.Plans.{Did, env_at}
 use Rattle.act.specs.Act.{step}
-use Rattle.calls.specs.Effects.{Effect}
 use Rattle.batch_keeps.proofs.Steps.{step_held}
 use Rattle.batch_keeps.proofs.Batches.{own_bytes, own_long}
-use Rattle.demands.specs.Box.{Call, Box, Lent, places_of}
-use Rattle.demands.specs.Log.{Event}
+use Rattle.demands.specs.Box.{Call, Box, places_of}
 use Rattle.demands.specs.Demand1.{Demand1}
-use Rattle.demands.specs.Demand2.{Demand2, Answered, Link, Due, link_at, Chain, none_left, stops, goes_further}
-use Rattle.demands.specs.Demand3.{Run, Finds}
+use Rattle.demands.specs.Demand2.{Demand2, Link, Due, link_at, Chain, none_left, stops, goes_further}
+use Rattle.demands.specs.Demand3.{Finds}
 use Rattle.hopes.specs.Hope.{Every, none, more}
 use Rattle.hopes.specs.Names.{LocatedAs, Named, Naming}
 use Rattle.demands_met.proofs.Chains.{due_step}

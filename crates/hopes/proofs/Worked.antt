@@ -1,7 +1,7 @@
 -- What the hope is made of, worked out.
 -- Assumes nothing.
 use mathlib.Core.Path.{◌≡◌, refl}
-use mathlib.Core.List.{List, [], ◌∷◌}
+use mathlib.Core.List.{[], ◌∷◌}
 use Rattle.hopes.specs.Hope.{largest}
 
 -- the largest of some clocks
