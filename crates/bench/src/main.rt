@@ -1,6 +1,8 @@
 // Answers the request on standard input, on a blank table with clock 1.
 #![tactic(auto)]
 
-fn main() {
-    benchlib::run(0);
+use std::io;
+
+fn main(rt: HostRuntime) -> io::Result<()> {
+    benchlib::run(&rt, &mut rt.stdin())
 }

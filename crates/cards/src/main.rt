@@ -2,6 +2,8 @@
 // nothing. make_cards.py writes the script and, from the papers alone, what is expected of it.
 #![tactic(auto)]
 
-fn main() {
-    cardslib::run(0);
+use std::io;
+
+fn main(rt: HostRuntime) -> io::Result<()> {
+    cardslib::run(&rt, &mut rt.stdin())
 }

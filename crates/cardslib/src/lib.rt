@@ -1,7 +1,7 @@
 // Runs bench cards: a script of requests, one command a line, through the engine; each response or
 // refusal, and bytes of table, output and second buffer, as lines. Assumes nothing; every function
 // is proved safe and ends. What a line says is proved; what is printed is tested, and the call is
-// the engine's.
+// the engine's. A failed read or write ends each function with its error.
 #![tactic(auto)]
 
 ghost use Rattle.std.specs.Prelude.{◌≡◌};
@@ -11,6 +11,8 @@ use commands::{Buffer, Done, Setting};
 use hex_text::Bytes;
 use script::{Number, Span};
 use script_verbs::Verb;
+use std::io;
+use std::io::Read;
 use table::Layout;
 
 // The most bytes of a request in a script, of the strip, of the output and of the second buffer.
@@ -97,53 +99,50 @@ fn put(rest: &[u8], table: &mut [u8]) -> bool {
 
 // `table NAME: OFFSET LENGTH`, `output NAME: OFFSET LENGTH`, `second NAME: OFFSET LENGTH`: bytes of
 // s as a line.
-fn show(rest: &[u8], s: &[u8]) -> bool {
+fn show(rt: &impl Print, rest: &[u8], s: &[u8]) -> io::Result<bool> {
     let stop = lines::name_end(rest);
     let from = lines::past(rest, lines::past(rest, stop));
     let Span::Of { at, len } = script::span_in(&rest[from..]) else {
-        return false;
+        return Ok(false);
     };
     if s.len() < at {
-        return false;
+        return Ok(false);
     }
     if s.len() - at < len {
-        return false;
+        return Ok(false);
     }
     let end = at + len;
-    printlib::name(&rest[..stop]);
-    printlib::line(&s[at..end]);
-    true
+    printlib::name(rt, &rest[..stop])?;
+    printlib::line(rt, &s[at..end])?;
+    Ok(true)
 }
 
 // Serves a request by the setting, and prints what came of it, or of what more is lent than there
 // is.
 fn answer(
+    rt: &impl Print,
     request: &[u8],
     table: &mut [u8],
     strip: &[u8],
     out: &mut [u8],
     second: &mut [u8],
     s: Setting,
-) {
+) -> io::Result<()> {
     let size = s.size;
     let given = s.strip;
     let room = s.room;
     let undo = s.undo;
     if table.len() < size {
-        io::write_all(1, b"no such size\n");
-        return;
+        return rt.write_all(b"no such size\n");
     }
     if strip.len() < given {
-        io::write_all(1, b"no such strip\n");
-        return;
+        return rt.write_all(b"no such strip\n");
     }
     if out.len() < room {
-        io::write_all(1, b"no such room\n");
-        return;
+        return rt.write_all(b"no such room\n");
     }
     if second.len() < undo {
-        io::write_all(1, b"no such undo\n");
-        return;
+        return rt.write_all(b"no such undo\n");
     }
     let served = engine::serve(
         request,
@@ -153,46 +152,48 @@ fn answer(
         &mut out[..room],
         &mut second[..undo],
     );
-    printlib::answer(out, served.number, served.length);
+    printlib::answer(rt, out, served.number, served.length)
 }
 
 // `request NAME: HEX`: serves these bytes.
 fn request(
+    rt: &impl Print,
     rest: &[u8],
     table: &mut [u8],
     strip: &[u8],
     out: &mut [u8],
     second: &mut [u8],
     setting: Setting,
-) -> bool {
+) -> io::Result<bool> {
     let stop = lines::name_end(rest);
     if stop == rest.len() {
-        return false;
+        return Ok(false);
     }
     let from = lines::past(rest, stop);
     let mut bytes = [0u8; REQUEST_ROOM];
     let Bytes::Count(n) = hex_text::bytes_in(&rest[from..], &mut bytes) else {
-        return false;
+        return Ok(false);
     };
-    printlib::name(&rest[..stop]);
-    answer(&bytes[..n], table, strip, out, second, setting);
-    true
+    printlib::name(rt, &rest[..stop])?;
+    answer(rt, &bytes[..n], table, strip, out, second, setting)?;
+    Ok(true)
 }
 
 // One command carried out.
 fn carry_out(
+    rt: &impl Print,
     line: &[u8],
     table: &mut [u8],
     strip: &[u8],
     out: &mut [u8],
     second: &mut [u8],
     s: Setting,
-) -> Done {
+) -> io::Result<Done> {
     let gap = lines::find(line, b' ');
     let verb = script_verbs::verb_of(&line[..gap]);
     let from = lines::past(line, gap);
     let rest = &line[from..];
-    match verb {
+    let done = match verb {
         Verb::Blank => blank(rest, table, out, second, s),
         Verb::Put => Done {
             good: put(rest, table),
@@ -203,75 +204,78 @@ fn carry_out(
         Verb::Strip => commands::lend(rest, Buffer::Strip, s),
         Verb::Room => commands::lend(rest, Buffer::Output, s),
         Verb::Request => Done {
-            good: request(rest, table, strip, out, second, s),
+            good: request(rt, rest, table, strip, out, second, s)?,
             setting: s,
         },
         Verb::Table => Done {
-            good: show(rest, table),
+            good: show(rt, rest, table)?,
             setting: s,
         },
         Verb::Output => Done {
-            good: show(rest, out),
+            good: show(rt, rest, out)?,
             setting: s,
         },
         Verb::Undo => commands::lend(rest, Buffer::Second, s),
         Verb::Second => Done {
-            good: show(rest, second),
+            good: show(rt, rest, second)?,
             setting: s,
         },
         Verb::Unknown => Done {
             good: false,
             setting: s,
         },
-    }
+    };
+    Ok(done)
 }
 
 // One line: the setting after it.
 fn one_line(
+    rt: &impl Print,
     line: &[u8],
     table: &mut [u8],
     strip: &[u8],
     out: &mut [u8],
     second: &mut [u8],
     s: Setting,
-) -> Setting {
+) -> io::Result<Setting> {
     if lines::is_silent(line) {
-        return s;
+        return Ok(s);
     }
-    let done = carry_out(line, table, strip, out, second, s);
+    let done = carry_out(rt, line, table, strip, out, second, s)?;
     if !done.good {
-        printlib::bad_line(line);
+        printlib::bad_line(rt, line)?;
     }
-    done.setting
+    Ok(done.setting)
 }
 
 // All lines of a text, from this setting on.
 fn script(
+    rt: &impl Print,
     text: &[u8],
     table: &mut [u8],
     strip: &[u8],
     out: &mut [u8],
     second: &mut [u8],
     first: Setting,
-) {
+) -> io::Result<()> {
     let mut s = first;
     let mut left = text;
     while 0 < left.len() {
         let end = lines::find(left, b'\n');
-        s = one_line(&left[..end], table, strip, out, second, s);
+        s = one_line(rt, &left[..end], table, strip, out, second, s)?;
         let from = lines::past(left, end);
         left = &left[from..];
     }
+    Ok(())
 }
 
-// Runs the script that is read from a file descriptor, as if a `blank` stood in front of it; of one
-// that is too long only that is said.
-pub fn run(fd: i32) {
+// Runs the script that is read from a stream, as if a `blank` stood in front of it; of one that is
+// too long only that is said.
+pub fn run<R: Read>(rt: &impl Print, from: &mut R) -> io::Result<()> {
     let mut text = commands::script_room();
-    let n = io::read_full(fd, &mut text);
+    let n = readlib::read_full(from, &mut text)?;
     if n == text.len() {
-        printlib::too_long();
-        return;
+        return printlib::too_long(rt);
     }
     let mut table = [0u8; Layout::LARGE_SIZE];
     let mut strip = [0u8; STRIP_ROOM];
@@ -286,5 +290,5 @@ pub fn run(fd: i32) {
         usual(Layout::SMALL_SIZE),
     );
     let s = first.setting;
-    script(&text[..n], &mut table, &strip, &mut out, &mut second, s);
+    script(rt, &text[..n], &mut table, &strip, &mut out, &mut second, s)
 }

@@ -2,6 +2,8 @@
 // Assumes nothing.
 #![tactic(auto)]
 
-fn main() {
-    feedlib::run(0, 1);
+use std::io;
+
+fn main(rt: HostRuntime) -> io::Result<()> {
+    feedlib::run(&rt, &mut rt.stdin(), &mut rt.stdout())
 }

@@ -1,11 +1,15 @@
-// The feed program's work: calls of the engine in a plain binary form from one file descriptor, and
-// all that each of them left, to another. What a head says is proved, and the call is the engine's;
-// what is written is tested and not proved. docs/CONTRACTS.md has the form.
+// The feed program's work: calls of the engine in a plain binary form from one stream, and all that
+// each of them left, to another. What a head says is proved, and the call is the engine's; what is
+// written is tested and not proved. docs/CONTRACTS.md has the form. A failed read ends each function
+// with its error, and so does a failed write of what is said of it.
 #![tactic(auto)]
 
 ghost use Rattle.std.specs.Prelude.{◌≡◌, ◌≤◌, length};
 ghost use Rattle.octets.specs.Octets.{from_be, part};
 ghost use Rattle.feedlib.specs.Head.{head_of};
+
+use std::io;
+use std::io::{Read, Write};
 
 // The bytes of a head.
 const HEAD: usize = 28;
@@ -57,100 +61,128 @@ fn read_head(s: &[u8]) -> Head
 }
 
 // Says that a call is too large for the buffers.
-fn too_large() -> bool {
-    io::write_all(
-        2,
-        b"feed: a length is above what is held: 9216 for request and output, 33792 for table and second buffer, 1024 for the strip\n",
-    );
-    false
+fn too_large(rt: &impl Eprint) -> io::Result<bool> {
+    rt.eprint(
+        "feed: a length is above what is held: 9216 for request and output, 33792 for table and second buffer, 1024 for the strip\n",
+    )?;
+    Ok(false)
 }
 
 // Reads all of s; if the input ends before, says so.
-fn take(from: i32, s: &mut [u8]) -> bool {
-    if io::read_full(from, s) == s.len() {
-        return true;
+fn take<R: Read>(rt: &impl Eprint, from: &mut R, s: &mut [u8]) -> io::Result<bool> {
+    if readlib::read_full(from, s)? == s.len() {
+        return Ok(true);
     }
-    io::write_all(2, b"feed: the input ends inside a case\n");
-    false
+    rt.eprint("feed: the input ends inside a case\n")?;
+    Ok(false)
 }
 
-// Writes what a call left; if the output takes no more, says so.
-fn give(to: i32, number: u32, used: usize, table: &[u8], out: &[u8], undo: &[u8]) -> bool {
+// Writes what a call left.
+fn put<W: Write>(
+    to: &mut W,
+    number: u32,
+    used: usize,
+    table: &[u8],
+    out: &[u8],
+    undo: &[u8],
+) -> io::Result<()> {
     let mut front = [0u8; 12];
     octets::put(&mut front, 0, 4, number as u64);
     octets::put(&mut front, 4, 8, used as u64);
-    let first = io::write_all(to, &front) && io::write_all(to, table);
-    if first && io::write_all(to, out) && io::write_all(to, undo) {
-        return true;
+    to.write_all(&front)?;
+    to.write_all(table)?;
+    to.write_all(out)?;
+    to.write_all(undo)
+}
+
+// Writes what a call left; if the output takes no more, says so.
+fn give<W: Write>(
+    rt: &impl Eprint,
+    to: &mut W,
+    number: u32,
+    used: usize,
+    table: &[u8],
+    out: &[u8],
+    undo: &[u8],
+) -> io::Result<bool> {
+    if put(to, number, used, table, out, undo).is_ok() {
+        return Ok(true);
     }
-    io::write_all(2, b"feed: the output takes no more\n");
-    false
+    rt.eprint("feed: the output takes no more\n")?;
+    Ok(false)
 }
 
 // Reads a call's bytes, buffer by buffer. Answers whether they were all there.
-fn take_all(
-    from: i32,
+fn take_all<R: Read>(
+    rt: &impl Eprint,
+    from: &mut R,
     request: &mut [u8],
     table: &mut [u8],
     strip: &mut [u8],
     out: &mut [u8],
     undo: &mut [u8],
-) -> bool {
-    if !take(from, request) {
-        return false;
+) -> io::Result<bool> {
+    if !take(rt, from, request)? {
+        return Ok(false);
     }
-    if !take(from, table) {
-        return false;
+    if !take(rt, from, table)? {
+        return Ok(false);
     }
-    if !take(from, strip) {
-        return false;
+    if !take(rt, from, strip)? {
+        return Ok(false);
     }
-    if !take(from, out) {
-        return false;
+    if !take(rt, from, out)? {
+        return Ok(false);
     }
-    take(from, undo)
+    take(rt, from, undo)
 }
 
 // One call in buffers of its sizes: the bytes read, the engine called, what it left written.
 // Answers whether to go on.
-fn call(
-    from: i32,
-    to: i32,
+fn call<R: Read, W: Write>(
+    rt: &impl Eprint,
+    from: &mut R,
+    to: &mut W,
     head: Head,
     request: &mut [u8],
     table: &mut [u8],
     strip: &mut [u8],
     out: &mut [u8],
     undo: &mut [u8],
-) -> bool {
-    if !take_all(from, request, table, strip, out, undo) {
-        return false;
+) -> io::Result<bool> {
+    if !take_all(rt, from, request, table, strip, out, undo)? {
+        return Ok(false);
     }
     let served = engine::serve(request, table, strip, head.clock, out, undo);
-    give(to, served.number, served.length, table, out, undo)
+    give(rt, to, served.number, served.length, table, out, undo)
 }
 
 // The call that a head stands in front of. Answers whether to go on.
-fn headed(from: i32, to: i32, head: Head) -> bool {
+fn headed<R: Read, W: Write>(
+    rt: &impl Eprint,
+    from: &mut R,
+    to: &mut W,
+    head: Head,
+) -> io::Result<bool> {
     let r = head.request;
     let t = head.table;
     let s = head.strip;
     let o = head.room;
     let u = head.undo;
     if REQUEST_MOST < r {
-        return too_large();
+        return too_large(rt);
     }
     if TABLE_MOST < t {
-        return too_large();
+        return too_large(rt);
     }
     if STRIP_MOST < s {
-        return too_large();
+        return too_large(rt);
     }
     if OUTPUT_MOST < o {
-        return too_large();
+        return too_large(rt);
     }
     if UNDO_MOST < u {
-        return too_large();
+        return too_large(rt);
     }
     let mut request = [0u8; REQUEST_MOST];
     let mut table = [0u8; TABLE_MOST];
@@ -158,6 +190,7 @@ fn headed(from: i32, to: i32, head: Head) -> bool {
     let mut out = [0u8; OUTPUT_MOST];
     let mut undo = [0u8; UNDO_MOST];
     call(
+        rt,
         from,
         to,
         head,
@@ -170,24 +203,26 @@ fn headed(from: i32, to: i32, head: Head) -> bool {
 }
 
 // The next case, if there is one. Answers whether to go on.
-fn next(from: i32, to: i32) -> bool {
+fn next<R: Read, W: Write>(rt: &impl Eprint, from: &mut R, to: &mut W) -> io::Result<bool> {
     let mut head = [0u8; HEAD];
-    let n = io::read_full(from, &mut head);
+    let n = readlib::read_full(from, &mut head)?;
     if n == 0 {
-        return false;
+        return Ok(false);
     }
     if n < HEAD {
-        io::write_all(2, b"feed: the input ends inside a head\n");
-        return false;
+        rt.eprint("feed: the input ends inside a head\n")?;
+        return Ok(false);
     }
-    headed(from, to, read_head(&head))
+    headed(rt, from, to, read_head(&head))
 }
 
 // All cases until the input ends. A proved loop has to end, and nothing says that an input does: it
-// counts down from a number that no run uses up.
-pub fn run(from: i32, to: i32) {
-    let mut turns = u64::MAX;
-    while turns > 0 && next(from, to) {
-        turns -= 1;
+// counts up to a number that no run reaches.
+pub fn run<R: Read, W: Write>(rt: &impl Eprint, from: &mut R, to: &mut W) -> io::Result<()> {
+    for _ in 0..u64::MAX {
+        if !next(rt, from, to)? {
+            break;
+        }
     }
+    Ok(())
 }
