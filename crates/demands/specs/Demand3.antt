@@ -36,7 +36,7 @@ unfoldable pub named_by : ℕ → Command → ℕ
 named_by holder Unsupported = 0
 named_by holder Invalid = 0
 named_by holder (Create wanted) = 0
-named_by holder (Rekey target offset) = sought holder target
+named_by holder (Rekey target _) = sought holder target
 named_by holder (GetUsageAllocation target amount) = sought holder target
 named_by holder (Activate target) = sought holder target
 named_by holder (Revoke target code) = sought holder target
@@ -50,7 +50,7 @@ unfoldable pub is_understood : Command → Bool
 is_understood Unsupported = false
 is_understood Invalid = false
 is_understood (Create wanted) = true
-is_understood (Rekey target offset) = true
+is_understood (Rekey target _) = true
 is_understood (GetUsageAllocation target amount) = true
 is_understood (Activate target) = true
 is_understood (Revoke target code) = true
@@ -64,7 +64,7 @@ unfoldable pub moves_state : Command → Bool
 moves_state Unsupported = false
 moves_state Invalid = false
 moves_state (Create wanted) = false
-moves_state (Rekey target offset) = false
+moves_state (Rekey target _) = false
 moves_state (GetUsageAllocation target amount) = false
 moves_state (Activate target) = true
 moves_state (Revoke target code) = true
@@ -78,7 +78,7 @@ unfoldable pub code_of : Command → ℕ
 code_of Unsupported = 0
 code_of Invalid = 0
 code_of (Create wanted) = 0
-code_of (Rekey target offset) = 0
+code_of (Rekey target _) = 0
 code_of (GetUsageAllocation target amount) = 0
 code_of (Activate target) = 0
 code_of (Revoke target code) = code
@@ -92,7 +92,7 @@ unfoldable pub asks_key : Command → Bool
 asks_key Unsupported = false
 asks_key Invalid = false
 asks_key (Create wanted) = false
-asks_key (Rekey target offset) = false
+asks_key (Rekey target _) = false
 asks_key (GetUsageAllocation target amount) = false
 asks_key (Activate target) = false
 asks_key (Revoke target code) = false
@@ -106,7 +106,7 @@ unfoldable pub asks_heir : Command → Bool
 asks_heir Unsupported = false
 asks_heir Invalid = false
 asks_heir (Create wanted) = false
-asks_heir (Rekey target offset) = true
+asks_heir (Rekey target _) = true
 asks_heir (GetUsageAllocation target amount) = false
 asks_heir (Activate target) = false
 asks_heir (Revoke target code) = false
@@ -120,7 +120,7 @@ unfoldable pub asks_units : Command → Bool
 asks_units Unsupported = false
 asks_units Invalid = false
 asks_units (Create wanted) = false
-asks_units (Rekey target offset) = false
+asks_units (Rekey target _) = false
 asks_units (GetUsageAllocation target amount) = true
 asks_units (Activate target) = false
 asks_units (Revoke target code) = false
@@ -134,7 +134,7 @@ unfoldable pub asks_name : Command → Bool
 asks_name Unsupported = false
 asks_name Invalid = false
 asks_name (Create wanted) = false
-asks_name (Rekey target offset) = false
+asks_name (Rekey target _) = false
 asks_name (GetUsageAllocation target amount) = false
 asks_name (Activate target) = false
 asks_name (Revoke target code) = false
@@ -182,7 +182,7 @@ unfoldable pub name_born : Command → Record → Name
 name_born Unsupported r = no_name
 name_born Invalid r = no_name
 name_born (Create wanted) r = wanted.name
-name_born (Rekey target offset) r = r.name
+name_born (Rekey target _) r = r.name
 name_born (GetUsageAllocation target amount) r = no_name
 name_born (Activate target) r = no_name
 name_born (Revoke target code) r = no_name

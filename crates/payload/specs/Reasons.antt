@@ -13,7 +13,7 @@ unfoldable pub operation_of : Command → Option ℕ
 operation_of Unsupported = none
 operation_of Invalid = none
 operation_of (Create wanted) = some create
-operation_of (Rekey target offset) = some rekey
+operation_of (Rekey target _) = some rekey
 operation_of (GetUsageAllocation target amount) = some get_usage_allocation
 operation_of (Activate target) = some activate
 operation_of (Revoke target code) = some revoke
@@ -27,7 +27,7 @@ unfoldable pub reason_of : Command → Option Reason
 reason_of Unsupported = some OperationNotSupported
 reason_of Invalid = some InvalidField
 reason_of (Create wanted) = none
-reason_of (Rekey target offset) = none
+reason_of (Rekey target _) = none
 reason_of (GetUsageAllocation target amount) = none
 reason_of (Activate target) = none
 reason_of (Revoke target code) = none

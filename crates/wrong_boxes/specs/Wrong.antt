@@ -295,7 +295,7 @@ spent_for n t (GetUsageAllocation Placeholder amount) o = record { table = t; do
 spent_for n t Unsupported o = record { table = t; done = false }
 spent_for n t Invalid o = record { table = t; done = false }
 spent_for n t (Create wanted) o = record { table = t; done = false }
-spent_for n t (Rekey target offset) o = record { table = t; done = false }
+spent_for n t (Rekey target _) o = record { table = t; done = false }
 spent_for n t (Activate target) o = record { table = t; done = false }
 spent_for n t (Revoke target code) o = record { table = t; done = false }
 spent_for n t (Destroy target) o = record { table = t; done = false }
@@ -397,7 +397,7 @@ unfoldable pub undead : Command → Outcome → Outcome
 undead Unsupported o = o
 undead Invalid o = o
 undead (Create wanted) o = o
-undead (Rekey target offset) o = o
+undead (Rekey target _) o = o
 undead (GetUsageAllocation target amount) o = o
 undead (Activate target) o = o
 undead (Revoke target code) o = o
@@ -439,7 +439,7 @@ Revives = Leaves (λ c due. ifb (eqb (state_at due 0) deactivated && ltb c.clock
 
 -- the table with a replacement of the record that was found, if one was and it is destroyed
 unfoldable pub renewed_at : ℕ → List ℕ → Offset → Found → Spent
-renewed_at n t offset Nothing = record { table = t; done = false }
+renewed_at n t _ Nothing = record { table = t; done = false }
 renewed_at n t offset (At i) =
     let r = place_at n t i in
     ifb (is_destroyed r.state) (record { table = with_heir n t i (heir_of (next_serial t) (latest_clock t) offset r []); done = true }) (record { table = t; done = false })
@@ -448,13 +448,13 @@ renewed_at n t offset (At i) =
 unfoldable pub renewed_for : ℕ → List ℕ → Command → Outcome → Spent
 renewed_for n t (Rekey (Serial x) offset) (Failed reason) =
     let renewed = renewed_at n t offset (find n t x) in ifb (eqb (reason_number reason) (reason_number ObjectDestroyed)) renewed (record { table = t; done = false })
-renewed_for n t (Rekey (Serial x) offset) (Created serial) = record { table = t; done = false }
-renewed_for n t (Rekey (Serial x) offset) (Done serial) = record { table = t; done = false }
-renewed_for n t (Rekey (Serial x) offset) (Showed shown) = record { table = t; done = false }
-renewed_for n t (Rekey (Serial x) offset) (Got key) = record { table = t; done = false }
-renewed_for n t (Rekey (Serial x) offset) (Located serial) = record { table = t; done = false }
-renewed_for n t (Rekey (Serial x) offset) Undone = record { table = t; done = false }
-renewed_for n t (Rekey Placeholder offset) o = record { table = t; done = false }
+renewed_for n t (Rekey (Serial x) _) (Created serial) = record { table = t; done = false }
+renewed_for n t (Rekey (Serial x) _) (Done serial) = record { table = t; done = false }
+renewed_for n t (Rekey (Serial x) _) (Showed shown) = record { table = t; done = false }
+renewed_for n t (Rekey (Serial x) _) (Got key) = record { table = t; done = false }
+renewed_for n t (Rekey (Serial x) _) (Located serial) = record { table = t; done = false }
+renewed_for n t (Rekey (Serial x) _) Undone = record { table = t; done = false }
+renewed_for n t (Rekey Placeholder _) o = record { table = t; done = false }
 renewed_for n t Unsupported o = record { table = t; done = false }
 renewed_for n t Invalid o = record { table = t; done = false }
 renewed_for n t (Create wanted) o = record { table = t; done = false }
