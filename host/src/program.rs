@@ -1,4 +1,4 @@
-//! The proved engine as the program `feed`, which is spoken to over pipes, on any machine: docs/CONTRACTS.md has the form.
+//! The proved engine as the program `feed`, which is spoken to over pipes: docs/CONTRACTS.md has the form.
 //! One process serves a whole run, one call at a time, so that neither side waits for the other. Assumed: it is the proved one.
 //! A program that does not answer is ended, so that a test on it fails and does not wait.
 

@@ -83,7 +83,7 @@ Control: the ordinary engine in both columns, to show how far a ratio strays by 
 fn main() {
     let Some(proved) = LINKED else {
         eprintln!("There is no race here: it needs the proved engine linked, and the archive links on x86-64 alone.");
-        eprintln!("A program under an emulator would be timed with its emulator, which says nothing of the engine.");
+        eprintln!("A program behind pipes would be timed with its pipes, which says nothing of the engine.");
         std::process::exit(2);
     };
     if cfg!(debug_assertions) {
