@@ -6,7 +6,9 @@ import subprocess
 TOP = pathlib.Path(__file__).resolve().parent.parent
 CRATES = TOP / "crates"
 
-HEAD = re.compile(r'^((?: *//[^\n]*\n)*) *(?:#\[unsafe\(no_mangle\)\]\n)?(pub )?(?:extern "C" )?fn (\w+)\(([^)]*)\)', re.M)
+# A function's head: the comment over it, `pub`, its name, what it is generic over, and its parameters.
+GENERIC = r"(?:<(?:->|[^<>()]|\([^()]*\)|<[^<>]*>)*>)?"
+HEAD = re.compile(rf'^((?: *//[^\n]*\n)*) *(?:#\[[^\n]*\]\n *)*(pub )?(?:extern "C" )?fn (\w+){GENERIC}\(((?:[^()]|\([^()]*\))*)\)', re.M)
 
 
 def crates():
@@ -43,7 +45,8 @@ class Function:
 
     def __init__(self, head, block):
         self.start, self.public, self.name = head.start(), bool(head[2]), head[3]
-        self.parameters = [p.split(":")[0].strip() for p in head[4].split(",") if p.strip()]
+        taken = re.sub(r"<[^<>]*>|\([^()]*\)", "", head[4])
+        self.parameters = [p.split(":")[0].strip() for p in taken.split(",") if p.strip()]
         self.comment = " ".join(line.strip()[2:].strip() for line in head[1].strip().splitlines() if line.strip())
         clauses = re.split(r"\n *\{\n", block, maxsplit=1)[0]
         indent = re.search(r"^( *)(?:pub )?(?:extern \"C\" )?fn ", block, re.M)[1]

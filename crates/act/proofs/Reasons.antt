@@ -2,7 +2,7 @@
 -- Assumes nothing.
 use Prim.Native.Nat.{ℕ}
 use mathlib.Core.Path.{◌≡◌, ap}
-use mathlib.Core.Option.{some}
+use Rattle.std.specs.Prelude.{Some}
 use mathlib.Core.List.{List}
 use Rattle.octets.proofs.Maybe.{not_some, some_is}
 use Rattle.rules.specs.declared.Reason.{Reason}
@@ -12,7 +12,7 @@ use Rattle.payload.specs.declared.Command.TheVariants.{Unsupported, Invalid, Cre
 use Rattle.plans.specs.Plans.{Env, refusal}
 use Rattle.act.specs.Act.{plan}
 
-pub plan_reason : (env : Env) (holder : ℕ) (t : List ℕ) (c : Command) {reason : Reason} → reason_of c ≡ some reason → plan env holder t c ≡ refusal t reason
+pub plan_reason : (env : Env) (holder : ℕ) (t : List ℕ) (c : Command) {reason : Reason} → reason_of c ≡ Some reason → plan env holder t c ≡ refusal t reason
 unfolding plan reason_of
 plan_reason env holder t Unsupported h = ap (refusal t) (some_is h)
 plan_reason env holder t Invalid h = ap (refusal t) (some_is h)

@@ -1,5 +1,6 @@
 -- What each return of the functions of this crate leaves, from what the functions that it called answered.
 -- Assumes nothing.
+use Rattle.std.specs.Prelude.{Option, None, Some}
 use mathlib.Core.Path.{◌≡◌, refl, sym, ap, ◌∙◌}
 use Prim.Native.Nat.{ℕ}
 use mathlib.Core.List.{List}
@@ -7,13 +8,10 @@ use Rattle.octets.specs.If.{ifb}
 use Rattle.table.specs.declared.Record.{Record}
 use Rattle.table.specs.Layout.{Table, Place}
 use Rattle.table.specs.Records.{place_at}
-use Rattle.search.specs.declared.Found.{Found}
-use Rattle.search.specs.declared.Found.TheVariants.{At, Nothing}
 use Rattle.search.specs.Search.{find}
 use Rattle.search.proofs.Finds.{find_below}
 use Rattle.rules.specs.declared.Reason.TheVariants.{OperationNotSupported, InvalidField, ObjectNotFound}
 use Rattle.rules.specs.declared.Attributes.{Attributes}
-use Rattle.rules.specs.declared.Offset.{Offset}
 use Rattle.rules.specs.Numbers.{activate, revoke, destroy}
 use Rattle.rules.specs.States.{move_tests}
 use Rattle.target_read.specs.declared.Target.{Target}
@@ -33,34 +31,34 @@ use Rattle.plans.proofs.Plans.{fails, goes_further, refused}
 
 -- ---- the record that an item is about
 
-module _ (n holder : ℕ) (t : List ℕ) (target : Target) (serial : ℕ) (named : serial ≡ sought holder target) (found : Found) (is : found ≡ find n t serial) where
+module _ (n holder : ℕ) (t : List ℕ) (target : Target) (serial : ℕ) (named : serial ≡ sought holder target) (found : Option ℕ) (is : found ≡ find n t serial) where
   found_is : found ≡ find n t (sought holder target)
   found_is = is ∙ ap (find n t) named
 
-  pub about_place : (i : ℕ) → found ≡ At i → Table n t → Place n t i
+  pub about_place : (i : ℕ) → found ≡ Some i → Table n t → Place n t i
   about_place i at sized = record { sized = sized; below = find_below n t (sought holder target) i (sym found_is ∙ at) }
 
   module _ (fresh : List ℕ) (deed : Deed) where
-    abbrev about : Found → Did
+    abbrev about : Option ℕ → Did
     about f = carried_out t (on_found (in_places n fresh) holder t (deed_plan (in_places n fresh) holder t deed) f)
 
-    pub about_found : (i : ℕ) → found ≡ At i → (done : Did) → done ≡ carried_out t (deed_plan (in_places n fresh) holder t deed i (place_at n t i))
+    pub about_found : (i : ℕ) → found ≡ Some i → (done : Did) → done ≡ carried_out t (deed_plan (in_places n fresh) holder t deed i (place_at n t i))
         → done ≡ carried_out t (about_plan (in_places n fresh) holder t deed target)
     unfolding on_found
     about_found i at done e = e ∙ sym (ap about (sym found_is ∙ at))
 
-    pub about_none : found ≡ Nothing → (r : Performed) → r ≡ failed ObjectNotFound → leaves r t ≡ carried_out t (about_plan (in_places n fresh) holder t deed target)
+    pub about_none : found ≡ None → (r : Performed) → r ≡ failed ObjectNotFound → leaves r t ≡ carried_out t (about_plan (in_places n fresh) holder t deed target)
     unfolding on_found
     about_none nowhere r e = fails t e ∙ sym (ap about (sym found_is ∙ nowhere) ∙ refused t ObjectNotFound)
 
 -- ---- commands
 
 -- plans of which each leaves what the other leaves, on whatever record they are
-same_found : (n : ℕ) (fresh : List ℕ) (holder : ℕ) (t : List ℕ) (own other : ℕ → Record → Plan) → ((i : ℕ) (r : Record) → carried_out t (own i r) ≡ carried_out t (other i r)) → (f : Found)
+same_found : (n : ℕ) (fresh : List ℕ) (holder : ℕ) (t : List ℕ) (own other : ℕ → Record → Plan) → ((i : ℕ) (r : Record) → carried_out t (own i r) ≡ carried_out t (other i r)) → (f : Option ℕ)
     → carried_out t (on_found (in_places n fresh) holder t own f) ≡ carried_out t (on_found (in_places n fresh) holder t other f)
 unfolding on_found
-same_found n fresh holder t own other h (At i) = h i (place_at n t i)
-same_found n fresh holder t own other h Nothing = refl
+same_found n fresh holder t own other h (Some i) = h i (place_at n t i)
+same_found n fresh holder t own other h None = refl
 
 module _ (n : ℕ) (fresh : List ℕ) (holder : ℕ) (t : List ℕ) (command : Command) where
   -- what is left where the command is this one
@@ -89,7 +87,7 @@ module _ (n : ℕ) (fresh : List ℕ) (holder : ℕ) (t : List ℕ) (command : C
     performs_create wanted c e = e ∙ sym (ap performed c)
 
     module _ (target : Target) where
-      pub performs_rekey : (offset : Offset) → command ≡ Rekey target offset → done ≡ meets (Replace offset) target → done ≡ performed command
+      pub performs_rekey : (offset : Option ℕ) → command ≡ Rekey target offset → done ≡ meets (Replace offset) target → done ≡ performed command
       unfolding performing plan deed_plan
       performs_rekey offset c e = e ∙ sym (ap performed c)
 

@@ -1,9 +1,8 @@
 -- 01, "Operations": which record an item is about, and which operation's plan its command has.
 -- Assumes nothing. There is no byte of output in it.
+use Rattle.std.specs.Prelude.{Option, None, Some}
 use Rattle.std.specs.Prelude.{ℕ, List}
 use Rattle.table.specs.declared.Record.{Record}
-use Rattle.search.specs.declared.Found.{Found}
-use Rattle.search.specs.declared.Found.TheVariants.{At, Nothing}
 use Rattle.table.specs.Records.{place_at}
 use Rattle.search.specs.Search.{find}
 use Rattle.rules.specs.declared.Reason.TheVariants.{OperationNotSupported, InvalidField, ObjectNotFound}
@@ -22,9 +21,9 @@ sought holder (Serial serial) = serial
 
 module _ (env : Env) (holder : ℕ) (t : List ℕ) where
   -- "Object Not Found (no such record, or no identifier and no placeholder), then the operation's own"
-  unfoldable pub on_found : (ℕ → Record → Plan) → Found → Plan
-  on_found own (At i) = own i (place_at env.places t i)
-  on_found own Nothing = refusal t ObjectNotFound
+  unfoldable pub on_found : (ℕ → Record → Plan) → Option ℕ → Plan
+  on_found own (Some i) = own i (place_at env.places t i)
+  on_found own None = refusal t ObjectNotFound
 
   -- the plan of an operation on the record that it is about
   abbrev pub targeted : (ℕ → Record → Plan) → Target → Plan

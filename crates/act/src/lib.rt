@@ -12,8 +12,9 @@ use deeds::Deed;
 use payload::Command;
 use plans::Performed;
 use rules::Reason;
-use search::Found;
 use target_read::Target;
+
+// A table's bytes and its place count stay two parameters, as in `table`.
 
 // The serial of the record that an item is about, 0 for none.
 fn sought(holder: u32, target: Target) -> u32
@@ -39,8 +40,8 @@ fn act_on(
 {
     let serial = sought(holder, target);
     match search::find(t, n, serial) {
-        Found::At(i) => deeds::act_at(t, n, i, holder, deed, fresh),
-        Found::Nothing => plans::fail(Reason::ObjectNotFound),
+        Some(i) => deeds::act_at(t, n, i, holder, deed, fresh),
+        None => plans::fail(Reason::ObjectNotFound),
     }
 }
 

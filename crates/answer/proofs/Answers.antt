@@ -4,7 +4,7 @@ use mathlib.Core.Path.{◌≡◌, refl, sym, ap, ◌∙◌}
 use Prim.Native.Nat.{ℕ, suc, ◌^◌, ◌≤◌, ◌<◌}
 use native.Mathlib.Omega.{arith}
 use mathlib.Core.Bool.{true, false, false≢true}
-use mathlib.Core.Option.{Option, none, some}
+use Rattle.std.specs.Prelude.{Option, None, Some}
 use mathlib.Core.List.{List, [], ◌∷◌}
 use lib.ListN.{length}
 use lib.Dec.{leb, ltb}
@@ -48,24 +48,24 @@ no_id Undone = refl
 -- an ID, as it is read in front of the rest
 record IdRead (id : List ℕ) (rest : Items) : Type 0 where
   given : Option (List ℕ)
-  read : optional unique_batch_item_id id_first (id_items id rest) ≡ some (given, rest)
+  read : optional unique_batch_item_id id_first (id_items id rest) ≡ Some (given, rest)
   ok : id_ok given ≡ true
   means : id_bytes given ≡ id
 
 id_back : (id : List ℕ) (rest : Items) → starts_with unique_batch_item_id rest ≡ false → length id ≤ id_most → IdRead id rest
 unfolding id_items id_ok id_bytes
-id_back [] rest n h = record { given = none; read = absent_back unique_batch_item_id id_first rest n; ok = refl; means = refl }
+id_back [] rest n h = record { given = None; read = absent_back unique_batch_item_id id_first rest n; ok = refl; means = refl }
 id_back (x ∷ id) rest n h =
     let t = value unique_batch_item_id byte_string (x ∷ id) rest in
-    let e : id_first t ≡ some (x ∷ id, rest) = bytes_back unique_batch_item_id byte_string (x ∷ id) rest in
+    let e : id_first t ≡ Some (x ∷ id, rest) = bytes_back unique_batch_item_id byte_string (x ∷ id) rest in
     record {
-      given = some (x ∷ id);
+      given = Some (x ∷ id);
       read = given_back unique_batch_item_id id_first t (unfold starts_with in refl) e;
       ok = and_i _ _ (le-leb 1 (suc (length id)) (omega arith)) (le-leb (suc (length id)) id_most h);
       means = refl;
     }
 
-id_spells : (t : Items) {a : Option (List ℕ) × Items} → optional unique_batch_item_id id_first t ≡ some a → id_ok a.0 ≡ true
+id_spells : (t : Items) {a : Option (List ℕ) × Items} → optional unique_batch_item_id id_first t ≡ Some a → id_ok a.0 ≡ true
     → t ≡ id_items (id_bytes a.0) a.1
 unfolding id_ok id_bytes id_items
 id_spells t h =
@@ -73,7 +73,7 @@ id_spells t h =
     (λ o. refl)
     (λ v rest e o. bytes_spells unique_batch_item_id byte_string t e ∙ written v rest o)
   where
-    written : (v : List ℕ) (rest : Items) → id_ok (some v) ≡ true → value unique_batch_item_id byte_string v rest ≡ id_items v rest
+    written : (v : List ℕ) (rest : Items) → id_ok (Some v) ≡ true → value unique_batch_item_id byte_string v rest ≡ id_items v rest
     written [] rest o = absurd (false≢true o)
     written (x ∷ v) rest o = refl
 
@@ -96,7 +96,7 @@ answer_facts a h =
       outcome_ok = p2.1;
     }
 
-pub answer_back : (a : Answer) → answer_ok a ≡ true → answer_in (answer_items a) ≡ some a
+pub answer_back : (a : Answer) → answer_ok a ≡ true → answer_in (answer_items a) ≡ Some a
 unfolding answer_in answer_items ◌>>=◌ ◌>>◌
 answer_back a h =
     let f = answer_facts a h in
@@ -109,7 +109,7 @@ answer_back a h =
       i.means,
     )
 
-pub answer_spells : (t : Items) {a : Answer} → answer_in t ≡ some a → t ≡ answer_items a
+pub answer_spells : (t : Items) {a : Answer} → answer_in t ≡ Some a → t ≡ answer_items a
 unfolding answer_in answer_items
 answer_spells t {a} h =
     on_bind h (λ n e1 h1. on_bind h1 (λ id e2 h2. on_test h2 (λ o h3. on_bind h3 (λ q e4 w.
@@ -121,14 +121,14 @@ answer_spells t {a} h =
 
 -- ---- the batch
 
-pub batch_back : (answers : List Answer) → all answer_ok answers ≡ true → answers_of (batch_items answers) ≡ some answers
+pub batch_back : (answers : List Answer) → all answer_ok answers ≡ true → answers_of (batch_items answers) ≡ Some answers
 unfolding answers_of batch_items all ◌>>=◌ ◌>>◌
 batch_back [] h = refl
 batch_back (a ∷ answers) h =
     let p = both (answer_ok a) (all answer_ok answers) h in
     rw (answer_back a p.0, batch_back answers p.1)
 
-pub batch_spells : (t : Items) {answers : List Answer} → answers_of t ≡ some answers → t ≡ batch_items answers
+pub batch_spells : (t : Items) {answers : List Answer} → answers_of t ≡ Some answers → t ≡ batch_items answers
 unfolding answers_of batch_items
 batch_spells nil h = rw (← (some_is h))
 batch_spells (value tag kind v rest) h = absurd (not_some h)
@@ -162,7 +162,7 @@ allowed_facts r h =
       answers_ok = p3.1;
     }
 
-pub header_back : (clock count : ℕ) → clock < 256 ^ 8 → count < 256 ^ 4 → head_in (header_items clock count) ≡ some (clock, count)
+pub header_back : (clock count : ℕ) → clock < 256 ^ 8 → count < 256 ^ 4 → head_in (header_items clock count) ≡ Some (clock, count)
 unfolding head_in header_items version_items body_of ifb ended ◌>>=◌ ◌>>◌
 header_back clock count h g =
     rw (
@@ -172,7 +172,7 @@ header_back clock count h g =
       spelled_back 4 batch_count integer count,
     )
 
-pub header_spells : (t : Items) {a : ℕ × ℕ} → head_in t ≡ some a → t ≡ header_items a.0 a.1
+pub header_spells : (t : Items) {a : ℕ × ℕ} → head_in t ≡ Some a → t ≡ header_items a.0 a.1
 unfolding head_in header_items version_items
 header_spells t h =
     on_bind h (λ version e1 h1. on_bind h1 (λ minor e2 h2. on_bind h2 (λ after e3 h3. on_test h3 (λ o h4. on_bind h4 (λ clock e5 h5.
@@ -187,7 +187,7 @@ header_spells t h =
     rw (← (some_is w), t1, t2, t3, t4, t5, t6, t7))))))))
 
 -- a response is read back as it was meant
-pub answers_back : (r : Response) → allowed r ≡ true → answers_in (respond r) ≡ some r
+pub answers_back : (r : Response) → allowed r ≡ true → answers_in (respond r) ≡ Some r
 unfolding answers_in respond if_allowed body_of ifb ended ◌>>=◌ ◌>>◌
 answers_back r h =
     let f = allowed_facts r h in
@@ -196,7 +196,7 @@ answers_back r h =
     rw (header_back r.clock n f.clock_short few, batch_back r.answers f.answers_ok, eq-eqb n n refl, h)
 
 -- and in one spelling: items that are read as a response are those that it is written as
-pub answers_spell : (t : Items) (r : Response) → answers_in t ≡ some r → (t ≡ respond r) × (allowed r ≡ true)
+pub answers_spell : (t : Items) (r : Response) → answers_in t ≡ Some r → (t ≡ respond r) × (allowed r ≡ true)
 unfolding answers_in respond if_allowed
 answers_spell t r h =
     on_bind h (λ message e1 h1. on_test h1 (λ o h2. on_bind h2 (λ head e3 h3. on_bind h3 (λ front e4 h4. on_bind h4 (λ answers e5 h5.

@@ -3,7 +3,7 @@
 use mathlib.Core.Path.{◌≡◌, refl, sym, ◌∙◌}
 use Prim.Native.Nat.{ℕ, ◌^◌, ◌<◌}
 use mathlib.Core.Bool.{true, false}
-use mathlib.Core.Option.{Option, none, some}
+use Rattle.std.specs.Prelude.{Option, None, Some}
 use lib.Dec.{eqb}
 use borrow.Author.Tests.{eqb-true, not-true, eq-eqb}
 use Rattle.octets.specs.If.{ifb}
@@ -21,15 +21,15 @@ use Rattle.answer.proofs.Fields.{spelled_back, spelled_spells, absent_back, give
 -- the date of a tag, as it is read in front of the rest
 pub record DateRead (tag date : ℕ) (rest : Items) : Type 0 where
   pub given : Option ℕ
-  pub read : optional tag (set_date tag) (date_items tag date rest) ≡ some (given, rest)
+  pub read : optional tag (set_date tag) (date_items tag date rest) ≡ Some (given, rest)
   pub means : or_unset given ≡ date
 
 module _ (tag : ℕ) where
-  set_back : (date : ℕ) (rest : Items) → eqb date 0 ≡ false → date < 256 ^ 8 → set_date tag (long tag date_time date rest) ≡ some (date, rest)
+  set_back : (date : ℕ) (rest : Items) → eqb date 0 ≡ false → date < 256 ^ 8 → set_date tag (long tag date_time date rest) ≡ Some (date, rest)
   unfolding set_date ◌>>=◌ ◌>>◌
   set_back date rest e h = rw (spelled_back 8 tag date_time date rest h, e)
 
-  set_spells : (t : Items) {a : ℕ × Items} → set_date tag t ≡ some a → (t ≡ long tag date_time a.0 a.1) × (eqb a.0 0 ≡ false)
+  set_spells : (t : Items) {a : ℕ × Items} → set_date tag t ≡ Some a → (t ≡ long tag date_time a.0 a.1) × (eqb a.0 0 ≡ false)
   unfolding set_date
   set_spells t h = on_bind h (λ d e g. on_test g (λ u w. rw (spelled_spells 8 tag date_time t e, ← (some_is w)) (refl, not-true _ u)))
 
@@ -40,7 +40,7 @@ module _ (tag : ℕ) where
       absent : eqb date 0 ≡ true → DateRead tag date rest
       absent e =
           record {
-            given = none;
+            given = None;
             read = rw (ifb_true (eqb date 0) rest (long tag date_time date rest) e) (absent_back tag (set_date tag) rest n);
             means = sym (eqb-true date 0 e);
           }
@@ -49,12 +49,12 @@ module _ (tag : ℕ) where
       present e =
           let t = long tag date_time date rest in
           record {
-            given = some date;
+            given = Some date;
             read = rw (ifb_false (eqb date 0) rest t e) (given_back tag (set_date tag) t (unfold starts_with in eq-eqb tag tag refl) (set_back date rest e h));
             means = refl;
           }
 
-  pub date_spells : (t : Items) {a : Option ℕ × Items} → optional tag (set_date tag) t ≡ some a → t ≡ date_items tag (or_unset a.0) a.1
+  pub date_spells : (t : Items) {a : Option ℕ × Items} → optional tag (set_date tag) t ≡ Some a → t ≡ date_items tag (or_unset a.0) a.1
   unfolding date_items or_unset ifb
   date_spells t h =
       on_optional tag (set_date tag) t (λ a. t ≡ date_items tag (or_unset a.0) a.1) h

@@ -4,7 +4,7 @@ use mathlib.Core.Path.{◌≡◌, refl, ap}
 use Prim.Native.Nat.{ℕ, ◌^◌, ◌≤◌, ◌<◌}
 use native.Mathlib.Omega.{arith}
 use mathlib.Core.Bool.{true, false, false≢true}
-use mathlib.Core.Option.{Option, none, some}
+use Rattle.std.specs.Prelude.{Option, None, Some}
 use mathlib.Core.List.{List}
 use lib.Dec.{leb, eqb}
 use borrow.Author.Tests.{eqb-true, eqb-false, not-true, leb-true, eq-eqb, ne_eqb}
@@ -32,15 +32,15 @@ ended_is nil h = refl
 ended_is (value tag kind v rest) h = absurd (false≢true h)
 ended_is (group tag body rest) h = absurd (false≢true h)
 
-pub bytes_back : (tag kind : ℕ) (v : List ℕ) (rest : Items) → bytes_of tag kind (value tag kind v rest) ≡ some (v, rest)
+pub bytes_back : (tag kind : ℕ) (v : List ℕ) (rest : Items) → bytes_of tag kind (value tag kind v rest) ≡ Some (v, rest)
 unfolding bytes_of ifb
 bytes_back tag kind v rest = rw (eq-eqb tag tag refl, eq-eqb kind kind refl)
 
-pub body_back : (tag : ℕ) (body rest : Items) → body_of tag (group tag body rest) ≡ some (body, rest)
+pub body_back : (tag : ℕ) (body rest : Items) → body_of tag (group tag body rest) ≡ Some (body, rest)
 unfolding body_of ifb
 body_back tag body rest = rw (eq-eqb tag tag refl)
 
-pub bytes_spells : (tag kind : ℕ) (t : Items) {a : List ℕ × Items} → bytes_of tag kind t ≡ some a → t ≡ value tag kind a.0 a.1
+pub bytes_spells : (tag kind : ℕ) (t : Items) {a : List ℕ × Items} → bytes_of tag kind t ≡ Some a → t ≡ value tag kind a.0 a.1
 unfolding bytes_of
 bytes_spells tag kind nil h = absurd (not_some h)
 bytes_spells tag kind (value tag2 kind2 v rest) h =
@@ -49,7 +49,7 @@ bytes_spells tag kind (value tag2 kind2 v rest) h =
     rw (eqb-true tag2 tag q.0, eqb-true kind2 kind q.1, ← p.1)
 bytes_spells tag kind (group tag2 body rest) h = absurd (not_some h)
 
-pub body_spells : (tag : ℕ) (t : Items) {a : Items × Items} → body_of tag t ≡ some a → t ≡ group tag a.0 a.1
+pub body_spells : (tag : ℕ) (t : Items) {a : Items × Items} → body_of tag t ≡ Some a → t ≡ group tag a.0 a.1
 unfolding body_of
 body_spells tag nil h = absurd (not_some h)
 body_spells tag (value tag2 kind v rest) h = absurd (not_some h)
@@ -59,11 +59,11 @@ body_spells tag (group tag2 body rest) h =
 
 -- ---- a number in its w bytes
 
-pub spelled_back : (w tag kind n : ℕ) (rest : Items) → n < 256 ^ w → spelled w tag kind (value tag kind (be w n) rest) ≡ some (n, rest)
+pub spelled_back : (w tag kind n : ℕ) (rest : Items) → n < 256 ^ w → spelled w tag kind (value tag kind (be w n) rest) ≡ Some (n, rest)
 unfolding spelled ◌>>=◌ ◌>>◌
 spelled_back w tag kind n rest h = rw (bytes_back, from_be_be w n h, same_self)
 
-pub spelled_spells : (w tag kind : ℕ) (t : Items) {a : ℕ × Items} → spelled w tag kind t ≡ some a → t ≡ value tag kind (be w a.0) a.1
+pub spelled_spells : (w tag kind : ℕ) (t : Items) {a : ℕ × Items} → spelled w tag kind t ≡ Some a → t ≡ value tag kind (be w a.0) a.1
 unfolding spelled
 spelled_spells w tag kind t h =
     on_bind h (λ a e g. on_test g (λ u f.
@@ -72,15 +72,15 @@ spelled_spells w tag kind t h =
 
 -- ---- a number that is known
 
-pub fixed_back : (tag kind n : ℕ) (rest : Items) → n < 256 ^ 4 → fixed tag kind n (value tag kind (be 4 n) rest) ≡ some rest
+pub fixed_back : (tag kind n : ℕ) (rest : Items) → n < 256 ^ 4 → fixed tag kind n (value tag kind (be 4 n) rest) ≡ Some rest
 unfolding fixed ◌>>=◌ ◌>>◌
 fixed_back tag kind n rest h = rw (spelled_back 4 tag kind n rest h, eq-eqb n n refl)
 
-pub fixed_other : (tag kind n other : ℕ) (rest : Items) → other < 256 ^ 4 → eqb other n ≡ false → fixed tag kind n (value tag kind (be 4 other) rest) ≡ none
+pub fixed_other : (tag kind n other : ℕ) (rest : Items) → other < 256 ^ 4 → eqb other n ≡ false → fixed tag kind n (value tag kind (be 4 other) rest) ≡ None
 unfolding fixed ◌>>=◌ ◌>>◌
 fixed_other tag kind n other rest h e = rw (spelled_back 4 tag kind other rest h, e)
 
-pub fixed_spells : (tag kind n : ℕ) (t : Items) {rest : Items} → fixed tag kind n t ≡ some rest → t ≡ value tag kind (be 4 n) rest
+pub fixed_spells : (tag kind n : ℕ) (t : Items) {rest : Items} → fixed tag kind n t ≡ Some rest → t ≡ value tag kind (be 4 n) rest
 unfolding fixed
 fixed_spells tag kind n t h =
     on_bind h (λ a e g. on_test g (λ u f.
@@ -94,13 +94,13 @@ serial_range serial h =
     (leb-true 1 serial p.0, leb-true serial serial_most p.1)
 
 pub serial_in_back : (tag serial : ℕ) (rest : Items) → serial_ok serial ≡ true
-    → serial_in tag (value tag text_string (identifier serial) rest) ≡ some (serial, rest)
+    → serial_in tag (value tag text_string (identifier serial) rest) ≡ Some (serial, rest)
 unfolding serial_in ◌>>=◌ ◌>>◌
 serial_in_back tag serial rest h =
     let p = serial_range serial h in
     rw (bytes_back, serial_back serial (omega arith), ne_eqb serial 0 (λ e. omega arith))
 
-pub serial_in_spells : (tag : ℕ) (t : Items) {a : ℕ × Items} → serial_in tag t ≡ some a
+pub serial_in_spells : (tag : ℕ) (t : Items) {a : ℕ × Items} → serial_in tag t ≡ Some a
     → (t ≡ value tag text_string (identifier a.0) a.1) × (eqb a.0 0 ≡ false)
 unfolding serial_in
 serial_in_spells tag t h =
@@ -112,22 +112,22 @@ serial_in_spells tag t h =
 -- ---- fields that may be absent
 
 module _ {A : Type 0} (tag : ℕ) (read : Items → Option (A × Items)) (t : Items) where
-  pub absent_back : starts_with tag t ≡ false → optional tag read t ≡ some (none, t)
+  pub absent_back : starts_with tag t ≡ false → optional tag read t ≡ Some (None, t)
   unfolding optional ifb
   absent_back h = rw h
 
-  pub given_back : {a : A} {rest : Items} → starts_with tag t ≡ true → read t ≡ some (a, rest) → optional tag read t ≡ some (some a, rest)
+  pub given_back : {a : A} {rest : Items} → starts_with tag t ≡ true → read t ≡ Some (a, rest) → optional tag read t ≡ Some (Some a, rest)
   unfolding optional ifb ◌>>=◌
   given_back h e = rw (h, e)
 
   -- it was absent and nothing was read, or it was read
-  pub on_optional {ℓ} : (P : Option A × Items → Type ℓ) {a : Option A × Items} → optional tag read t ≡ some a
-      → P (none, t) → ((x : A) (rest : Items) → read t ≡ some (x, rest) → P (some x, rest)) → P a
+  pub on_optional {ℓ} : (P : Option A × Items → Type ℓ) {a : Option A × Items} → optional tag read t ≡ Some a
+      → P (None, t) → ((x : A) (rest : Items) → read t ≡ Some (x, rest) → P (Some x, rest)) → P a
   unfolding optional
-  on_optional P {a} h absent given = on_if (λ (o : Option (Option A × Items)). o ≡ some a → P a) {b = starts_with tag t} taken left h
+  on_optional P {a} h absent given = on_if (λ (o : Option (Option A × Items)). o ≡ Some a → P a) {b = starts_with tag t} taken left h
     where
-      taken : starts_with tag t ≡ true → (read t >>= λ (x, rest). some (some x, rest)) ≡ some a → P a
+      taken : starts_with tag t ≡ true → (read t >>= λ (x, rest). Some (Some x, rest)) ≡ Some a → P a
       taken b g = on_bind g (λ x e f. rw (← (some_is f)) (given x.0 x.1 e))
 
-      left : starts_with tag t ≡ false → some (none, t) ≡ some a → P a
+      left : starts_with tag t ≡ false → Some (None, t) ≡ Some a → P a
       left b g = rw (← (some_is g)) absent

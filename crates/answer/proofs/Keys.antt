@@ -4,7 +4,7 @@ use mathlib.Core.Path.{◌≡◌, sym, ap, ◌∙◌}
 use Prim.Native.Nat.{ℕ, ◌/◌, ◌^◌, ◌≤◌, ◌<◌}
 use native.Mathlib.Omega.{arith}
 use mathlib.Core.Bool.{true}
-use mathlib.Core.Option.{some}
+use Rattle.std.specs.Prelude.{Some}
 use mathlib.Core.List.{List}
 use lib.ListN.{length, take, drop}
 use Rattle.octets.specs.Maybe.{◌>>=◌, ◌>>◌}
@@ -65,7 +65,7 @@ key_again k f =
 
 -- ---- its items
 
-block_back : (v : List ℕ) (bits : ℕ) → bits < 256 ^ 4 → key_block_in (key_block_items v bits) ≡ some (v, bits)
+block_back : (v : List ℕ) (bits : ℕ) → bits < 256 ^ 4 → key_block_in (key_block_items v bits) ≡ Some (v, bits)
 unfolding key_block_in ended ◌>>=◌ ◌>>◌
 block_back v bits h =
     rw (
@@ -76,7 +76,7 @@ block_back v bits h =
       spelled_back 4 cryptographic_length integer bits nil h,
     )
 
-block_spells : (t : Items) {a : List ℕ × ℕ} → key_block_in t ≡ some a → t ≡ key_block_items a.0 a.1
+block_spells : (t : Items) {a : List ℕ × ℕ} → key_block_in t ≡ Some a → t ≡ key_block_items a.0 a.1
 unfolding key_block_in
 block_spells t {a} h =
     on_bind h (λ r e1 h1. on_bind h1 (λ held e2 h2. on_bind h2 (λ v e3 h3. on_test h3 (λ o1 h4. on_bind h4 (λ s e5 h5. on_bind h5 (λ bits e6 h6. on_test h6 (λ o2 w.
@@ -91,13 +91,13 @@ block_spells t {a} h =
     let n : bits.0 ≡ a.1 = ap (λ (x : List ℕ × ℕ). x.1) (some_is w) in
     cc)))))))
 
-key_back : (k : Key) → KeyFacts k → key_in k.serial (key_items k) ≡ some k
+key_back : (k : Key) → KeyFacts k → key_in k.serial (key_items k) ≡ Some k
 unfolding key_in key_items ended ◌>>=◌ ◌>>◌
 key_back k f =
     let few = f.bits_few in
     rw (body_back, body_back, block_back (material_of k) k.bits (omega arith), key_again k f, same_self)
 
-key_spells : (serial : ℕ) (t : Items) {k : Key} → key_in serial t ≡ some k → (k.serial ≡ serial) × (t ≡ key_items k)
+key_spells : (serial : ℕ) (t : Items) {k : Key} → key_in serial t ≡ Some k → (k.serial ≡ serial) × (t ≡ key_items k)
 unfolding key_in key_items key_read
 key_spells serial t {k} h =
     on_bind h (λ object e1 h1. on_test h1 (λ o1 h2. on_bind h2 (λ block e2 h3. on_test h3 (λ o2 h4. on_bind h4 (λ held e3 h5. on_test h5 (λ u w.
@@ -112,13 +112,13 @@ key_spells serial t {k} h =
 
 -- ---- the payload of Get
 
-pub got_back : (k : Key) → key_ok k ≡ true → got_in (word object_type enumeration symmetric_key (named unique_identifier k.serial (key_items k))) ≡ some (Got k)
+pub got_back : (k : Key) → key_ok k ≡ true → got_in (word object_type enumeration symmetric_key (named unique_identifier k.serial (key_items k))) ≡ Some (Got k)
 unfolding got_in ◌>>=◌
 got_back k h =
     let f = key_facts k h in
     rw (fixed_back object_type enumeration symmetric_key _ (omega arith), serial_in_back unique_identifier k.serial _ f.serial_ok, key_back k f)
 
-pub got_spells : (t : Items) {o : Outcome} → got_in t ≡ some o
+pub got_spells : (t : Items) {o : Outcome} → got_in t ≡ Some o
     → (k : Key) × (o ≡ Got k) × (t ≡ word object_type enumeration symmetric_key (named unique_identifier k.serial (key_items k)))
 unfolding got_in
 got_spells t h =

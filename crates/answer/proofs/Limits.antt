@@ -4,7 +4,7 @@ use mathlib.Core.Path.{◌≡◌, refl, sym, ap, ◌∙◌}
 use Prim.Native.Nat.{ℕ, ◌^◌, ◌<◌}
 use native.Mathlib.Omega.{arith}
 use mathlib.Core.Bool.{Bool, true, false, ◌&&◌, false≢true}
-use mathlib.Core.Option.{Option, none, some}
+use Rattle.std.specs.Prelude.{Option, None, Some}
 use lib.Dec.{leb, eqb}
 use borrow.Author.Tests.{eqb-true, not-true, leb-true}
 use Rattle.octets.specs.If.{ifb}
@@ -72,7 +72,7 @@ limits_facts l h = on_bool (eqb l.unit 0) absent present
           count_short = omega (arith, leb-true);
         }
 
-limits_first_back : (l : Limits) (rest : Items) → eqb l.unit 0 ≡ false → LimitsFacts l → limits_first (limited l rest) ≡ some (l, rest)
+limits_first_back : (l : Limits) (rest : Items) → eqb l.unit 0 ≡ false → LimitsFacts l → limits_first (limited l rest) ≡ Some (l, rest)
 unfolding limits_first body_of ifb ended ◌>>=◌ ◌>>◌
 limits_first_back l rest e f =
     rw (
@@ -82,7 +82,7 @@ limits_first_back l rest e f =
       e,
     )
 
-limits_first_spells : (t : Items) {a : Limits × Items} → limits_first t ≡ some a → (t ≡ limited a.0 a.1) × (eqb a.0.unit 0 ≡ false)
+limits_first_spells : (t : Items) {a : Limits × Items} → limits_first t ≡ Some a → (t ≡ limited a.0 a.1) × (eqb a.0.unit 0 ≡ false)
 unfolding limits_first
 limits_first_spells t h =
     on_bind h (λ b e g. on_bind g (λ r e2 g2. on_bind g2 (λ s e3 g3. on_bind g3 (λ u e4 g4. on_test g4 (λ o g5. on_test g5 (λ z w.
@@ -98,7 +98,7 @@ limits_first_spells t h =
 -- the usage limit of s, as it is read in front of the rest
 pub record LimitsRead (s : Shown) (rest : Items) : Type 0 where
   pub given : Option Limits
-  pub read : optional usage_limits limits_first (limit_items s rest) ≡ some (given, rest)
+  pub read : optional usage_limits limits_first (limit_items s rest) ≡ Some (given, rest)
   pub means : or_no_limits given ≡ limits_of s
 
 pub limits_back : (s : Shown) (rest : Items) → LimitsFacts (limits_of s) → starts_with usage_limits rest ≡ false → LimitsRead s rest
@@ -110,7 +110,7 @@ limits_back s rest f n = on_bool (eqb s.unit 0) absent present
         let p = f.zeros e in
         let u : s.unit ≡ 0 = eqb-true s.unit 0 e in
         record {
-          given = none;
+          given = None;
           read = rw (ifb_true (eqb s.unit 0) rest (limited (limits_of s) rest) e) (absent_back usage_limits limits_first rest n);
           means = cc;
         }
@@ -118,14 +118,14 @@ limits_back s rest f n = on_bool (eqb s.unit 0) absent present
     present : eqb s.unit 0 ≡ false → LimitsRead s rest
     present e =
         let t = limited (limits_of s) rest in
-        let r : limits_first t ≡ some (limits_of s, rest) = limits_first_back (limits_of s) rest e f in
+        let r : limits_first t ≡ Some (limits_of s, rest) = limits_first_back (limits_of s) rest e f in
         record {
-          given = some (limits_of s);
+          given = Some (limits_of s);
           read = rw (ifb_false (eqb s.unit 0) rest t e) (given_back usage_limits limits_first t (unfold starts_with in refl) r);
           means = refl;
         }
 
-pub limits_spells : (t : Items) (s : Shown) {a : Option Limits × Items} → optional usage_limits limits_first t ≡ some a → or_no_limits a.0 ≡ limits_of s
+pub limits_spells : (t : Items) (s : Shown) {a : Option Limits × Items} → optional usage_limits limits_first t ≡ Some a → or_no_limits a.0 ≡ limits_of s
     → t ≡ limit_items s a.1
 unfolding limit_items or_no_limits
 limits_spells t s h =

@@ -4,7 +4,7 @@ use mathlib.Core.Path.{◌≡◌, refl, sym, ◌∙◌}
 use Prim.Native.Nat.{ℕ, ◌^◌, ◌≤◌, ◌<◌}
 use native.Mathlib.Omega.{arith}
 use mathlib.Core.Bool.{true, false}
-use mathlib.Core.Option.{Option, none, some}
+use Rattle.std.specs.Prelude.{Option, None, Some}
 use lib.Dec.{leb, eqb}
 use borrow.Author.Tests.{eqb-true, eqb-false, le-leb}
 use Rattle.octets.specs.If.{ifb}
@@ -27,15 +27,15 @@ use Rattle.answer.proofs.Fields.{ended_is, body_spells, fixed_back, fixed_spells
 abbrev pub linked : ℕ → ℕ → Items → Items
 linked kind serial rest = group link (word link_type enumeration kind (named linked_object_identifier serial nil)) rest
 
-link_first_back : (kind serial : ℕ) (rest : Items) → kind < 256 ^ 4 → serial_ok serial ≡ true → link_first kind (linked kind serial rest) ≡ some (serial, rest)
+link_first_back : (kind serial : ℕ) (rest : Items) → kind < 256 ^ 4 → serial_ok serial ≡ true → link_first kind (linked kind serial rest) ≡ Some (serial, rest)
 unfolding link_first body_of ifb ended ◌>>=◌ ◌>>◌
 link_first_back kind serial rest k h = rw (fixed_back, serial_in_back)
 
-link_first_other : (kind other serial : ℕ) (rest : Items) → other < 256 ^ 4 → eqb other kind ≡ false → link_first kind (linked other serial rest) ≡ none
+link_first_other : (kind other serial : ℕ) (rest : Items) → other < 256 ^ 4 → eqb other kind ≡ false → link_first kind (linked other serial rest) ≡ None
 unfolding link_first body_of ifb ended ◌>>=◌ ◌>>◌
 link_first_other kind other serial rest k h = rw fixed_other
 
-link_first_spells : (kind : ℕ) (t : Items) {a : ℕ × Items} → link_first kind t ≡ some a → (t ≡ linked kind a.0 a.1) × (eqb a.0 0 ≡ false)
+link_first_spells : (kind : ℕ) (t : Items) {a : ℕ × Items} → link_first kind t ≡ Some a → (t ≡ linked kind a.0 a.1) × (eqb a.0 0 ≡ false)
 unfolding link_first
 link_first_spells kind t h =
     on_bind h (λ b e g. on_bind g (λ r f u. on_bind u (λ s i v. on_test v (λ o w.
@@ -49,33 +49,33 @@ serial_linked serial e h =
     let q : 1 ≤ serial = omega arith in
     and_i (leb 1 serial) (leb serial serial_most) (le-leb 1 serial q) h
 
-pub link_in_back : (kind serial : ℕ) (rest : Items) → kind < 256 ^ 4 → link_ok serial ≡ true → link_first kind rest ≡ none
-    → link_in kind (link_items kind serial rest) ≡ some (serial, rest)
+pub link_in_back : (kind serial : ℕ) (rest : Items) → kind < 256 ^ 4 → link_ok serial ≡ true → link_first kind rest ≡ None
+    → link_in kind (link_items kind serial rest) ≡ Some (serial, rest)
 unfolding link_in or_no_link link_items
 link_in_back kind serial rest k h n = on_bool (eqb serial 0) zeroed there
   where
-    zeroed : eqb serial 0 ≡ true → link_in kind (link_items kind serial rest) ≡ some (serial, rest)
+    zeroed : eqb serial 0 ≡ true → link_in kind (link_items kind serial rest) ≡ Some (serial, rest)
     zeroed e = rw (ifb_true (eqb serial 0) rest (linked kind serial rest) e, n, eqb-true serial 0 e)
 
-    there : eqb serial 0 ≡ false → link_in kind (link_items kind serial rest) ≡ some (serial, rest)
+    there : eqb serial 0 ≡ false → link_in kind (link_items kind serial rest) ≡ Some (serial, rest)
     there e = rw (ifb_false (eqb serial 0) rest (linked kind serial rest) e, link_first_back kind serial rest k (serial_linked serial e h))
 
-pub link_in_spells : (kind : ℕ) (t : Items) {a : ℕ × Items} → link_in kind t ≡ some a → t ≡ link_items kind a.0 a.1
+pub link_in_spells : (kind : ℕ) (t : Items) {a : ℕ × Items} → link_in kind t ≡ Some a → t ≡ link_items kind a.0 a.1
 unfolding link_in link_items
 link_in_spells kind t {a} h = go (link_first kind t) refl h
   where
-    go : (o : Option (ℕ × Items)) → link_first kind t ≡ o → or_no_link t o ≡ some a → t ≡ link_items kind a.0 a.1
-    go none e g = unfold or_no_link ifb in rw (← (some_is g))
-    go (some b) e g =
+    go : (o : Option (ℕ × Items)) → link_first kind t ≡ o → or_no_link t o ≡ Some a → t ≡ link_items kind a.0 a.1
+    go None e g = unfold or_no_link ifb in rw (← (some_is g))
+    go (Some b) e g =
         unfold or_no_link in
         let p = link_first_spells kind t e in
         rw (← (some_is g)) (p.0 ∙ sym (ifb_false _ _ _ p.1))
 
 -- a link of the one type is none of the other
-pub not_replaced : (serial : ℕ) (rest : Items) → link_first replaced_object_link rest ≡ none → link_first replaced_object_link (link_items replacement_object_link serial rest) ≡ none
+pub not_replaced : (serial : ℕ) (rest : Items) → link_first replaced_object_link rest ≡ None → link_first replaced_object_link (link_items replacement_object_link serial rest) ≡ None
 unfolding link_items
 not_replaced serial rest n =
-    on_if (λ (t : Items). link_first replaced_object_link t ≡ none) {b = eqb serial 0}
+    on_if (λ (t : Items). link_first replaced_object_link t ≡ None) {b = eqb serial 0}
     (λ e. n)
     (λ e. link_first_other replaced_object_link replacement_object_link serial rest (omega arith) refl)
 

@@ -4,7 +4,7 @@ use mathlib.Core.Path.{◌≡◌, refl, sym, ap, ◌∙◌}
 use Prim.Native.Nat.{ℕ}
 use native.Mathlib.Omega.{arith}
 use mathlib.Core.Bool.{true, false, not}
-use mathlib.Core.Option.{Option, none, some}
+use Rattle.std.specs.Prelude.{Option, None, Some}
 use mathlib.Core.List.{List}
 use lib.Dec.{eqb}
 use borrow.Author.Tests.{not-true}
@@ -46,11 +46,11 @@ name_facts m h = record {
     named : is_named m ≡ true → (name_ok (name_text m) ≡ true) × (same_name (name_of (name_text m)) m ≡ true)
     named e = both (name_ok (name_text m)) (same_name (name_of (name_text m)) m) (sym (ifb_true _ _ _ e) ∙ h)
 
-shown_name_back : (v : List ℕ) (rest : Items) → name_ok v ≡ true → name_shown (name_group v rest) ≡ some (name_of v, rest)
+shown_name_back : (v : List ℕ) (rest : Items) → name_ok v ≡ true → name_shown (name_group v rest) ≡ Some (name_of v, rest)
 unfolding name_shown ended ◌>>=◌ ◌>>◌
 shown_name_back v rest h = rw (body_back, bytes_back, h, fixed_back name_type enumeration uninterpreted_text nil (omega arith))
 
-shown_name_spells : (t : Items) {a : Name × Items} → name_shown t ≡ some a → (v : List ℕ) × (name_ok v ≡ true) × (a.0 ≡ name_of v) × (t ≡ name_group v a.1)
+shown_name_spells : (t : Items) {a : Name × Items} → name_shown t ≡ Some a → (v : List ℕ) × (name_ok v ≡ true) × (a.0 ≡ name_of v) × (t ≡ name_group v a.1)
 unfolding name_shown
 shown_name_spells t {a} h =
     on_bind h (λ body e1 h1. on_bind h1 (λ v e2 h2. on_test h2 (λ ok h3. on_bind h3 (λ r e4 h4. on_test h4 (λ o w.
@@ -65,7 +65,7 @@ shown_name_spells t {a} h =
 -- the name, as it is read in front of the rest
 pub record NameRead (m : Name) (rest : Items) : Type 0 where
   pub given : Option Name
-  pub read : optional name_tag name_shown (name_items m rest) ≡ some (given, rest)
+  pub read : optional name_tag name_shown (name_items m rest) ≡ Some (given, rest)
   pub means : or_no_name given ≡ m
 
 pub shown_name : (m : Name) (rest : Items) → NameFacts m → starts_with name_tag rest ≡ false → NameRead m rest
@@ -74,7 +74,7 @@ shown_name m rest f n = on_bool (eqb m.len 0) none_there present
   where
     none_there : eqb m.len 0 ≡ true → NameRead m rest
     none_there e = record {
-      given = none;
+      given = None;
       read = rw (ifb_true (eqb m.len 0) rest (name_group (name_text m) rest) e) (absent_back name_tag name_shown rest n);
       means = f.absent (ap not e);
     }
@@ -83,12 +83,12 @@ shown_name m rest f n = on_bool (eqb m.len 0) none_there present
     present e =
         let t = name_group (name_text m) rest in
         record {
-          given = some (name_of (name_text m));
+          given = Some (name_of (name_text m));
           read = rw (ifb_false (eqb m.len 0) rest t e) (given_back name_tag name_shown t (unfold starts_with in refl) (shown_name_back (name_text m) rest (f.text_ok (ap not e))));
           means = f.again (ap not e);
         }
 
-pub name_spells : (t : Items) {a : Option Name × Items} → optional name_tag name_shown t ≡ some a → t ≡ name_items (or_no_name a.0) a.1
+pub name_spells : (t : Items) {a : Option Name × Items} → optional name_tag name_shown t ≡ Some a → t ≡ name_items (or_no_name a.0) a.1
 unfolding name_items or_no_name
 name_spells t h =
     on_optional name_tag name_shown t (λ a. t ≡ name_items (or_no_name a.0) a.1) h

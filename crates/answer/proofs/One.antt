@@ -3,7 +3,7 @@
 use mathlib.Core.Path.{◌≡◌, refl, sym, ap, ◌∙◌}
 use Prim.Native.Nat.{ℕ}
 use mathlib.Core.Bool.{true}
-use mathlib.Core.Option.{some}
+use Rattle.std.specs.Prelude.{Some}
 use mathlib.Core.List.{List}
 use Rattle.octets.specs.Maybe.{◌>>=◌}
 use Rattle.octets.specs.Octets.{Bytes}
@@ -20,17 +20,17 @@ use Rattle.answer.proofs.Well.{respond_well}
 -- ---- one response
 
 module _ (r : Response) (h : allowed r ≡ true) where
-  pub response_message_lem : message (encode (respond r)) ≡ some (respond r)
+  pub response_message_lem : message (encode (respond r)) ≡ Some (respond r)
   unfolding respond is_one
   response_message_lem = message_back (respond r) (respond_well r h) refl
 
   -- its bytes are read back as it was meant
-  pub response_back : (message (encode (respond r)) >>= answers_in) ≡ some r
+  pub response_back : (message (encode (respond r)) >>= answers_in) ≡ Some r
   unfolding ◌>>=◌
   response_back = rw response_message_lem (answers_back r h)
 
 -- bytes that are read as a response are those that it is written as, and it is allowed
-pub response_spells : (s : List ℕ) (r : Response) → Bytes s → (message s >>= answers_in) ≡ some r → (s ≡ encode (respond r)) × (allowed r ≡ true)
+pub response_spells : (s : List ℕ) (r : Response) → Bytes s → (message s >>= answers_in) ≡ Some r → (s ≡ encode (respond r)) × (allowed r ≡ true)
 response_spells s r b h =
     on_bind h (λ t e g.
     let p = answers_spell t r g in

@@ -4,7 +4,7 @@ use mathlib.Core.Path.{◌≡◌, refl, sym, ap, ◌∙◌}
 use Prim.Native.Nat.{ℕ, ◌^◌, ◌<◌}
 use native.Mathlib.Omega.{arith}
 use mathlib.Core.Bool.{true, false, false≢true}
-use mathlib.Core.Option.{Option, none, some}
+use Rattle.std.specs.Prelude.{Option, None, Some}
 use mathlib.Core.List.{List, [], ◌∷◌}
 use lib.Dec.{eqb}
 use borrow.Author.Tests.{eqb-true}
@@ -42,7 +42,7 @@ reason_short ServerLimitExceeded = omega arith
 reason_short NonUniqueName = omega arith
 
 -- each reason is the one that has its number
-pub reason_back : (r : Reason) → reason_among (reason_number r) reasons ≡ some r
+pub reason_back : (r : Reason) → reason_among (reason_number r) reasons ≡ Some r
 unfolding reason_among ifb
 reason_back OperationNotSupported = refl
 reason_back InvalidField = refl
@@ -54,18 +54,18 @@ reason_back UsageLimitExceeded = refl
 reason_back ServerLimitExceeded = refl
 reason_back NonUniqueName = refl
 
-pub reason_spells : (n : ℕ) (rs : List Reason) {r : Reason} → reason_among n rs ≡ some r → n ≡ reason_number r
+pub reason_spells : (n : ℕ) (rs : List Reason) {r : Reason} → reason_among n rs ≡ Some r → n ≡ reason_number r
 unfolding reason_among
 reason_spells n [] h = absurd (not_some h)
 reason_spells n (q ∷ rs) {r} h =
-    on_if (λ (o : Option Reason). o ≡ some r → n ≡ reason_number r) {b = eqb n (reason_number q)}
+    on_if (λ (o : Option Reason). o ≡ Some r → n ≡ reason_number r) {b = eqb n (reason_number q)}
     (λ e g. eqb-true n (reason_number q) e ∙ ap reason_number (some_is g))
     (λ e g. reason_spells n rs g)
     h
 
 -- ---- outcomes
 
-failed_back : (operation : ℕ) (reason : Reason) → outcome_in operation (outcome_items (Failed reason)) ≡ some (Failed reason)
+failed_back : (operation : ℕ) (reason : Reason) → outcome_in operation (outcome_items (Failed reason)) ≡ Some (Failed reason)
 unfolding outcome_in status_in outcome_items failure_in ifb ended ◌>>=◌ ◌>>◌
 failed_back operation reason =
     rw (
@@ -78,7 +78,7 @@ succeeded_back : (operation : ℕ) (payload : Items) → outcome_in operation (s
 unfolding outcome_in status_in success_in body_of ifb ended ◌>>=◌ ◌>>◌
 succeeded_back operation payload = rw (spelled_back 4 result_status enumeration success _ (omega arith))
 
-undone_back : (operation : ℕ) → outcome_in operation (outcome_items Undone) ≡ some Undone
+undone_back : (operation : ℕ) → outcome_in operation (outcome_items Undone) ≡ Some Undone
 unfolding outcome_in status_in outcome_items undone_in ifb ended ◌>>=◌ ◌>>◌
 undone_back operation = rw (spelled_back 4 result_status enumeration operation_undone _ (omega arith))
 
@@ -87,7 +87,7 @@ not_create : (operation : ℕ) → answers_done operation ≡ true → eqb opera
 not_create operation h =
     on_bool (eqb operation create) (λ e. absurd (false≢true (ap answers_done (sym (eqb-true operation create e)) ∙ h))) (λ e. e)
 
-pub outcome_back : (operation : ℕ) (o : Outcome) → outcome_ok operation o ≡ true → outcome_in operation (outcome_items o) ≡ some o
+pub outcome_back : (operation : ℕ) (o : Outcome) → outcome_ok operation o ≡ true → outcome_in operation (outcome_items o) ≡ Some o
 unfolding outcome_ok outcome_items payload_in
 outcome_back operation (Failed reason) h = failed_back operation reason
 outcome_back operation (Created serial) h =
@@ -111,29 +111,29 @@ outcome_back operation (Located serial) h =
 outcome_back operation Undone h = undone_back operation
 
 -- what is read as a success's payload was written as one
-payload_spells : (operation : ℕ) (t : Items) {o : Outcome} → payload_in operation t ≡ some o → succeeded t ≡ outcome_items o
+payload_spells : (operation : ℕ) (t : Items) {o : Outcome} → payload_in operation t ≡ Some o → succeeded t ≡ outcome_items o
 unfolding payload_in outcome_items
 payload_spells operation t {o} h = create_first h
   where
     Spelled : Option Outcome → Type 0
-    Spelled q = q ≡ some o → succeeded t ≡ outcome_items o
+    Spelled q = q ≡ Some o → succeeded t ≡ outcome_items o
 
-    last : Spelled (ifb (eqb operation locate) (located_in t) none)
+    last : Spelled (ifb (eqb operation locate) (located_in t) None)
     last = on_if Spelled (λ e g. let p = located_spells t g in ap succeeded p.2 ∙ sym (ap outcome_items p.1)) (λ e g. absurd (not_some g))
 
-    got_next : Spelled (ifb (eqb operation get) (got_in t) (ifb (eqb operation locate) (located_in t) none))
+    got_next : Spelled (ifb (eqb operation get) (got_in t) (ifb (eqb operation locate) (located_in t) None))
     got_next = on_if Spelled (λ e g. let p = got_spells t g in ap succeeded p.2 ∙ sym (ap outcome_items p.1)) (λ e. last)
 
-    showed_next : Spelled (ifb (eqb operation get_attributes) (showed_in t) (ifb (eqb operation get) (got_in t) (ifb (eqb operation locate) (located_in t) none)))
+    showed_next : Spelled (ifb (eqb operation get_attributes) (showed_in t) (ifb (eqb operation get) (got_in t) (ifb (eqb operation locate) (located_in t) None)))
     showed_next = on_if Spelled (λ e g. let p = showed_spells t g in ap succeeded p.2 ∙ sym (ap outcome_items p.1)) (λ e. got_next)
 
-    done_next : Spelled (ifb (answers_done operation) (done_in t) (ifb (eqb operation get_attributes) (showed_in t) (ifb (eqb operation get) (got_in t) (ifb (eqb operation locate) (located_in t) none))))
+    done_next : Spelled (ifb (answers_done operation) (done_in t) (ifb (eqb operation get_attributes) (showed_in t) (ifb (eqb operation get) (got_in t) (ifb (eqb operation locate) (located_in t) None))))
     done_next = on_if Spelled (λ e g. let p = done_spells t g in ap succeeded p.2 ∙ sym (ap outcome_items p.1)) (λ e. showed_next)
 
     create_first : Spelled (payload_in operation t)
     create_first = on_if Spelled (λ e g. let p = created_spells t g in ap succeeded p.2 ∙ sym (ap outcome_items p.1)) (λ e. done_next)
 
-failure_spells : (t : Items) {o : Outcome} → failure_in t ≡ some o → word result_status enumeration operation_failed t ≡ outcome_items o
+failure_spells : (t : Items) {o : Outcome} → failure_in t ≡ Some o → word result_status enumeration operation_failed t ≡ outcome_items o
 unfolding failure_in outcome_items
 failure_spells t h =
     on_bind h (λ n e1 h1. on_test h1 (λ u h2. on_bind h2 (λ r e3 w.
@@ -142,7 +142,7 @@ failure_spells t h =
     let t3 = reason_spells n.0 reasons e3 in
     rw (← (some_is w), t1, t2, t3))))
 
-success_spells : (operation : ℕ) (t : Items) {o : Outcome} → success_in operation t ≡ some o → word result_status enumeration success t ≡ outcome_items o
+success_spells : (operation : ℕ) (t : Items) {o : Outcome} → success_in operation t ≡ Some o → word result_status enumeration success t ≡ outcome_items o
 unfolding success_in
 success_spells operation t h =
     on_bind h (λ p e1 h1. on_test h1 (λ u w.
@@ -150,23 +150,23 @@ success_spells operation t h =
     let t2 = ended_is p.1 u in
     rw (t1, t2) (payload_spells operation p.0 w)))
 
-undone_spells : (t : Items) {o : Outcome} → undone_in t ≡ some o → word result_status enumeration operation_undone t ≡ outcome_items o
+undone_spells : (t : Items) {o : Outcome} → undone_in t ≡ Some o → word result_status enumeration operation_undone t ≡ outcome_items o
 unfolding undone_in outcome_items
 undone_spells t h = on_test h (λ u w. let t1 = ended_is t u in rw (← (some_is w), t1))
 
-pub outcome_spells : (operation : ℕ) (t : Items) {o : Outcome} → outcome_in operation t ≡ some o → t ≡ outcome_items o
+pub outcome_spells : (operation : ℕ) (t : Items) {o : Outcome} → outcome_in operation t ≡ Some o → t ≡ outcome_items o
 unfolding outcome_in status_in
 outcome_spells operation t {o} h =
     on_bind h (λ s e g. spelled_spells 4 result_status enumeration t e ∙ by_status s.0 s.1 g)
   where
     Spelled : ℕ → Items → Option Outcome → Type 0
-    Spelled status rest q = q ≡ some o → word result_status enumeration status rest ≡ outcome_items o
+    Spelled status rest q = q ≡ Some o → word result_status enumeration status rest ≡ outcome_items o
 
-    undone_last : (status : ℕ) (rest : Items) → Spelled status rest (ifb (eqb status operation_undone) (undone_in rest) none)
+    undone_last : (status : ℕ) (rest : Items) → Spelled status rest (ifb (eqb status operation_undone) (undone_in rest) None)
     undone_last status rest =
         on_if (Spelled status rest) (λ e g. rw (eqb-true status operation_undone e) (undone_spells rest g)) (λ e g. absurd (not_some g))
 
-    failed_next : (status : ℕ) (rest : Items) → Spelled status rest (ifb (eqb status operation_failed) (failure_in rest) (ifb (eqb status operation_undone) (undone_in rest) none))
+    failed_next : (status : ℕ) (rest : Items) → Spelled status rest (ifb (eqb status operation_failed) (failure_in rest) (ifb (eqb status operation_undone) (undone_in rest) None))
     failed_next status rest =
         on_if (Spelled status rest) (λ e g. rw (eqb-true status operation_failed e) (failure_spells rest g)) (λ e. undone_last status rest)
 

@@ -4,7 +4,7 @@ use mathlib.Core.Path.{◌≡◌, refl, sym, ap, ◌∙◌}
 use Prim.Native.Nat.{ℕ, ◌^◌, ◌≤◌, ◌<◌}
 use native.Mathlib.Omega.{arith}
 use mathlib.Core.Bool.{true, false, ◌&&◌, ◌||◌}
-use mathlib.Core.Option.{none, some}
+use Rattle.std.specs.Prelude.{None, Some}
 use lib.Dec.{leb, eqb}
 use borrow.Author.Tests.{eqb-true, leb-true, ltb-true}
 use Rattle.octets.specs.If.{ifb}
@@ -88,11 +88,11 @@ unfolding starts_with
 before_links tag s d e = no_link_first tag replaced_object_link s.replaced _ d (no_link_first tag replacement_object_link s.replacement _ d (no_name_first tag s.name nil e refl))
 
 -- a name is no link
-no_link_left : (kind : ℕ) (m : Name) → link_first kind (name_items m nil) ≡ none
+no_link_left : (kind : ℕ) (m : Name) → link_first kind (name_items m nil) ≡ None
 unfolding name_items link_first body_of ifb ◌>>=◌
-no_link_left kind m = on_if (λ (t : Items). link_first kind t ≡ none) {b = eqb m.len 0} (λ e. refl) (λ e. refl)
+no_link_left kind m = on_if (λ (t : Items). link_first kind t ≡ None) {b = eqb m.len 0} (λ e. refl) (λ e. refl)
 
-pub shown_back : (s : Shown) → ShownFacts s → shown_in s.serial (attribute_items s) ≡ some s
+pub shown_back : (s : Shown) → ShownFacts s → shown_in s.serial (attribute_items s) ≡ Some s
 unfolding shown_in attribute_items ended ◌>>=◌ ◌>>◌
 shown_back s f =
     let last = name_items s.name nil in
@@ -121,7 +121,7 @@ shown_back s f =
       m.means,
     )
 
-pub shown_spells : (serial : ℕ) (t : Items) {s : Shown} → shown_in serial t ≡ some s → (s.serial ≡ serial) × (t ≡ attribute_items s)
+pub shown_spells : (serial : ℕ) (t : Items) {s : Shown} → shown_in serial t ≡ Some s → (s.serial ≡ serial) × (t ≡ attribute_items s)
 unfolding shown_in attribute_items
 shown_spells serial t {s} h =
     on_bind h (λ r e1 h1. on_bind h1 (λ bits e2 h2. on_bind h2 (λ mask e3 h3. on_bind h3 (λ state e4 h4. on_bind h4 (λ starts e5 h5.
@@ -143,11 +143,11 @@ shown_spells serial t {s} h =
 -- ---- the payload of each kind of success
 
 pub created_back : (serial : ℕ) → serial_ok serial ≡ true
-    → created_in (word object_type enumeration symmetric_key (named unique_identifier serial nil)) ≡ some (Created serial)
+    → created_in (word object_type enumeration symmetric_key (named unique_identifier serial nil)) ≡ Some (Created serial)
 unfolding created_in ended ◌>>=◌ ◌>>◌
 created_back serial h = rw (fixed_back object_type enumeration symmetric_key _ (omega arith), serial_in_back)
 
-pub created_spells : (t : Items) {o : Outcome} → created_in t ≡ some o
+pub created_spells : (t : Items) {o : Outcome} → created_in t ≡ Some o
     → (serial : ℕ) × (o ≡ Created serial) × (t ≡ word object_type enumeration symmetric_key (named unique_identifier serial nil))
 unfolding created_in
 created_spells t h =
@@ -157,11 +157,11 @@ created_spells t h =
     let t3 = ended_is serial.1 o in
     (serial.0, sym (some_is w), cc))))
 
-pub done_back : (serial : ℕ) → serial_ok serial ≡ true → done_in (named unique_identifier serial nil) ≡ some (Done serial)
+pub done_back : (serial : ℕ) → serial_ok serial ≡ true → done_in (named unique_identifier serial nil) ≡ Some (Done serial)
 unfolding done_in ended ◌>>=◌ ◌>>◌
 done_back serial h = rw serial_in_back
 
-pub done_spells : (t : Items) {o : Outcome} → done_in t ≡ some o → (serial : ℕ) × (o ≡ Done serial) × (t ≡ named unique_identifier serial nil)
+pub done_spells : (t : Items) {o : Outcome} → done_in t ≡ Some o → (serial : ℕ) × (o ≡ Done serial) × (t ≡ named unique_identifier serial nil)
 unfolding done_in
 done_spells t h =
     on_bind h (λ serial e h1. on_test h1 (λ o w.
@@ -169,13 +169,13 @@ done_spells t h =
     let t2 = ended_is serial.1 o in
     (serial.0, sym (some_is w), cc)))
 
-pub showed_back : (s : Shown) → shown_ok s ≡ true → showed_in (named unique_identifier s.serial (group attributes (attribute_items s) nil)) ≡ some (Showed s)
+pub showed_back : (s : Shown) → shown_ok s ≡ true → showed_in (named unique_identifier s.serial (group attributes (attribute_items s) nil)) ≡ Some (Showed s)
 unfolding showed_in body_of ifb ended ◌>>=◌ ◌>>◌
 showed_back s h =
     let f = shown_facts s h in
     rw (serial_in_back unique_identifier s.serial _ f.serial_ok, shown_back s f)
 
-pub showed_spells : (t : Items) {o : Outcome} → showed_in t ≡ some o
+pub showed_spells : (t : Items) {o : Outcome} → showed_in t ≡ Some o
     → (s : Shown) × (o ≡ Showed s) × (t ≡ named unique_identifier s.serial (group attributes (attribute_items s) nil))
 unfolding showed_in
 showed_spells t h =
@@ -188,20 +188,20 @@ showed_spells t h =
 
 -- ---- Locate, found or not
 
-pub located_back : (serial : ℕ) → link_ok serial ≡ true → located_in (located_items serial) ≡ some (Located serial)
+pub located_back : (serial : ℕ) → link_ok serial ≡ true → located_in (located_items serial) ≡ Some (Located serial)
 unfolding located_items located_in or_unset ended ◌>>=◌ ◌>>◌
 located_back serial h = on_bool (eqb serial 0) nothing there
   where
-    nothing : eqb serial 0 ≡ true → located_in (located_items serial) ≡ some (Located serial)
+    nothing : eqb serial 0 ≡ true → located_in (located_items serial) ≡ Some (Located serial)
     nothing e = rw (ifb_true (eqb serial 0) nil (named unique_identifier serial nil) e, absent_back unique_identifier (serial_in unique_identifier) nil (unfold starts_with in refl), eqb-true serial 0 e)
 
-    there : eqb serial 0 ≡ false → located_in (located_items serial) ≡ some (Located serial)
+    there : eqb serial 0 ≡ false → located_in (located_items serial) ≡ Some (Located serial)
     there e =
         let t = named unique_identifier serial nil in
         let ok = serial_linked serial e h in
         rw (ifb_false (eqb serial 0) nil t e, given_back unique_identifier (serial_in unique_identifier) t (unfold starts_with in refl) (serial_in_back unique_identifier serial nil ok))
 
-pub located_spells : (t : Items) {o : Outcome} → located_in t ≡ some o → (serial : ℕ) × (o ≡ Located serial) × (t ≡ located_items serial)
+pub located_spells : (t : Items) {o : Outcome} → located_in t ≡ Some o → (serial : ℕ) × (o ≡ Located serial) × (t ≡ located_items serial)
 unfolding located_in located_items or_unset
 located_spells t h =
     on_bind h (λ a e g. on_test g (λ u w.

@@ -3,7 +3,7 @@
 use Prim.Native.Nat.{ℕ}
 use mathlib.Core.Path.{◌≡◌, refl}
 use mathlib.Core.Bool.{false}
-use mathlib.Core.Option.{none, some}
+use Rattle.std.specs.Prelude.{None, Some}
 use mathlib.Core.List.{List, [], ◌∷◌}
 use lib.ListN.{length, replicate}
 use Rattle.hex_digits.specs.Texts.{hex}
@@ -42,7 +42,7 @@ activated_written : encode (respond activated) ≡ hex "42007B01 00000090 42007A
 unfolding opened
 activated_written = refl
 
-activated_read : answers_in (respond activated) ≡ some activated
+activated_read : answers_in (respond activated) ≡ Some activated
 unfolding opened
 activated_read = refl
 
@@ -66,21 +66,21 @@ mixed_written : encode (respond mixed) ≡ hex "42007B01 00000220 42007A01 00000
 unfolding opened
 mixed_written = refl
 
-mixed_read : answers_in (respond mixed) ≡ some mixed
+mixed_read : answers_in (respond mixed) ≡ Some mixed
 unfolding opened
 mixed_read = refl
 
 -- no response has a clock of 0, or one below
-no_clock : answers_in (respond (record { clock = 0; answers = longest ∷ [] })) ≡ none
+no_clock : answers_in (respond (record { clock = 0; answers = longest ∷ [] })) ≡ None
 unfolding opened
 no_clock = refl
 
-clock_below : answers_in (respond (record { clock = 0xFFFFFFFFFFFFFFFF; answers = longest ∷ [] })) ≡ none
+clock_below : answers_in (respond (record { clock = 0xFFFFFFFFFFFFFFFF; answers = longest ∷ [] })) ≡ None
 unfolding opened
 clock_below = refl
 
 -- no answer to a Create is an identifier alone
-not_created : answers_in (respond (record { clock = 1; answers = record { operation = 0x01; id = []; outcome = Done 1 } ∷ [] })) ≡ none
+not_created : answers_in (respond (record { clock = 1; answers = record { operation = 0x01; id = []; outcome = Done 1 } ∷ [] })) ≡ None
 unfolding opened
 not_created = refl
 
@@ -98,7 +98,7 @@ got_written : encode (respond got) ≡ hex "42007B01 00000100 42007A01 00000048 
 unfolding opened got handing
 got_written = refl
 
-got_read : answers_in (respond got) ≡ some got
+got_read : answers_in (respond got) ≡ Some got
 unfolding opened got handing
 got_read = refl
 
@@ -121,7 +121,7 @@ sought_written : encode (respond sought) ≡ hex "42007B01 000000C0 42007A01 000
 unfolding opened
 sought_written = refl
 
-sought_read : answers_in (respond sought) ≡ some sought
+sought_read : answers_in (respond sought) ≡ Some sought
 unfolding opened
 sought_read = refl
 
@@ -133,7 +133,7 @@ undone_written : encode (respond undone) ≡ hex "42007B01 000000B0 42007A01 000
 unfolding opened
 undone_written = refl
 
-undone_read : answers_in (respond undone) ≡ some undone
+undone_read : answers_in (respond undone) ≡ Some undone
 unfolding opened
 undone_read = refl
 

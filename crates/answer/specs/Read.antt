@@ -1,7 +1,7 @@
 -- Responses read back: `answers_in` reads what `respond` writes and nothing else, and `allowed` says which responses there are.
 -- Assumes nothing.
 use Rattle.std.specs.Prelude.{ℕ, ◌/◌, ◌^◌, Bool, true, not, ◌&&◌, ◌||◌, List, [], ◌∷◌, length, drop, leb, ltb, eqb}
-use Rattle.std.proofs.Math.Option.{Option, none, some}
+use Rattle.std.specs.Prelude.{Option, None, Some}
 use Rattle.octets.specs.If.{ifb}
 use Rattle.octets.specs.Maybe.{◌>>=◌, ◌>>◌}
 use Rattle.octets.specs.Octets.{be, from_be, same, all, all_zero}
@@ -36,21 +36,21 @@ unfoldable pub spelled : ℕ → ℕ → ℕ → Items → Option (ℕ × Items)
 spelled w tag kind t = do
   (v, rest) ← bytes_of tag kind t
   same v (be w (from_be v))
-  some (from_be v, rest)
+  Some (from_be v, rest)
 
 -- a first item with this number and no other; the rest
 unfoldable pub fixed : ℕ → ℕ → ℕ → Items → Option Items
 fixed tag kind n t = do
   (m, rest) ← spelled 4 tag kind t
   eqb m n
-  some rest
+  Some rest
 
 -- the serial of an identifier that could name a record
 unfoldable pub serial_in : ℕ → Items → Option (ℕ × Items)
 serial_in tag t = do
   (v, rest) ← bytes_of tag text_string t
   not (eqb (serial_of v) 0)
-  some (serial_of v, rest)
+  Some (serial_of v, rest)
 
 -- ---- payloads
 
@@ -59,7 +59,7 @@ unfoldable pub set_date : ℕ → Items → Option (ℕ × Items)
 set_date tag t = do
   (date, rest) ← spelled 8 tag date_time t
   not (eqb date 0)
-  some (date, rest)
+  Some (date, rest)
 
 -- unit, total and count of a usage limit; all 0 where there is none
 pub record Limits : Type 0 where
@@ -75,11 +75,11 @@ limits_first t = do
   (unit, u) ← spelled 4 usage_limits_unit enumeration s
   ended u
   not (eqb unit 0)
-  some (record { unit = unit; total = total; count = count }, rest)
+  Some (record { unit = unit; total = total; count = count }, rest)
 
 unfoldable pub or_no_limits : Option Limits → Limits
-or_no_limits none = record { unit = 0; total = 0; count = 0 }
-or_no_limits (some limits) = limits
+or_no_limits None = record { unit = 0; total = 0; count = 0 }
+or_no_limits (Some limits) = limits
 
 -- the serial of a link of this type in front
 unfoldable pub link_first : ℕ → Items → Option (ℕ × Items)
@@ -88,11 +88,11 @@ link_first kind t = do
   r ← fixed link_type enumeration kind body
   (serial, s) ← serial_in linked_object_identifier r
   ended s
-  some (serial, rest)
+  Some (serial, rest)
 
 unfoldable pub or_no_link : Items → Option (ℕ × Items) → Option (ℕ × Items)
-or_no_link t none = some (0, t)
-or_no_link t (some found) = some found
+or_no_link t None = Some (0, t)
+or_no_link t (Some found) = Some found
 
 -- the serial of a link of this type if one stands in front, else 0
 unfoldable pub link_in : ℕ → Items → Option (ℕ × Items)
@@ -106,7 +106,7 @@ name_shown t = do
   name_ok v
   s ← fixed name_type enumeration uninterpreted_text r
   ended s
-  some (name_of v, rest)
+  Some (name_of v, rest)
 
 unfoldable pub shown_in : ℕ → Items → Option Shown
 shown_in serial t = do
@@ -121,7 +121,7 @@ shown_in serial t = do
   (replacement, last) ← link_in replacement_object_link z
   (name, after) ← optional name_tag name_shown last
   ended after
-  some (record {
+  Some (record {
     serial = serial;
     bits = bits;
     mask = mask;
@@ -141,13 +141,13 @@ created_in t = do
   r ← fixed object_type enumeration symmetric_key t
   (serial, s) ← serial_in unique_identifier r
   ended s
-  some (Created serial)
+  Some (Created serial)
 
 unfoldable pub done_in : Items → Option Outcome
 done_in t = do
   (serial, r) ← serial_in unique_identifier t
   ended r
-  some (Done serial)
+  Some (Done serial)
 
 unfoldable pub showed_in : Items → Option Outcome
 showed_in t = do
@@ -155,7 +155,7 @@ showed_in t = do
   (body, s) ← body_of attributes r
   ended s
   shown ← shown_in serial body
-  some (Showed shown)
+  Some (Showed shown)
 
 -- the key that a serial, a length and the bytes of its material say; past these it is zero
 unfoldable pub key_read : ℕ → ℕ → List ℕ → Key
@@ -171,7 +171,7 @@ key_block_in t = do
   w ← fixed cryptographic_algorithm enumeration aes s
   (bits, x) ← spelled 4 cryptographic_length integer w
   ended x
-  some (v, bits)
+  Some (v, bits)
 
 -- a Symmetric Key and nothing else; its material has the length that is said
 unfoldable pub key_in : ℕ → Items → Option Key
@@ -182,20 +182,20 @@ key_in serial t = do
   ended after
   (v, bits) ← key_block_in block
   same v (material_of (key_read serial bits v))
-  some (key_read serial bits v)
+  Some (key_read serial bits v)
 
 unfoldable pub got_in : Items → Option Outcome
 got_in t = do
   r ← fixed object_type enumeration symmetric_key t
   (serial, s) ← serial_in unique_identifier r
   key ← key_in serial s
-  some (Got key)
+  Some (Got key)
 
 unfoldable pub located_in : Items → Option Outcome
 located_in t = do
   (serial, rest) ← optional unique_identifier (serial_in unique_identifier) t
   ended rest
-  some (Located (or_unset serial))
+  Some (Located (or_unset serial))
 
 -- Re-key, Get Usage Allocation, Activate, Revoke, Destroy: the operations that answer an identifier alone
 abbrev pub answers_done : ℕ → Bool
@@ -209,7 +209,7 @@ payload_in operation t =
     (ifb (eqb operation get_attributes) (showed_in t)
     (ifb (eqb operation get) (got_in t)
     (ifb (eqb operation locate) (located_in t)
-    none))))
+    None))))
 
 -- ---- outcomes
 
@@ -219,15 +219,15 @@ reasons = OperationNotSupported ∷ InvalidField ∷ PermissionDenied ∷ UsageL
 
 -- the one of some reasons that has a number
 unfoldable pub reason_among : ℕ → List Reason → Option Reason
-reason_among n [] = none
-reason_among n (r ∷ rs) = let later = reason_among n rs in ifb (eqb n (reason_number r)) (some r) later
+reason_among n [] = None
+reason_among n (r ∷ rs) = let later = reason_among n rs in ifb (eqb n (reason_number r)) (Some r) later
 
 unfoldable pub failure_in : Items → Option Outcome
 failure_in t = do
   (number, rest) ← spelled 4 result_reason enumeration t
   ended rest
   reason ← reason_among number reasons
-  some (Failed reason)
+  Some (Failed reason)
 
 unfoldable pub success_in : ℕ → Items → Option Outcome
 success_in operation t = do
@@ -238,7 +238,7 @@ success_in operation t = do
 unfoldable pub undone_in : Items → Option Outcome
 undone_in t = do
   ended t
-  some Undone
+  Some Undone
 
 -- by its status
 unfoldable pub status_in : ℕ → ℕ → Items → Option Outcome
@@ -246,7 +246,7 @@ status_in operation status rest =
     ifb (eqb status success) (success_in operation rest)
     (ifb (eqb status operation_failed) (failure_in rest)
     (ifb (eqb status operation_undone) (undone_in rest)
-    none))
+    None))
 
 unfoldable pub outcome_in : ℕ → Items → Option Outcome
 outcome_in operation t = do
@@ -261,16 +261,16 @@ answer_in t = do
   (id, s) ← optional unique_batch_item_id (bytes_of unique_batch_item_id byte_string) r
   id_ok id
   outcome ← outcome_in operation s
-  some (record { operation = operation; id = id_bytes id; outcome = outcome })
+  Some (record { operation = operation; id = id_bytes id; outcome = outcome })
 
 unfoldable pub answers_of : Items → Option (List Answer)
-answers_of nil = some []
-answers_of (value tag kind v rest) = none
+answers_of nil = Some []
+answers_of (value tag kind v rest) = None
 answers_of (group tag body rest) = do
   eqb tag batch_item
   answer ← answer_in body
   answers ← answers_of rest
-  some (answer ∷ answers)
+  Some (answer ∷ answers)
 
 -- clock and count
 unfoldable pub head_in : Items → Option (ℕ × ℕ)
@@ -282,7 +282,7 @@ head_in t = do
   (clock, s) ← spelled 8 time_stamp date_time r
   (count, u) ← spelled 4 batch_count integer s
   ended u
-  some (clock, count)
+  Some (clock, count)
 
 -- ---- which responses there are
 
@@ -340,7 +340,7 @@ allowed r = above_zero r.clock && leb 1 (length r.answers) && leb (length r.answ
 
 -- a response, if it is allowed
 unfoldable pub if_allowed : Response → Option Response
-if_allowed r = allowed r >> some r
+if_allowed r = allowed r >> Some r
 
 -- the response that items are, if they are one
 unfoldable pub answers_in : Items → Option Response

@@ -2,22 +2,25 @@
 // here; what `write_answer` asks, by the writer of the whole response.
 #![tactic(auto)]
 
-ghost use Rattle.std.specs.Prelude.{◌≡◌, ◌+◌, ◌%◌, ◌≤◌, length, take};
+ghost use Rattle.std.specs.Prelude.{◌+◌, ◌-◌, ◌≤◌, ℕ, List, length, take, drop};
+ghost use Rattle.std.specs.Fn.{FnOnceTakesAtMut, FnOnceReturnsAtMut};
 ghost use Rattle.ttlv_types.specs.Types.{enumeration};
-ghost use Rattle.ttlv.specs.Items.{nil, group};
-ghost use Rattle.ttlv_put.specs.Write.{Holds};
+ghost use Rattle.ttlv.specs.Items.{Items, nil, group};
 ghost use Rattle.tags.specs.Tags.{batch_item, attributes, object_type, unique_identifier};
 ghost use Rattle.payload.specs.Payload.{symmetric_key};
 ghost use Rattle.batch_item.specs.Item.{id_most};
 ghost use Rattle.plans.specs.declared.Outcome.TheVariants.{Failed, Undone};
-ghost use Rattle.answer.specs.Respond.{word, named, attribute_items, key_items, located_items, outcome_items, id_items, answer_items};
+ghost use Rattle.answer.specs.Respond.{word, named, attribute_items, key_items, located_items, succeeded, outcome_items, id_items, answer_items};
 ghost use Rattle.answer.specs.Front.{longest_item};
 ghost use Rattle.named_write.specs.Puts.{Puts};
-ghost use Rattle.answer_write.specs.Answers.{opening, answer_of};
+ghost use Rattle.answer_write.specs.Answers.{answer_of};
 
 use batch_item::ItemId;
 use plans::{Key, Outcome, Shown};
 use rules::Reason;
+use ttlv_numbers::Enumeration;
+
+// An operation stays a number: `write_answer` echoes any.
 
 // Values of Enumerations.
 const SYMMETRIC_KEY: u32 = 2;
@@ -35,7 +38,7 @@ fn write_created(out: &mut [u8], serial: u32) -> usize
     requires { 32 ≤ length out.old }
     ensures { Puts 32 (word object_type enumeration symmetric_key (named unique_identifier serial nil)) out.old out.new result }
 {
-    ttlv_numbers::write_enumeration(out, tags::OBJECT_TYPE, SYMMETRIC_KEY);
+    ttlv_numbers::write_number(out, tags::OBJECT_TYPE, Enumeration(SYMMETRIC_KEY));
     let n = named_write::write_named(&mut out[16..], tags::UNIQUE_IDENTIFIER, serial);
     16 + n
 }
@@ -73,26 +76,28 @@ fn write_located(out: &mut [u8], serial: u32) -> usize
 
 // ---- outcomes
 
-// The status of a success and the head of its payload, in front of the payload's n bytes. Each
-// caller shows that n is a length of items.
-fn write_success(out: &mut [u8], n: usize) -> usize
-    requires { (24 + n ≤ length out.old) × (n ≤ 320) × (n % 8 ≡ 0) }
-    ensures { (result ≡ 24 + n) × Holds (opening n) out.old out.new 24 }
+// A success: its status, and behind it, in the head of a payload, what the payload writes. Each
+// caller shows the room, and that the payload keeps to it.
+fn write_success<F: FnOnce(&mut [u8]) -> usize>(out: &mut [u8], payload: F) -> usize
+    requires room { 24 ≤ length out.old }
+    requires callable { FnOnceTakesAtMut F.FnOnce payload (drop 24 out.old) }
+    requires within { (n : ℕ) (left : List ℕ) → FnOnceReturnsAtMut F.FnOnce payload (drop 24 out.old) n left → n ≤ length out.old - 24 }
+    ensures { (most : ℕ) (t : Items) → ((n : ℕ) (left : List ℕ) → FnOnceReturnsAtMut F.FnOnce payload (drop 24 out.old) n left → Puts most t (drop 24 out.old) left n) → most ≤ 320 → Puts (24 + most) (succeeded t) out.old out.new result }
 {
-    ttlv_numbers::write_enumeration(out, tags::RESULT_STATUS, SUCCESS);
-    ttlv_put::write_structure(&mut out[16..], tags::RESPONSE_PAYLOAD, n);
-    24 + n
+    ttlv_numbers::write_number(out, tags::RESULT_STATUS, Enumeration(SUCCESS));
+    let n = ttlv_put::write_around(&mut out[16..], tags::RESPONSE_PAYLOAD, payload);
+    16 + n
 }
 
 fn write_failure(out: &mut [u8], reason: Reason) -> usize
     requires { 32 ≤ length out.old }
     ensures { Puts 32 (outcome_items (Failed reason)) out.old out.new result }
 {
-    ttlv_numbers::write_enumeration(out, tags::RESULT_STATUS, OPERATION_FAILED);
-    ttlv_numbers::write_enumeration(
+    ttlv_numbers::write_number(out, tags::RESULT_STATUS, Enumeration(OPERATION_FAILED));
+    ttlv_numbers::write_number(
         &mut out[16..],
         tags::RESULT_REASON,
-        rules::reason_number(reason),
+        Enumeration(rules::reason_number(reason)),
     );
     32
 }
@@ -102,7 +107,7 @@ fn write_undone(out: &mut [u8]) -> usize
     requires { 16 ≤ length out.old }
     ensures { Puts 16 (outcome_items Undone) out.old out.new result }
 {
-    ttlv_numbers::write_enumeration(out, tags::RESULT_STATUS, OPERATION_UNDONE);
+    ttlv_numbers::write_number(out, tags::RESULT_STATUS, Enumeration(OPERATION_UNDONE));
     16
 }
 
@@ -113,26 +118,13 @@ fn write_outcome(out: &mut [u8], outcome: Outcome) -> usize
 {
     match outcome {
         Outcome::Failed { reason } => write_failure(out, reason),
-        Outcome::Created { serial } => {
-            let n = write_created(&mut out[24..], serial);
-            write_success(out, n)
-        }
-        Outcome::Done { serial } => {
-            let n = named_write::write_named(&mut out[24..], tags::UNIQUE_IDENTIFIER, serial);
-            write_success(out, n)
-        }
-        Outcome::Showed { shown } => {
-            let n = write_showed(&mut out[24..], shown);
-            write_success(out, n)
-        }
-        Outcome::Got { key } => {
-            let n = write_got(&mut out[24..], key);
-            write_success(out, n)
-        }
-        Outcome::Located { serial } => {
-            let n = write_located(&mut out[24..], serial);
-            write_success(out, n)
-        }
+        Outcome::Created { serial } => write_success(out, |room| write_created(room, serial)),
+        Outcome::Done { serial } => write_success(out, |room| {
+            named_write::write_named(room, tags::UNIQUE_IDENTIFIER, serial)
+        }),
+        Outcome::Showed { shown } => write_success(out, |room| write_showed(room, shown)),
+        Outcome::Got { key } => write_success(out, |room| write_got(room, key)),
+        Outcome::Located { serial } => write_success(out, |room| write_located(room, serial)),
         Outcome::Undone => write_undone(out),
     }
 }
@@ -156,7 +148,7 @@ fn write_answer_items(out: &mut [u8], operation: u32, id: ItemId, outcome: Outco
     requires { (384 ≤ length out.old) × (id.len ≤ id_most) }
     ensures { Puts 384 (answer_items (answer_of operation id outcome)) out.old out.new result }
 {
-    ttlv_numbers::write_enumeration(out, tags::OPERATION, operation);
+    ttlv_numbers::write_number(out, tags::OPERATION, Enumeration(operation));
     let n = write_id(&mut out[16..], id);
     let at = 16 + n;
     let m = write_outcome(&mut out[at..], outcome);
@@ -168,7 +160,9 @@ pub fn write_answer(out: &mut [u8], operation: u32, id: ItemId, outcome: Outcome
     requires { (longest_item ≤ length out.old) × (id.len ≤ id_most) }
     ensures { Puts longest_item (group batch_item (answer_items (answer_of operation id outcome)) nil) out.old out.new result }
 {
-    let size = write_answer_items(&mut out[8..], operation, id, outcome);
-    ttlv_put::write_structure(out, tags::BATCH_ITEM, size);
-    8 + size
+    ttlv_put::write_around(
+        out,
+        tags::BATCH_ITEM,
+        |room| write_answer_items(room, operation, id, outcome),
+    )
 }

@@ -1,7 +1,7 @@
 -- 01, "Operations", Create, and 02, L3, L6 and L9: what Attributes holds, and the values allowed in it.
 -- Assumes nothing. "One of wrong shape or with a value not allowed here fails with Invalid Field."
 use Rattle.std.specs.Prelude.{ℕ, eqb}
-use Rattle.std.proofs.Math.Option.{Option, none, some}
+use Rattle.std.specs.Prelude.{Option, None, Some}
 use Rattle.octets.specs.Maybe.{◌>>=◌, ◌>>◌}
 use Rattle.ttlv_types.specs.Types.{integer, long_integer, enumeration, date_time}
 use Rattle.ttlv.specs.Items.{Items, ended}
@@ -10,16 +10,12 @@ use Rattle.tags.specs.Tags.{activation_date, cryptographic_algorithm, cryptograp
 use Rattle.values.specs.Values.{bits_ok, mask_ok, protects, unit_ok, total_ok, above_zero, in_order}
 use Rattle.rules.specs.declared.Attributes.{Attributes}
 use Rattle.names.specs.declared.Name.{Name}
+use Rattle.attributes_read.specs.declared.Limit.{Limit}
 use Rattle.name_read.specs.Name.{last_name_in}
 
 -- "Cryptographic Algorithm = 3": AES
 abbrev pub aes : ℕ
 aes = 3
-
--- a usage limit: unit and total
-pub record Limit : Type 0 where
-  pub unit : ℕ
-  pub total : ℕ
 
 -- "Usage Limits { Total, Unit }"
 unfoldable pub limit_in : Items → Option Limit
@@ -29,7 +25,7 @@ limit_in t = do
   (unit, s) ← number_of usage_limits_unit enumeration r
   unit_ok unit
   ended s
-  some (record { unit = unit; total = total })
+  Some (record { unit = unit; total = total })
 
 -- a Usage Limits structure in front, of a key with this mask: "Create with Usage Limits and a mask with none of Sign (1), Encrypt (4) and MAC Generate (80 hex) now fails with Invalid Field" (L9)
 unfoldable pub limit_first : ℕ → Items → Option (Limit × Items)
@@ -37,19 +33,19 @@ limit_first mask t = do
   protects mask
   (body, rest) ← body_of usage_limits t
   limit ← limit_in body
-  some (limit, rest)
+  Some (limit, rest)
 
 -- a date in front: "from 1 up"
 unfoldable pub date_first : ℕ → Items → Option (ℕ × Items)
 date_first tag t = do
   (date, rest) ← number_of tag date_time t
   above_zero date
-  some (date, rest)
+  Some (date, rest)
 
 -- a date that is not given is not set: 0
 unfoldable pub or_unset : Option ℕ → ℕ
-or_unset none = 0
-or_unset (some date) = date
+or_unset None = 0
+or_unset (Some date) = date
 
 -- from the dates on: "both dates as optional last attributes, from 1 up, deactivation not before activation" (L3); then the Name "as last attribute" (L6), and nothing behind it
 unfoldable pub dated_in : Items → Option (ℕ × ℕ × Name)
@@ -58,13 +54,13 @@ dated_in t = do
   (deactivation, s) ← optional deactivation_date (date_first deactivation_date) r
   in_order (or_unset activation) (or_unset deactivation)
   name ← last_name_in s
-  some (or_unset activation, or_unset deactivation, name)
+  Some (or_unset activation, or_unset deactivation, name)
 
 -- the attributes of a new key, of its length, mask, limit, activation, deactivation and name; no limit is unit 0 and total 0
 unfoldable pub wanted_of : ℕ → ℕ → Option Limit → ℕ → ℕ → Name → Attributes
-wanted_of bits mask none activation deactivation name =
+wanted_of bits mask None activation deactivation name =
     record { bits = bits; mask = mask; unit = 0; total = 0; activation = activation; deactivation = deactivation; name = name }
-wanted_of bits mask (some limit) activation deactivation name =
+wanted_of bits mask (Some limit) activation deactivation name =
     record { bits = bits; mask = mask; unit = limit.unit; total = limit.total; activation = activation; deactivation = deactivation; name = name }
 
 -- behind the mask, for a key of this length and mask: "[Usage Limits]", the dates and the name
@@ -72,7 +68,7 @@ unfoldable pub limited_in : ℕ → ℕ → Items → Option Attributes
 limited_in bits mask t = do
   (limit, r) ← optional usage_limits (limit_first mask) t
   (activation, deactivation, name) ← dated_in r
-  some (wanted_of bits mask limit activation deactivation name)
+  Some (wanted_of bits mask limit activation deactivation name)
 
 -- from the mask on, for a key of this length: "Cryptographic Usage Mask, [Usage Limits]", the dates and the name
 unfoldable pub masked_in : ℕ → Items → Option Attributes

@@ -1,5 +1,4 @@
 -- The attributes of a new key, read from items.
 -- Assumes nothing.
 pub mod Attributes
-pub mod Readers
 pub mod Reasons

@@ -1,242 +1,132 @@
 // The attributes that Create asks for, read from the items of Attributes, or that there are none by
-// the rules. It knows TTLV by its items alone. A function that asks for a run of items is given one
-// by the reader of payloads, which cuts it out of a payload that is a run.
+// the rules. It knows TTLV by its items alone.
 #![tactic(auto)]
 
-ghost use Rattle.std.specs.Prelude.{◌≡◌, true};
-ghost use Rattle.ttlv.specs.Tree.{is_run, tree_of};
-ghost use Rattle.attributes_read.specs.Attributes.{limit_in, dated_in, limited_in, masked_in, attributes_in};
-ghost use Rattle.attributes_read.specs.Readers.{limit_read, limits_at, date_at, dated_read, attributes_read};
+ghost use Rattle.std.specs.Prelude.{◌≡◌, option_map};
+ghost use Rattle.ttlv.specs.Tree.{tree_of};
+ghost use Rattle.fields.specs.Fields.{optional};
+ghost use Rattle.tags.specs.Tags.{usage_limits};
+ghost use Rattle.runs.specs.Runs.{behind};
+ghost use Rattle.attributes_read.specs.Attributes.{limit_in, limit_first, date_first, dated_in, limited_in, masked_in, attributes_in};
 
-use fields::{BodyField, NumberField};
-use name_read::NameRead;
 use names::Name;
 use rules::Attributes;
+use runs::Run;
 
 // The one algorithm: AES.
 const AES: u64 = 3;
 
-// A usage limit, or something that is none by the rules.
+// A usage limit. It is public for the definitions of the crates above.
 #[derive(Clone, Copy)]
-enum LimitRead {
-    Limited { unit: u8, total: u64 },
-    InvalidField,
-}
-
-// Usage Limits at the front, with the rest of the run from next on; all 0 where none is given. Or
-// something that is no limit by the rules.
-#[derive(Clone, Copy)]
-enum LimitsRead {
-    Limits { unit: u8, total: u64, next: usize },
-    InvalidField,
-}
-
-// A date at the front, with the rest of the run from next on; both 0 where none is given. Or
-// something that is no date by the rules.
-#[derive(Clone, Copy)]
-enum DateRead {
-    Date { date: u64, next: usize },
-    InvalidField,
-}
-
-// Both dates, 0 where one is not given, and the name, or that they are not by the rules.
-#[derive(Clone, Copy)]
-enum DatedRead {
-    Dated {
-        activation: u64,
-        deactivation: u64,
-        name: Name,
-    },
-    InvalidField,
-}
-
-// The attributes of a new key, or that there are none by the rules.
-#[derive(Clone, Copy)]
-pub enum AttributesRead {
-    Wanted { wanted: Attributes },
-    InvalidField,
+pub struct Limit {
+    pub unit: u8,
+    pub total: u64,
 }
 
 // The items of Usage Limits.
-fn read_limit(s: &[u8]) -> LimitRead
-    requires { is_run s.now ≡ true }
-    ensures { result ≡ limit_read (limit_in (tree_of s.now)) }
+fn read_limit(run: Run<'_>) -> Option<Limit>
+    ensures { result ≡ limit_in (tree_of run.entry.bytes.now) }
 {
-    let NumberField::Number { value: total, next } = fields::number_field(
-        s,
-        tags::USAGE_LIMITS_TOTAL,
-        ttlv_types::LONG_INTEGER,
-    ) else {
-        return LimitRead::InvalidField;
-    };
+    let (total, rest) = run.number(tags::USAGE_LIMITS_TOTAL, ttlv_types::LONG_INTEGER)?;
     if !values::total_ok(total) {
-        return LimitRead::InvalidField;
+        return None;
     }
-    let NumberField::Number {
-        value: unit,
-        next: _,
-    } = last_field::only_number(&s[next..], tags::USAGE_LIMITS_UNIT, ttlv_types::ENUMERATION)
-    else {
-        return LimitRead::InvalidField;
-    };
+    let (unit, rest) = rest.number(tags::USAGE_LIMITS_UNIT, ttlv_types::ENUMERATION)?;
     if !values::unit_ok(unit) {
-        return LimitRead::InvalidField;
+        return None;
     }
-    LimitRead::Limited {
+    rest.end()?;
+    Some(Limit {
         unit: unit as u8,
         total,
-    }
+    })
 }
 
 // Usage Limits, if it is given, behind this mask: a limit is for a key that can apply protection.
-fn read_limits(s: &[u8], mask: u32) -> LimitsRead
-    requires { is_run s.now ≡ true }
-    ensures { result ≡ limits_at mask s.now }
+fn read_limits<'a>(run: Run<'a>, mask: u32) -> Option<(Option<Limit>, Run<'a>)>
+    ensures { option_map behind result ≡ optional usage_limits (limit_first mask) (tree_of run.entry.bytes.now) }
 {
-    if !fields::starts_with(s, tags::USAGE_LIMITS) {
-        return LimitsRead::Limits {
-            unit: 0,
-            total: 0,
-            next: 0,
-        };
+    if !run.starts_with(tags::USAGE_LIMITS) {
+        return Some((None, run));
     }
     if !values::protects(mask as u64) {
-        return LimitsRead::InvalidField;
+        return None;
     }
-    let BodyField::Body { next } = fields::body_field(s, tags::USAGE_LIMITS) else {
-        return LimitsRead::InvalidField;
-    };
-    let LimitRead::Limited { unit, total } = read_limit(&s[8..next]) else {
-        return LimitsRead::InvalidField;
-    };
-    LimitsRead::Limits { unit, total, next }
+    let (body, rest) = run.body(tags::USAGE_LIMITS)?;
+    let limit = read_limit(body)?;
+    Some((Some(limit), rest))
 }
 
 // The date with this tag, if it is given.
-fn read_date(s: &[u8], tag: u32) -> DateRead
-    ensures { result ≡ date_at s.now tag }
+fn read_date<'a>(run: Run<'a>, tag: u32) -> Option<(Option<u64>, Run<'a>)>
+    ensures { option_map behind result ≡ optional tag (date_first tag) (tree_of run.entry.bytes.now) }
 {
-    if !fields::starts_with(s, tag) {
-        return DateRead::Date { date: 0, next: 0 };
+    if !run.starts_with(tag) {
+        return Some((None, run));
     }
-    let NumberField::Number { value: date, next } = fields::number_field(
-        s,
-        tag,
-        ttlv_types::DATE_TIME,
-    ) else {
-        return DateRead::InvalidField;
-    };
+    let (date, rest) = run.number(tag, ttlv_types::DATE_TIME)?;
     if !values::above_zero(date) {
-        return DateRead::InvalidField;
+        return None;
     }
-    DateRead::Date { date, next }
+    Some((Some(date), rest))
 }
 
-// The items behind Usage Limits: the dates, then the name, and nothing behind it.
-fn read_dated(s: &[u8]) -> DatedRead
-    requires { is_run s.now ≡ true }
-    ensures { result ≡ dated_read (dated_in (tree_of s.now)) }
+// The items behind Usage Limits: the dates, 0 where one is not given, then the name, and nothing
+// behind it.
+fn read_dated(run: Run<'_>) -> Option<(u64, u64, Name)>
+    ensures { result ≡ dated_in (tree_of run.entry.bytes.now) }
 {
-    let DateRead::Date {
-        date: activation,
-        next,
-    } = read_date(s, tags::ACTIVATION_DATE)
-    else {
-        return DatedRead::InvalidField;
-    };
-    let t = &s[next..];
-    let DateRead::Date {
-        date: deactivation,
-        next: end,
-    } = read_date(t, tags::DEACTIVATION_DATE)
-    else {
-        return DatedRead::InvalidField;
-    };
+    let (activation, rest) = read_date(run, tags::ACTIVATION_DATE)?;
+    let (deactivation, rest) = read_date(rest, tags::DEACTIVATION_DATE)?;
+    let activation = activation.unwrap_or(0);
+    let deactivation = deactivation.unwrap_or(0);
     if !values::in_order(activation, deactivation) {
-        return DatedRead::InvalidField;
+        return None;
     }
-    let NameRead::Named { name } = name_read::read_last_name(&t[end..]) else {
-        return DatedRead::InvalidField;
-    };
-    DatedRead::Dated {
-        activation,
-        deactivation,
-        name,
-    }
+    let name = name_read::read_last_name(rest)?;
+    Some((activation, deactivation, name))
 }
 
 // The items behind the mask, with the length and the mask that stand in front of them.
-fn read_limited(s: &[u8], bits: u16, mask: u32) -> AttributesRead
-    requires { is_run s.now ≡ true }
-    ensures { result ≡ attributes_read (limited_in bits mask (tree_of s.now)) }
+fn read_limited(run: Run<'_>, bits: u16, mask: u32) -> Option<Attributes>
+    ensures { result ≡ limited_in bits mask (tree_of run.entry.bytes.now) }
 {
-    let LimitsRead::Limits { unit, total, next } = read_limits(s, mask) else {
-        return AttributesRead::InvalidField;
-    };
-    let DatedRead::Dated {
+    let (limit, rest) = read_limits(run, mask)?;
+    let (activation, deactivation, name) = read_dated(rest)?;
+    let limit = limit.unwrap_or(Limit { unit: 0, total: 0 });
+    Some(Attributes {
+        bits,
+        mask,
+        unit: limit.unit,
+        total: limit.total,
         activation,
         deactivation,
         name,
-    } = read_dated(&s[next..])
-    else {
-        return AttributesRead::InvalidField;
-    };
-    AttributesRead::Wanted {
-        wanted: Attributes {
-            bits,
-            mask,
-            unit,
-            total,
-            activation,
-            deactivation,
-            name,
-        },
-    }
+    })
 }
 
 // The items from the mask on, with the length that stands in front of them.
-fn read_masked(s: &[u8], bits: u16) -> AttributesRead
-    requires { is_run s.now ≡ true }
-    ensures { result ≡ attributes_read (masked_in bits (tree_of s.now)) }
+fn read_masked(run: Run<'_>, bits: u16) -> Option<Attributes>
+    ensures { result ≡ masked_in bits (tree_of run.entry.bytes.now) }
 {
-    let NumberField::Number { value: mask, next } = fields::number_field(
-        s,
-        tags::CRYPTOGRAPHIC_USAGE_MASK,
-        ttlv_types::INTEGER,
-    ) else {
-        return AttributesRead::InvalidField;
-    };
+    let (mask, rest) = run.number(tags::CRYPTOGRAPHIC_USAGE_MASK, ttlv_types::INTEGER)?;
     if !values::mask_ok(mask) {
-        return AttributesRead::InvalidField;
+        return None;
     }
-    read_limited(&s[next..], bits, mask as u32)
+    read_limited(rest, bits, mask as u32)
 }
 
 // The items of Attributes.
-pub fn read_attributes(s: &[u8]) -> AttributesRead
-    requires { is_run s.now ≡ true }
-    ensures { result ≡ attributes_read (attributes_in (tree_of s.now)) }
+pub fn read_attributes(run: Run<'_>) -> Option<Attributes>
+    ensures { result ≡ attributes_in (tree_of run.entry.bytes.now) }
 {
-    let NumberField::Number {
-        value: algorithm,
-        next,
-    } = fields::number_field(s, tags::CRYPTOGRAPHIC_ALGORITHM, ttlv_types::ENUMERATION)
-    else {
-        return AttributesRead::InvalidField;
-    };
+    let (algorithm, rest) = run.number(tags::CRYPTOGRAPHIC_ALGORITHM, ttlv_types::ENUMERATION)?;
     if algorithm != AES {
-        return AttributesRead::InvalidField;
+        return None;
     }
-    let t = &s[next..];
-    let NumberField::Number {
-        value: bits,
-        next: after,
-    } = fields::number_field(t, tags::CRYPTOGRAPHIC_LENGTH, ttlv_types::INTEGER)
-    else {
-        return AttributesRead::InvalidField;
-    };
+    let (bits, rest) = rest.number(tags::CRYPTOGRAPHIC_LENGTH, ttlv_types::INTEGER)?;
     if !values::bits_ok(bits) {
-        return AttributesRead::InvalidField;
+        return None;
     }
-    read_masked(&t[after..], bits as u16)
+    read_masked(rest, bits as u16)
 }

@@ -13,6 +13,10 @@ ghost use Rattle.named_write.specs.Puts.{Puts};
 
 use names::Name;
 use plans::Shown;
+use ttlv_numbers::{DateTime, Enumeration, Integer, LongInteger};
+
+// State and unit stay the numbers that a record has, which may be any; the two kinds of link are
+// each used once.
 
 // Values of Enumerations.
 const AES: u32 = 3;
@@ -26,7 +30,7 @@ fn write_link_body(out: &mut [u8], kind: u32, serial: u32) -> usize
     requires { 32 ≤ length out.old }
     ensures { Puts 32 (word link_type enumeration kind (named linked_object_identifier serial nil)) out.old out.new result }
 {
-    ttlv_numbers::write_enumeration(out, tags::LINK_TYPE, kind);
+    ttlv_numbers::write_number(out, tags::LINK_TYPE, Enumeration(kind));
     let n = named_write::write_named(&mut out[16..], tags::LINKED_OBJECT_IDENTIFIER, serial);
     16 + n
 }
@@ -39,9 +43,7 @@ fn write_link(out: &mut [u8], kind: u32, serial: u32) -> usize
     if serial == 0 {
         return 0;
     }
-    let n = write_link_body(&mut out[8..], kind, serial);
-    ttlv_put::write_structure(out, tags::LINK, n);
-    8 + n
+    ttlv_put::write_around(out, tags::LINK, |room| write_link_body(room, kind, serial))
 }
 
 // The body of a usage limit.
@@ -49,9 +51,9 @@ fn write_limit_body(out: &mut [u8], unit: u32, total: u64, count: u64) -> usize
     requires { 48 ≤ length out.old }
     ensures { Puts 48 (long usage_limits_total long_integer total (long usage_limits_count long_integer count (word usage_limits_unit enumeration unit nil))) out.old out.new result }
 {
-    ttlv_numbers::write_long(out, tags::USAGE_LIMITS_TOTAL, total);
-    ttlv_numbers::write_long(&mut out[16..], tags::USAGE_LIMITS_COUNT, count);
-    ttlv_numbers::write_enumeration(&mut out[32..], tags::USAGE_LIMITS_UNIT, unit);
+    ttlv_numbers::write_number(out, tags::USAGE_LIMITS_TOTAL, LongInteger(total));
+    ttlv_numbers::write_number(&mut out[16..], tags::USAGE_LIMITS_COUNT, LongInteger(count));
+    ttlv_numbers::write_number(&mut out[32..], tags::USAGE_LIMITS_UNIT, Enumeration(unit));
     48
 }
 
@@ -60,10 +62,14 @@ fn write_always(out: &mut [u8], bits: u32, mask: u32, state: u32) -> usize
     requires { 64 ≤ length out.old }
     ensures { Puts 64 (word cryptographic_algorithm enumeration aes (word cryptographic_length integer bits (word cryptographic_usage_mask integer mask (word state_tag enumeration state nil)))) out.old out.new result }
 {
-    ttlv_numbers::write_enumeration(out, tags::CRYPTOGRAPHIC_ALGORITHM, AES);
-    ttlv_numbers::write_integer(&mut out[16..], tags::CRYPTOGRAPHIC_LENGTH, bits);
-    ttlv_numbers::write_integer(&mut out[32..], tags::CRYPTOGRAPHIC_USAGE_MASK, mask);
-    ttlv_numbers::write_enumeration(&mut out[48..], tags::STATE, state);
+    ttlv_numbers::write_number(out, tags::CRYPTOGRAPHIC_ALGORITHM, Enumeration(AES));
+    ttlv_numbers::write_number(&mut out[16..], tags::CRYPTOGRAPHIC_LENGTH, Integer(bits));
+    ttlv_numbers::write_number(
+        &mut out[32..],
+        tags::CRYPTOGRAPHIC_USAGE_MASK,
+        Integer(mask),
+    );
+    ttlv_numbers::write_number(&mut out[48..], tags::STATE, Enumeration(state));
     64
 }
 
@@ -75,7 +81,7 @@ fn write_date(out: &mut [u8], tag: u32, date: u64) -> usize
     if date == 0 {
         return 0;
     }
-    ttlv_numbers::write_date_time(out, tag, date);
+    ttlv_numbers::write_number(out, tag, DateTime(date));
     16
 }
 
@@ -97,9 +103,11 @@ fn write_limits(out: &mut [u8], shown: Shown) -> usize
     if shown.unit == 0 {
         return 0;
     }
-    let n = write_limit_body(&mut out[8..], shown.unit as u32, shown.total, shown.count);
-    ttlv_put::write_structure(out, tags::USAGE_LIMITS, n);
-    8 + n
+    ttlv_put::write_around(
+        out,
+        tags::USAGE_LIMITS,
+        |room| write_limit_body(room, shown.unit as u32, shown.total, shown.count),
+    )
 }
 
 // The links: to what this key replaced, then to what replaces it.
@@ -142,7 +150,9 @@ pub fn write_attributes(out: &mut [u8], shown: Shown) -> usize
     requires { 304 ≤ length out.old }
     ensures { Puts 304 (group attributes (attribute_items shown) nil) out.old out.new result }
 {
-    let n = write_attribute_items(&mut out[8..], shown);
-    ttlv_put::write_structure(out, tags::ATTRIBUTES, n);
-    8 + n
+    ttlv_put::write_around(
+        out,
+        tags::ATTRIBUTES,
+        |room| write_attribute_items(room, shown),
+    )
 }

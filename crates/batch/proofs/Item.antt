@@ -4,7 +4,7 @@ use Prim.Native.Nat.{ℕ, ◌-◌, ◌≤◌}
 use native.Mathlib.Omega.{arith}
 use mathlib.Core.Path.{◌≡◌, refl, sym, ap, subst, ◌∙◌}
 use mathlib.Core.Bool.{Bool, true, false≢true}
-use mathlib.Core.Option.{Option, none, some}
+use Rattle.std.specs.Prelude.{Option, None, Some}
 use mathlib.Core.List.{List}
 use lib.ListN.{length, take, drop, replicate, length-drop}
 use lib.Seq.{take_at, take_all}
@@ -34,10 +34,10 @@ use Rattle.batch.specs.Batch.{answer_with, answer_to}
 use Rattle.batch.specs.Runs.{asked_or, asked_in, ReadsOne, doing, CarriedIs, answer_bytes, ItemIs}
 
 -- an item that was read
-asked_is : (o : Option Asked) → is_some o ≡ true → o ≡ some (asked_or o)
+asked_is : (o : Option Asked) → is_some o ≡ true → o ≡ Some (asked_or o)
 unfolding is_some asked_or
-asked_is none e = absurd (false≢true e)
-asked_is (some a) e = refl
+asked_is None e = absurd (false≢true e)
+asked_is (Some a) e = refl
 
 -- the ID that a struct carries
 id_taken : (v : List ℕ) → take (id_of v).len (id_of v).bytes ≡ v

@@ -4,7 +4,7 @@ use Prim.Native.Nat.{ℕ, ◌+◌, ◌-◌, ◌≤◌, ◌<◌}
 use native.Mathlib.Omega.{arith}
 use mathlib.Core.Path.{◌≡◌, refl, sym, ap, subst, ◌∙◌}
 use mathlib.Core.Bool.{true}
-use mathlib.Core.Option.{Option, none, some}
+use Rattle.std.specs.Prelude.{Option, None, Some}
 use mathlib.Core.List.{List, [], ◌∷◌}
 use lib.ListN.{length, take, drop, length-take, length-drop}
 use lib.Seq.{take_all}
@@ -14,8 +14,6 @@ use Rattle.octets.specs.Octets.{part}
 use Rattle.ttlv.specs.Tree.{is_run, tree_of}
 use Rattle.ttlv.specs.Parse.{first_of}
 use Rattle.fields.specs.Found.{body_in, body_at}
-use Rattle.fields.specs.declared.BodyField.{BodyField}
-use Rattle.fields.specs.declared.BodyField.TheVariants.{Body, NoBody}
 use Rattle.tags.specs.Tags.{batch_item}
 use Rattle.batch_item.specs.Item.{Asked, item_in, items_in}
 use Rattle.batch_item.proofs.Items.{step, none_left}
@@ -24,18 +22,18 @@ use Rattle.batch.specs.Batch.{first_item}
 use Rattle.batch.specs.Runs.{asked_or, asked_in, asked_all, asked_from, ReadsOne, Reads}
 
 -- no structure stands at the front of nothing
-no_body : (tag : ℕ) → body_at [] tag ≡ NoBody
+no_body : (tag : ℕ) → body_at [] tag ≡ None
 unfolding body_at body_in first_of ifb
 no_body tag = refl
 
-none_there : {next : ℕ} → NoBody ≡ Body next → ⊥
+none_there : {next : ℕ} → None ≡ Some next → ⊥
 none_there q = let z : ◌≡◌ {A = ℕ} 0 1 = cc in omega arith
 
 -- an optional list that is there
-all_is : (o : Option (List Asked)) → is_some o ≡ true → o ≡ some (asked_all o)
+all_is : (o : Option (List Asked)) → is_some o ≡ true → o ≡ Some (asked_all o)
 unfolding is_some asked_all
-all_is none e = let z : ◌≡◌ {A = ℕ} 0 1 = cc in absurd (omega arith)
-all_is (some items) e = refl
+all_is None e = let z : ◌≡◌ {A = ℕ} 0 1 = cc in absurd (omega arith)
+all_is (Some items) e = refl
 
 -- the rest of a run of items, as it is lent
 rest_lent : (next : ℕ) (left : List ℕ) → drop next left ≡ take (length left - next) (drop next left)
@@ -44,7 +42,7 @@ rest_lent next left = sym (take_all (length left - next) (drop next left) (rw le
 -- what is left of a batch behind i of its items
 pub record Left (left : List ℕ) (i : ℕ) (later : List Asked) : Type 0 where
   pub run : is_run left ≡ true
-  pub items : items_in (tree_of left) ≡ some later
+  pub items : items_in (tree_of left) ≡ Some later
   pub few : i + length later ≤ batch_most
 
 -- at first all of it
@@ -53,12 +51,12 @@ all_left {items} h = record { run = h.run; items = all_is (items_in (tree_of ite
 
 module _ {left : List ℕ} {i : ℕ} {later : List Asked} (m : Left left i later) where
   -- where no structure stands, no item is left
-  pub no_more : body_at left batch_item ≡ NoBody → later ≡ []
+  pub no_more : body_at left batch_item ≡ None → later ≡ []
   no_more e = go later refl
     where
       go : (l : List Asked) → later ≡ l → l ≡ []
       go [] s = refl
-      go (a ∷ rest) s = absurd (none_there (sym e ∙ (step left m.run a rest (m.items ∙ ap some s)).body))
+      go (a ∷ rest) s = absurd (none_there (sym e ∙ (step left m.run a rest (m.items ∙ ap Some s)).body))
 
   -- an item is left: it is the next one, and its body and the rest are those of the frame
   pub record Next (next : ℕ) : Type 0 where
@@ -70,22 +68,22 @@ module _ {left : List ℕ} {i : ℕ} {later : List Asked} (m : Left left i later
     pub reads : ReadsOne (part left 8 (next - 8))
     pub item : asked_in (part left 8 (next - 8)) ≡ asked
     pub rest_run : is_run (drop next left) ≡ true
-    pub rest_items : items_in (tree_of (drop next left)) ≡ some rest
+    pub rest_items : items_in (tree_of (drop next left)) ≡ Some rest
 
-  pub next_item : {next : ℕ} → body_at left batch_item ≡ Body next → Next next
+  pub next_item : {next : ℕ} → body_at left batch_item ≡ Some next → Next next
   unfolding asked_or is_some
   next_item {next} e = go later refl
     where
-      end_of : BodyField → ℕ
-      end_of (Body k) = k
-      end_of NoBody = 0
+      end_of : Option ℕ → ℕ
+      end_of (Some k) = k
+      end_of None = 0
 
       go : (l : List Asked) → later ≡ l → Next next
-      go [] s = absurd (none_there (sym (no_body batch_item) ∙ sym (ap (λ (u : List ℕ). body_at u batch_item) (none_left left m.run (m.items ∙ ap some s))) ∙ e))
+      go [] s = absurd (none_there (sym (no_body batch_item) ∙ sym (ap (λ (u : List ℕ). body_at u batch_item) (none_left left m.run (m.items ∙ ap Some s))) ∙ e))
       go (a ∷ rest) l =
-          let s = step left m.run a rest (m.items ∙ ap some l) in
+          let s = step left m.run a rest (m.items ∙ ap Some l) in
           let k : s.next ≡ next = ap end_of (sym s.body ∙ e) in
-          let there : item_in (tree_of (part left 8 (next - 8))) ≡ some a = subst (λ (x : ℕ). item_in (tree_of (part left 8 (x - 8))) ≡ some a) k s.item in
+          let there : item_in (tree_of (part left 8 (next - 8))) ≡ Some a = subst (λ (x : ℕ). item_in (tree_of (part left 8 (x - 8))) ≡ Some a) k s.item in
           record {
             asked = a;
             rest = rest;
@@ -95,7 +93,7 @@ module _ {left : List ℕ} {i : ℕ} {later : List Asked} (m : Left left i later
             reads = record { run = subst (λ (x : ℕ). is_run (part left 8 (x - 8)) ≡ true) k s.item_run; read = ap is_some there };
             item = ap asked_or there;
             rest_run = subst (λ (x : ℕ). is_run (drop x left) ≡ true) k s.later_run;
-            rest_items = subst (λ (x : ℕ). items_in (tree_of (drop x left)) ≡ some rest) k s.items;
+            rest_items = subst (λ (x : ℕ). items_in (tree_of (drop x left)) ≡ Some rest) k s.items;
           }
 
   module _ {next : ℕ} (x : Next next) where

@@ -1,5 +1,6 @@
 -- The batch loop: what holds between two items, how it begins, goes on and ends.
 -- Assumes nothing.
+use Rattle.std.specs.Prelude.{None}
 use Prim.Native.Nat.{ℕ, ◌+◌, ◌-◌, ◌*◌}
 use native.Mathlib.Omega.{arith}
 use mathlib.Core.Path.{◌≡◌, refl, sym, ap, subst, ◌∙◌}
@@ -12,7 +13,6 @@ use Rattle.octets.specs.If.{ifb}
 use Rattle.octets.specs.Octets.{part}
 use Rattle.octets.proofs.If.{ifb_true, ifb_false}
 use Rattle.fields.specs.Found.{body_at}
-use Rattle.fields.specs.declared.BodyField.TheVariants.{NoBody}
 use Rattle.table.specs.Layout.{Table, material_size}
 use Rattle.tags.specs.Tags.{batch_item}
 use Rattle.batch_item.specs.Item.{Asked}
@@ -70,7 +70,7 @@ begins {n} {items} option h = record {
 
 module _ {n : ℕ} {whole : Ran} {fresh : List ℕ} {option : ℕ} {out₀ t out left : List ℕ} {i holder at : ℕ} (m : Mid n whole fresh option out₀ t out left i holder at) where
   -- no item is left
-  pub ended : body_at left batch_item ≡ NoBody → RanIs whole out₀ (record { count = i; used = at }) t out
+  pub ended : body_at left batch_item ≡ None → RanIs whole out₀ (record { count = i; used = at }) t out
   unfolding batch
   ended e =
       let l : m.later ≡ [] = no_more m.items e in

@@ -1,7 +1,7 @@
 -- What the functions of a batch ask and answer, over the bytes that its items stand in.
 -- Assumes nothing.
 use Rattle.std.specs.Prelude.{ℕ, ◌*◌, ◌≤◌, ◌≡◌, true, List, [], length}
-use Rattle.std.proofs.Math.Option.{Option, none, some}
+use Rattle.std.specs.Prelude.{Option, None, Some}
 use Rattle.octets.specs.Maybe.{is_some}
 use Rattle.ttlv.specs.Items.{nil, group, encode}
 use Rattle.ttlv.specs.Tree.{is_run, tree_of}
@@ -26,8 +26,8 @@ use Rattle.calls.specs.Effects.{strip_size}
 
 -- an item that was read; one with nothing in it where none was
 unfoldable pub asked_or : Option Asked → Asked
-asked_or none = record { operation = 0; id = []; payload = nil }
-asked_or (some asked) = asked
+asked_or None = record { operation = 0; id = []; payload = nil }
+asked_or (Some asked) = asked
 
 -- the item that the bytes of a batch item's body say
 abbrev pub asked_in : List ℕ → Asked
@@ -74,8 +74,8 @@ pub record ItemIs (n : ℕ) (asked : Asked) (t fresh : List ℕ) (holder : ℕ) 
 
 -- the items that were read; none where none were
 unfoldable pub asked_all : Option (List Asked) → List Asked
-asked_all none = []
-asked_all (some items) = items
+asked_all None = []
+asked_all (Some items) = items
 
 -- the items that the bytes of a run of batch items say
 abbrev pub asked_from : List ℕ → List Asked

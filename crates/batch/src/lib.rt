@@ -8,9 +8,13 @@ ghost use Rattle.frame.specs.Frame.{continue};
 ghost use Rattle.batch.specs.Runs.{asked_in, CarriesOne, CarriedIs, RunsOne, ItemIs, Runs, RanIs, ran_over};
 
 use batch_item::ItemId;
-use fields::BodyField;
 use plans::Performed;
+use runs::Run;
 use table::Layout;
+
+// A table's bytes and its place count stay two parameters, as in `table`.
+
+// An option stays a number: `run_items` answers for any.
 
 const CONTINUE: u32 = 1;
 
@@ -46,7 +50,10 @@ pub fn carry_item(body: &[u8], table: &mut [u8], n: usize, fresh: &[u8], holder:
     let parts = batch_item::read_item(body);
     let start = parts.payload;
     let operation = parts.operation;
-    let command = payload::read_command(operation, &body[start..]);
+    let items = Run {
+        bytes: &body[start..],
+    };
+    let command = payload::read_command(operation, items);
     let performed = act::perform(table, n, holder, command, fresh);
     let id = parts.id;
     Carried {
@@ -99,8 +106,9 @@ pub fn run_items(
     let mut i: usize = 0;
     let mut holder: u32 = 0;
     let mut at: usize = 0;
+    // i is counted by hand: the loop ends with the items, and i picks the part of the strip
     loop {
-        let BodyField::Body { next } = fields::body_field(left, tags::BATCH_ITEM) else {
+        let Some(next) = fields::body_field(left, tags::BATCH_ITEM) else {
             let count = i as u32;
             return BatchDone { count, used: at };
         };

@@ -3,7 +3,7 @@
 use mathlib.Core.Path.{◌≡◌}
 use Prim.Native.Nat.{ℕ, ◌-◌, ◌^◌, ◌≤◌, ◌<◌}
 use mathlib.Core.Bool.{true}
-use mathlib.Core.Option.{some}
+use Rattle.std.specs.Prelude.{Some}
 use mathlib.Core.List.{List, [], ◌∷◌}
 use lib.ListN.{length, drop}
 use Rattle.octets.specs.Octets.{part, Bytes}
@@ -21,7 +21,7 @@ abbrev pub AllBounded : List Asked → Type 0
 AllBounded [] = Unit {0}
 AllBounded (a ∷ later) = Bounded a × AllBounded later
 
-pub items_bounded : (items : List Asked) (u : List ℕ) → is_run u ≡ true → Bytes u → items_in (tree_of u) ≡ some items → AllBounded items
+pub items_bounded : (items : List Asked) (u : List ℕ) → is_run u ≡ true → Bytes u → items_in (tree_of u) ≡ Some items → AllBounded items
 items_bounded [] u r b h = tt
 items_bounded (a ∷ later) u r b h =
     let p = step u r a later h in

@@ -2,5 +2,6 @@
 -- Assumes nothing. Those above use Items (stepping), Item (the parts of one) and Bounds.
 pub mod Item
 pub mod Items
+pub mod Found
 pub mod Bounds
 pub mod Unique

@@ -1,7 +1,7 @@
 -- 01, "Message frame": the batch items of a request.
 -- Assumes nothing. "Fields stand in the order given, brackets mean optional, nothing else may appear."
 use Rattle.std.specs.Prelude.{ℕ, Bool, true, ◌&&◌, List, [], ◌∷◌, length, leb, eqb}
-use Rattle.std.proofs.Math.Option.{Option, none, some}
+use Rattle.std.specs.Prelude.{Option, None, Some}
 use Rattle.octets.specs.Maybe.{◌>>=◌, ◌>>◌}
 use Rattle.ttlv_types.specs.Types.{enumeration, byte_string}
 use Rattle.ttlv.specs.Items.{Items, nil, value, group, ended}
@@ -22,13 +22,13 @@ abbrev pub id_length_ok : ℕ → Bool
 id_length_ok n = leb 1 n && leb n id_most
 
 unfoldable pub id_ok : Option (List ℕ) → Bool
-id_ok none = true
-id_ok (some v) = id_length_ok (length v)
+id_ok None = true
+id_ok (Some v) = id_length_ok (length v)
 
 -- the ID's bytes, none where it is absent
 unfoldable pub id_bytes : Option (List ℕ) → List ℕ
-id_bytes none = []
-id_bytes (some v) = v
+id_bytes None = []
+id_bytes (Some v) = v
 
 -- "Batch Item { Operation, Enumeration, [Unique Batch Item ID, Byte String], Request Payload }"
 unfoldable pub item_in : Items → Option Asked
@@ -38,14 +38,14 @@ item_in t = do
   id_ok id
   (payload, u) ← body_of request_payload s
   ended u
-  some (record { operation = operation; id = id_bytes id; payload = payload })
+  Some (record { operation = operation; id = id_bytes id; payload = payload })
 
 -- a run of batch items and nothing else
 unfoldable pub items_in : Items → Option (List Asked)
-items_in nil = some []
-items_in (value tag kind v rest) = none
+items_in nil = Some []
+items_in (value tag kind v rest) = None
 items_in (group tag body rest) = do
   eqb tag batch_item
   item ← item_in body
   items ← items_in rest
-  some (item ∷ items)
+  Some (item ∷ items)

@@ -1,15 +1,15 @@
 // The batch items of a request: one of them, and a run of them.
-// It knows TTLV by its items alone, and nothing of keys. A function that asks for a run of items is
-// given one by the TTLV check, which every request passes first.
+// It knows TTLV by its items alone, and nothing of keys.
 #![tactic(auto)]
 
-ghost use Rattle.std.specs.Prelude.{◌≡◌, true, ◌≤◌, length};
+ghost use Rattle.std.specs.Prelude.{◌≡◌, true, ◌≤◌, length, option_map};
 ghost use Rattle.octets.specs.Maybe.{is_some};
 ghost use Rattle.ttlv.specs.Tree.{is_run, tree_of};
+ghost use Rattle.runs.specs.Runs.{bytes_read};
 ghost use Rattle.batch_item.specs.Item.{id_most, item_in, items_in};
-ghost use Rattle.batch_item.specs.Readers.{id_at, item_read, id_of, parts_of, items_read};
+ghost use Rattle.batch_item.specs.Readers.{id_in, asked, id_of, parts_of, items_read};
 
-use fields::{BodyField, BytesField, NumberField};
+use runs::Run;
 
 // The most bytes of an ID.
 const ID_MOST: usize = 16;
@@ -31,105 +31,51 @@ pub struct ItemParts {
     pub payload: usize,
 }
 
-// A batch item with where its ID's bytes and its payload's items start, or that there is none by
-// the rules. It is public for the frame's definitions, which say what it is as a refusal.
-#[derive(Clone, Copy)]
-pub enum ItemRead {
-    Item {
-        operation: u32,
-        id: usize,
-        len: usize,
-        payload: usize,
-    },
-    NoItem,
-}
-
-// How many batch items a run has, or that it has something else.
-#[derive(Clone, Copy)]
-pub enum ItemsRead {
-    Items { count: usize },
-    NoItems,
-}
-
-// The ID at the front, if it is there: read once, and only where none was read is it asked whether
-// a bad one stands there.
-fn read_id(s: &[u8]) -> BytesField
-    ensures { result ≡ id_at s.now }
+// The ID at the front, no bytes where it is absent, and the run behind it: read once, and only where
+// none was read is it asked whether a bad one stands there.
+fn read_id<'a>(run: Run<'a>) -> Option<(&'a [u8], Run<'a>)>
+    ensures { option_map bytes_read result ≡ id_in (tree_of run.entry.bytes.now) }
 {
-    let BytesField::Span { len, next } = fields::bytes_field(
-        s,
-        tags::UNIQUE_BATCH_ITEM_ID,
-        ttlv_types::BYTE_STRING,
-    ) else {
-        if fields::starts_with(s, tags::UNIQUE_BATCH_ITEM_ID) {
-            return BytesField::NoSpan;
+    let Some((id, rest)) = run.bytes(tags::UNIQUE_BATCH_ITEM_ID, ttlv_types::BYTE_STRING) else {
+        if run.starts_with(tags::UNIQUE_BATCH_ITEM_ID) {
+            return None;
         }
-        return BytesField::Span { len: 0, next: 0 };
+        let none = &run.bytes[..0];
+        return Some((none, run));
     };
-    if len < 1 {
-        return BytesField::NoSpan;
+    if id.len() < 1 {
+        return None;
     }
-    if ID_MOST < len {
-        return BytesField::NoSpan;
+    if ID_MOST < id.len() {
+        return None;
     }
-    BytesField::Span { len, next }
+    Some((id, rest))
 }
 
-// The items of a Batch Item. `count_items` shows that they are a run; `read_item` is given one.
-fn find_item(body: &[u8]) -> ItemRead
-    requires { is_run body.now ≡ true }
-    ensures { result ≡ item_read body.now (item_in (tree_of body.now)) }
+// The items of a Batch Item: its operation, its ID and its payload's items.
+fn find_item<'a>(run: Run<'a>) -> Option<(u32, &'a [u8], Run<'a>)>
+    ensures { option_map asked result ≡ item_in (tree_of run.entry.bytes.now) }
 {
-    let NumberField::Number {
-        value: operation,
-        next,
-    } = fields::number_field(body, tags::OPERATION, ttlv_types::ENUMERATION)
-    else {
-        return ItemRead::NoItem;
-    };
-    let t = &body[next..];
-    let BytesField::Span { len, next: after } = read_id(t) else {
-        return ItemRead::NoItem;
-    };
-    let u = &t[after..];
-    let BodyField::Body { next: end } = fields::body_field(u, tags::REQUEST_PAYLOAD) else {
-        return ItemRead::NoItem;
-    };
-    if end != u.len() {
-        return ItemRead::NoItem;
-    }
-    ItemRead::Item {
-        operation: operation as u32,
-        id: next + 8,
-        len,
-        payload: next + after + 8,
-    }
+    let (operation, rest) = run.word(tags::OPERATION, ttlv_types::ENUMERATION)?;
+    let (id, rest) = read_id(rest)?;
+    let (payload, rest) = rest.body(tags::REQUEST_PAYLOAD)?;
+    rest.end()?;
+    Some((operation, id, payload))
 }
 
-// How many batch items a run has. The frame's reader shows that it is a run.
-pub fn count_items(s: &[u8]) -> ItemsRead
-    requires { is_run s.now ≡ true }
-    ensures { result ≡ items_read (items_in (tree_of s.now)) }
+// How many batch items a run has, if it has nothing else.
+pub fn count_items(run: Run<'_>) -> Option<usize>
+    ensures { result ≡ items_read (items_in (tree_of run.entry.bytes.now)) }
 {
-    let mut t = s;
+    let mut rest = run;
     let mut count: usize = 0;
-    while t.len() != 0 {
-        let BodyField::Body { next } = fields::body_field(t, tags::BATCH_ITEM) else {
-            return ItemsRead::NoItems;
-        };
-        let ItemRead::Item {
-            operation: _,
-            id: _,
-            len: _,
-            payload: _,
-        } = find_item(&t[8..next])
-        else {
-            return ItemsRead::NoItems;
-        };
-        t = &t[next..];
+    while !rest.is_empty() {
+        let (item, behind) = rest.body(tags::BATCH_ITEM)?;
+        find_item(item)?;
+        rest = behind;
         count += 1;
     }
-    ItemsRead::Items { count }
+    Some(count)
 }
 
 // An ID as the struct that carries it. `read_item` shows that it has at most 16 bytes.
@@ -151,23 +97,16 @@ pub fn read_item(body: &[u8]) -> ItemParts
     requires { (is_run body.now ≡ true) × (is_some (item_in (tree_of body.now)) ≡ true) }
     ensures { result ≡ parts_of body.now }
 {
-    let ItemRead::Item {
-        operation,
-        id,
-        len,
-        payload,
-    } = find_item(body)
-    else {
+    let Some((operation, id, payload)) = find_item(Run { bytes: body }) else {
         return ItemParts {
             operation: 0,
             id: take_id(&body[..0]),
             payload: 0,
         };
     };
-    let end = id + len;
     ItemParts {
         operation,
-        id: take_id(&body[id..end]),
-        payload,
+        id: take_id(id),
+        payload: body.len() - payload.bytes.len(),
     }
 }

@@ -4,7 +4,7 @@ use Prim.Native.Nat.{ℕ, ◌^◌, ◌≤◌, ◌<◌}
 use mathlib.Core.Path.{◌≡◌, refl, sym, ap, ◌∙◌, subst}
 use mathlib.Core.Logic.{◌⊎◌, inl, inr, ⊎_elim}
 use mathlib.Core.Bool.{true}
-use mathlib.Core.Option.{Option, none, some}
+use Rattle.std.specs.Prelude.{Option, None, Some}
 use native.Mathlib.Omega.{arith}
 use lib.Dec.{leb, ltb}
 use borrow.Author.Tests.{eqb-true, leb-true, ltb-true}
@@ -14,7 +14,6 @@ use Rattle.values.specs.Values.{bits_ok, mask_ok, unit_ok, total_ok}
 use Rattle.rules.specs.declared.Attributes.{Attributes}
 use Rattle.rules.specs.Numbers.{create, locate, rekey, get, get_attributes, get_usage_allocation, activate, revoke, destroy}
 use Rattle.keeps.proofs.Begun.{Allowed}
-use Rattle.rules.specs.declared.Offset.{Offset}
 use Rattle.target_read.specs.declared.Target.{Target}
 use Rattle.payload.specs.declared.Command.{Command}
 use Rattle.payload.specs.declared.Command.TheVariants.{Unsupported, Invalid, Create, Rekey, GetUsageAllocation, Activate, Revoke, Destroy, GetAttributes, Get, Locate}
@@ -26,7 +25,8 @@ use Rattle.names.proofs.Stored.{NameRange, none_range}
 use Rattle.names.proofs.Texts.{of_range, of_shape, of_text, ok_bytes, none_shape, none_text}
 use Rattle.name_read.specs.Name.{name_body, name_first, or_no_name, last_name_in}
 use Rattle.tags.specs.Tags.{activation_date, deactivation_date, name_tag, usage_limits}
-use Rattle.attributes_read.specs.Attributes.{Limit, limit_in, limit_first, date_first, or_unset, dated_in, wanted_of, limited_in, masked_in, attributes_in}
+use Rattle.attributes_read.specs.declared.Limit.{Limit}
+use Rattle.attributes_read.specs.Attributes.{limit_in, limit_first, date_first, or_unset, dated_in, wanted_of, limited_in, masked_in, attributes_in}
 use Rattle.payload.specs.Payload.{create_in, or_invalid, command}
 use Rattle.payload.specs.Reasons.{operation_of, reason_of}
 use Rattle.payload.proofs.Commands.{of_create}
@@ -39,7 +39,7 @@ pub data Commanded (operation : ℕ) : Command → Type 0 where
   not_supported : Commanded operation Unsupported
   not_valid : Commanded operation Invalid
   to_create : {wanted : Attributes} → operation ≡ create → Allowed wanted → Commanded operation (Create wanted)
-  to_rekey : {target : Target} {offset : Offset} → operation ≡ rekey → Commanded operation (Rekey target offset)
+  to_rekey : {target : Target} {offset : Option ℕ} → operation ≡ rekey → Commanded operation (Rekey target offset)
   to_allocate : {target : Target} {amount : ℕ} → operation ≡ get_usage_allocation → Commanded operation (GetUsageAllocation target amount)
   to_activate : {target : Target} → operation ≡ activate → Commanded operation (Activate target)
   to_revoke : {target : Target} {code : ℕ} → operation ≡ revoke → Commanded operation (Revoke target code)
@@ -50,7 +50,7 @@ pub data Commanded (operation : ℕ) : Command → Type 0 where
 
 -- ---- Create
 
-pub limit_ok : (t : Items) (limit : Limit) → limit_in t ≡ some limit → (unit_ok limit.unit ≡ true) × (total_ok limit.total ≡ true)
+pub limit_ok : (t : Items) (limit : Limit) → limit_in t ≡ Some limit → (unit_ok limit.unit ≡ true) × (total_ok limit.total ≡ true)
 unfolding limit_in
 limit_ok t limit h =
     on_bind h λ a e1 h1. on_test h1 λ total h2. on_bind h2 λ b e2 h3. on_test h3 λ unit h4. on_test h4 λ end h5.
@@ -69,25 +69,25 @@ record Called (m : Name) : Type 0 where
   is : text (name_text m) ≡ true
 
 wanted_ok : (bits mask activation deactivation : ℕ) (name : Name) → bits_ok bits ≡ true → mask_ok mask ≡ true → Dates activation deactivation → Called name → (o : Option Limit)
-    → ((limit : Limit) → o ≡ some limit → (unit_ok limit.unit ≡ true) × (total_ok limit.total ≡ true)) → Allowed (wanted_of bits mask o activation deactivation name)
+    → ((limit : Limit) → o ≡ Some limit → (unit_ok limit.unit ≡ true) × (total_ok limit.total ≡ true)) → Allowed (wanted_of bits mask o activation deactivation name)
 unfolding wanted_of
-wanted_ok bits mask activation deactivation name b m d c none h =
+wanted_ok bits mask activation deactivation name b m d c None h =
     record { bits = b; mask = m; limit = inl (refl, refl); activation = d.activation; deactivation = d.deactivation; order = d.order; name = c.range; shape = c.shape; text = c.is }
-wanted_ok bits mask activation deactivation name b m d c (some limit) h =
+wanted_ok bits mask activation deactivation name b m d c (Some limit) h =
     record { bits = b; mask = m; limit = inr (h limit refl); activation = d.activation; deactivation = d.deactivation; order = d.order; name = c.range; shape = c.shape; text = c.is }
 
 -- a name that is given is text of 1 to 32 bytes, and one that is not is none
-body_ok : (t : Items) (m : Name) → name_body t ≡ some m → Called m
+body_ok : (t : Items) (m : Name) → name_body t ≡ Some m → Called m
 unfolding name_body
 body_ok t m h =
     on_bind h λ v e1 h1. on_test h1 λ ok h2. on_bind h2 λ kind e2 h3. on_test h3 λ one h4. on_test h4 λ end h5.
     subst Called (some_is h5) (record { range = of_range v.0 (ok_bytes v.0 ok); shape = of_shape v.0 ok; is = of_text v.0 ok })
 
-name_first_ok : (t : Items) {a : Name × Items} → name_first t ≡ some a → Called a.0
+name_first_ok : (t : Items) {a : Name × Items} → name_first t ≡ Some a → Called a.0
 unfolding name_first
 name_first_ok t h = on_bind h λ b e1 h1. on_bind h1 λ m e2 h2. subst (λ (p : Name × Items). Called p.0) (some_is h2) (body_ok b.0 m e2)
 
-name_ok_lem : (t : Items) {m : Name} → last_name_in t ≡ some m → Called m
+name_ok_lem : (t : Items) {m : Name} → last_name_in t ≡ Some m → Called m
 unfolding last_name_in or_no_name
 name_ok_lem t h =
     on_bind h λ a e1 h1. on_test h1 λ end h2.
@@ -97,14 +97,14 @@ name_ok_lem t h =
     (λ m rest e. name_first_ok t e))
 
 -- a date that is given is above 0, and one that is not is 0
-date_ok : (tag : ℕ) (t : Items) {a : Option ℕ × Items} → optional tag (date_first tag) t ≡ some a → or_unset a.0 < 2 ^ 63
+date_ok : (tag : ℕ) (t : Items) {a : Option ℕ × Items} → optional tag (date_first tag) t ≡ Some a → or_unset a.0 < 2 ^ 63
 unfolding or_unset date_first
 date_ok tag t h =
     on_optional tag (date_first tag) t (λ (p : Option ℕ × Items). or_unset p.0 < 2 ^ 63) h (omega arith)
     (λ date rest e. on_bind e λ a e1 h1. on_test h1 λ above h2.
     subst (λ (p : ℕ × Items). p.0 < 2 ^ 63) (some_is h2) (ltb-true a.0 (2 ^ 63) (and_r (leb 1 a.0) (ltb a.0 (2 ^ 63)) above)))
 
-dated_ok : (t : Items) {a : ℕ × ℕ × Name} → dated_in t ≡ some a → Dates a.0 a.1 × Called a.2
+dated_ok : (t : Items) {a : ℕ × ℕ × Name} → dated_in t ≡ Some a → Dates a.0 a.1 × Called a.2
 unfolding dated_in
 dated_ok t h =
     on_bind h λ a e1 h1. on_bind h1 λ d e2 h2. on_test h2 λ order h3. on_bind h3 λ m e4 h4.
@@ -117,24 +117,24 @@ dated_ok t h =
       name_ok_lem d.1 e4,
     )
 
-first_ok : (mask : ℕ) (t : Items) (a : Limit × Items) → limit_first mask t ≡ some a → (unit_ok a.0.unit ≡ true) × (total_ok a.0.total ≡ true)
+first_ok : (mask : ℕ) (t : Items) (a : Limit × Items) → limit_first mask t ≡ Some a → (unit_ok a.0.unit ≡ true) × (total_ok a.0.total ≡ true)
 unfolding limit_first
 first_ok mask t a h =
     on_test h λ protected h0. on_bind h0 λ b e1 h1. on_bind h1 λ limit e2 h2.
     subst (λ (p : Limit × Items). (unit_ok p.0.unit ≡ true) × (total_ok p.0.total ≡ true)) (some_is h2) (limit_ok b.0 limit e2)
 
-masked_ok : (bits : ℕ) (t : Items) (wanted : Attributes) → bits_ok bits ≡ true → masked_in bits t ≡ some wanted → Allowed wanted
+masked_ok : (bits : ℕ) (t : Items) (wanted : Attributes) → bits_ok bits ≡ true → masked_in bits t ≡ Some wanted → Allowed wanted
 unfolding masked_in limited_in
 masked_ok bits t wanted good h =
     on_bind h λ m e1 h1. on_test h1 λ mask h2. on_bind h2 λ l e2 h3. on_bind h3 λ dates e3 h4.
     let right = dated_ok l.1 e3 in
     subst Allowed (some_is h4)
     (on_optional usage_limits (limit_first m.0) m.1 (λ (p : Option Limit × Items). Allowed (wanted_of bits m.0 p.0 dates.0 dates.1 dates.2)) e2
-    (wanted_ok bits m.0 dates.0 dates.1 dates.2 good mask right.0 right.1 none (λ limit z. absurd (not_some z)))
-    (λ x rest e. wanted_ok bits m.0 dates.0 dates.1 dates.2 good mask right.0 right.1 (some x)
+    (wanted_ok bits m.0 dates.0 dates.1 dates.2 good mask right.0 right.1 None (λ limit z. absurd (not_some z)))
+    (λ x rest e. wanted_ok bits m.0 dates.0 dates.1 dates.2 good mask right.0 right.1 (Some x)
     (λ limit z. subst (λ (y : Limit). (unit_ok y.unit ≡ true) × (total_ok y.total ≡ true)) (some_is z) (first_ok m.0 m.1 (x, rest) e))))
 
-attributes_ok : (t : Items) (wanted : Attributes) → attributes_in t ≡ some wanted → Allowed wanted
+attributes_ok : (t : Items) (wanted : Attributes) → attributes_in t ≡ Some wanted → Allowed wanted
 unfolding attributes_in
 attributes_ok t wanted h =
     on_bind h λ a e1 h1. on_test h1 λ algorithm h2. on_bind h2 λ b e2 h3. on_test h3 λ bits h4. masked_ok b.0 b.1 wanted bits h4
@@ -143,11 +143,11 @@ create_ok : (t : Items) (wanted : Attributes) → or_invalid (create_in t) ≡ C
 unfolding create_in or_invalid
 create_ok t wanted h =
     on_bind (read (create_in t) h) λ a e1 h1. on_test h1 λ kind h2. on_bind h2 λ b e2 h3. on_test h3 λ end h4. on_bind h4 λ v e4 h5.
-    attributes_ok b.0 wanted (e4 ∙ ap (λ (x : Attributes). some x) (made (some_is h5)))
+    attributes_ok b.0 wanted (e4 ∙ ap (λ (x : Attributes). Some x) (made (some_is h5)))
   where
-    read : (o : Option Command) → or_invalid o ≡ Create wanted → o ≡ some (Create wanted)
-    read none z = let y : ◌≡◌ {A = ℕ} 0 1 = cc in absurd (omega arith)
-    read (some c) z = ap (λ (x : Command). some x) z
+    read : (o : Option Command) → or_invalid o ≡ Create wanted → o ≡ Some (Create wanted)
+    read None z = let y : ◌≡◌ {A = ℕ} 0 1 = cc in absurd (omega arith)
+    read (Some c) z = ap (λ (x : Command). Some x) z
 
     made : {v : Attributes} → Create v ≡ Create wanted → v ≡ wanted
     made z = cc
@@ -156,7 +156,7 @@ create_ok t wanted h =
 
 module _ (operation : ℕ) (t : Items) where
   -- a command that does not fail by itself is of the operation that asked for it
-  is : {c : Command} {n : ℕ} → command operation t ≡ c → reason_of c ≡ none → operation_of c ≡ some n → operation ≡ n
+  is : {c : Command} {n : ℕ} → command operation t ≡ c → reason_of c ≡ None → operation_of c ≡ Some n → operation ≡ n
   is e r o = some_is (sym (command_operation operation t (ap reason_of e ∙ r)) ∙ ap operation_of e ∙ o)
 
   by_command : (c : Command) → command operation t ≡ c → Commanded operation c

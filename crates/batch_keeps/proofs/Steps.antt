@@ -1,5 +1,6 @@
 -- An item on a sound table leaves a sound table, and its answer is one that a response may have.
 -- Assumes nothing.
+use Rattle.std.specs.Prelude.{Option, None, Some}
 use Prim.Native.Nat.{ℕ, ◌/◌, ◌^◌, ◌≤◌, ◌<◌}
 use native.Mathlib.Omega.{arith}
 use mathlib.Core.Path.{◌≡◌, refl, sym, ap, ◌∙◌}
@@ -12,8 +13,6 @@ use borrow.Author.Tests.{le-leb, lt-ltb, eq-eqb, ne_eqb}
 use Rattle.octets.specs.If.{ifb}
 use Rattle.octets.specs.Octets.{Bytes, all_zero}
 use Rattle.table.specs.declared.Record.{Record}
-use Rattle.search.specs.declared.Found.{Found}
-use Rattle.search.specs.declared.Found.TheVariants.{At, Nothing}
 use Rattle.utf8.specs.Text.{text}
 use Rattle.names.specs.declared.Name.{Name}
 use Rattle.names.specs.Names.{no_name, name_text, name_of, shape_right}
@@ -42,7 +41,6 @@ use Rattle.keeps.proofs.Leaves.{moved_leaves, count_leaves, born_leaves, heir_le
 use Rattle.words.specs.Words.{words_of, word_bytes, words_ok}
 use Rattle.words.proofs.Laws.{words_back, words_fit}
 use Rattle.batch_item.specs.Item.{Asked, id_most}
-use Rattle.rules.specs.declared.Offset.{Offset}
 use Rattle.target_read.specs.declared.Target.{Target}
 use Rattle.payload.specs.declared.Command.{Command}
 use Rattle.payload.specs.declared.Command.TheVariants.{Create, Rekey, GetUsageAllocation, GetAttributes, Get, Locate}
@@ -58,7 +56,7 @@ use Rattle.batch_keeps.proofs.Commands.{Commanded, to_create, to_rekey, to_alloc
 create_allowed : {operation : ℕ} {wanted : Attributes} → Commanded operation (Create wanted) → (operation ≡ create) × Allowed wanted
 create_allowed (to_create o a) = (o, a)
 
-rekey_done : {operation : ℕ} {target : Target} {offset : Offset} → Commanded operation (Rekey target offset) → answers_done operation ≡ true
+rekey_done : {operation : ℕ} {target : Target} {offset : Option ℕ} → Commanded operation (Rekey target offset) → answers_done operation ≡ true
 rekey_done (to_rekey o) = rw o
 
 allocation_done : {operation amount : ℕ} {target : Target} → Commanded operation (GetUsageAllocation target amount) → answers_done operation ≡ true
@@ -144,10 +142,10 @@ key_ok_lem last r z g f =
 
 module _ (env : Env) (holder : ℕ) (t : List ℕ) (held : Held env.places t) (fresh_bytes : Bytes env.fresh) (long : material_size ≤ length env.fresh) where
   -- what a search found is a record of the table
-  found_serial : (s i : ℕ) → find env.places t s ≡ At i → (place_at env.places t i).serial ≡ 0 → ⊥
+  found_serial : (s i : ℕ) → find env.places t s ≡ Some i → (place_at env.places t i).serial ≡ 0 → ⊥
   found_serial s i e z = found_stands env.places t s i e (serial_is env.places t i ∙ z)
 
-  record_ok : (s i : ℕ) → find env.places t s ≡ At i → serial_ok (place_at env.places t i).serial ≡ true
+  record_ok : (s i : ℕ) → find env.places t s ≡ Some i → serial_ok (place_at env.places t i).serial ≡ true
   record_ok s i e =
       serial_ok_lem (place_at env.places t i).serial (found_serial s i e)
       (range env.places t held i (find_below env.places t s i e) (found_stands env.places t s i e)).serial
@@ -182,12 +180,12 @@ module _ (env : Env) (holder : ℕ) (t : List ℕ) (held : Held env.places t) (f
   kind_latest c did (locates name) m = refl
 
   -- what a search for a name found is a place of the table; 0 is answered for nothing
-  found_ok : (name : Name) (f : Found) → find_name env.places t name ≡ f → link_ok (serial_found t f) ≡ true
+  found_ok : (name : Name) (f : Option ℕ) → find_name env.places t name ≡ f → link_ok (serial_found t f) ≡ true
   unfolding serial_found
-  found_ok name (At i) e =
+  found_ok name (Some i) e =
       let last = last_fits env.places t held in
       link_ok_lem (serial_at t i) (omega (arith, (facts env.places t held).issued i (found_name_below env.places t name i e)))
-  found_ok name Nothing e = refl
+  found_ok name None e = refl
 
   kind_ok : {operation : ℕ} (c : Command) (did : Did) → Kind env holder t c did → Commanded operation c → outcome_ok operation did.outcome ≡ true
   unfolding outcome_ok create_plan rekey_plan locate_plan with_count moved_to with_dates in_state

@@ -30,5 +30,6 @@ pub fn run<R: Read>(rt: &impl Print, from: &mut R) -> io::Result<()> {
         &mut out,
         &mut undo,
     );
-    printlib::answer(rt, &out, served.number, served.length)
+    let (number, length) = refusal::told(served);
+    printlib::answer(rt, &out, number, length)
 }

@@ -2,29 +2,29 @@
 // Each function asks for a table of so many places, or for a place in it; `act` and `deeds` show it.
 #![tactic(auto)]
 
-ghost use Rattle.std.specs.Prelude.{◌≡◌};
+ghost use Rattle.std.specs.Prelude.{◌≡◌, Some};
 ghost use Rattle.table.specs.Layout.{Table, Place};
 ghost use Rattle.table.specs.Records.{place_at};
-ghost use Rattle.search.specs.declared.Found.TheVariants.{At};
 ghost use Rattle.changes.specs.Changes.{born_at};
 ghost use Rattle.plans.specs.Plans.{empty_holder, create_plan, rekey_plan, carried_out, in_places, leaves};
 ghost use Rattle.births.specs.Births.{TwoPlaces, place_for_new, linked_at, creating, replacing};
 
-use heirs::HeirDates;
+use heirs::Dates;
 use plans::{Outcome, Performed};
-use rules::{Attributes, Offset, Reason};
-use search::Found;
+use rules::{Attributes, Reason};
 use table::Record;
+
+// A table's bytes and its place count stay two parameters, as in `table`.
 
 const SERIAL_MOST: u32 = 4294967295;
 
 // Where a new object goes: nowhere if every serial is issued, else the table's place for a new key.
-fn place_for_new(t: &[u8], n: usize) -> Found
+fn place_for_new(t: &[u8], n: usize) -> Option<usize>
     requires { Table n t.now }
     ensures { result ≡ place_for_new n t.now }
 {
     if table::last_serial(t) == SERIAL_MOST {
-        return Found::Nothing;
+        return None;
     }
     search::new_place(t, n)
 }
@@ -32,7 +32,7 @@ fn place_for_new(t: &[u8], n: usize) -> Found
 // Stores a new record at place i; its serial is the last issued from then on.
 fn put_born(t: &mut [u8], n: usize, i: usize, born: Record)
     requires { Place n t.old i }
-    ensures { t.new ≡ born_at n t.old born (At i) }
+    ensures { t.new ≡ born_at n t.old born (Some i) }
 {
     let serial = born.serial;
     records_write::store(t, n, i, born);
@@ -42,7 +42,7 @@ fn put_born(t: &mut [u8], n: usize, i: usize, born: Record)
 // Lets the record at place i name its replacement, and stores that at a place of its own.
 fn put_heir(t: &mut [u8], n: usize, i: usize, place: usize, heir: Record)
     requires { TwoPlaces n t.old i place }
-    ensures { t.new ≡ born_at n (linked_at n t.old i heir) heir (At place) }
+    ensures { t.new ≡ born_at n (linked_at n t.old i heir) heir (Some place) }
 {
     let old = records::load(t, n, i);
     let linked = heirs::linked_to(heir.serial, old);
@@ -56,7 +56,7 @@ fn create_new(t: &mut [u8], n: usize, wanted: Attributes, fresh: &[u8]) -> Perfo
     ensures { leaves result t.new ≡ creating n fresh.now t.old wanted (place_for_new n t.old) }
 {
     match place_for_new(t, n) {
-        Found::At(i) => {
+        Some(i) => {
             let serial = table::last_serial(t) + 1;
             let born = new_records::new_record(serial, wanted, fresh);
             put_born(t, n, i, born);
@@ -65,7 +65,7 @@ fn create_new(t: &mut [u8], n: usize, wanted: Attributes, fresh: &[u8]) -> Perfo
                 holder: serial,
             }
         }
-        Found::Nothing => plans::fail(Reason::ServerLimitExceeded),
+        None => plans::fail(Reason::ServerLimitExceeded),
     }
 }
 
@@ -88,30 +88,36 @@ fn replace_at(
     n: usize,
     i: usize,
     old: Record,
-    activation: u64,
-    deactivation: u64,
+    dates: Dates,
     fresh: &[u8],
 ) -> Performed
     requires { Place n t.old i }
-    ensures { leaves result t.new ≡ replacing n fresh.now t.old i old activation deactivation (place_for_new n t.old) }
+    ensures { leaves result t.new ≡ replacing n fresh.now t.old i old dates (place_for_new n t.old) }
 {
     match place_for_new(t, n) {
-        Found::At(place) => {
+        Some(place) => {
             let serial = table::last_serial(t) + 1;
             let clock = table::latest_clock(t);
-            let heir = heirs::heir_of(serial, clock, activation, deactivation, old, fresh);
+            let heir = heirs::heir_of(
+                serial,
+                clock,
+                dates.activation,
+                dates.deactivation,
+                old,
+                fresh,
+            );
             put_heir(t, n, i, place, heir);
             Performed {
                 outcome: Outcome::Done { serial },
                 holder: serial,
             }
         }
-        Found::Nothing => plans::fail(Reason::ServerLimitExceeded),
+        None => plans::fail(Reason::ServerLimitExceeded),
     }
 }
 
 // Re-key of the record at place i, at the clock that the table keeps.
-pub fn rekey_at(t: &mut [u8], n: usize, i: usize, offset: Offset, fresh: &[u8]) -> Performed
+pub fn rekey_at(t: &mut [u8], n: usize, i: usize, offset: Option<u32>, fresh: &[u8]) -> Performed
     requires { Place n t.old i }
     ensures { leaves result t.new ≡ carried_out t.old (rekey_plan (in_places n fresh.now) empty_holder t.old offset i (place_at n t.old i)) }
 {
@@ -123,10 +129,7 @@ pub fn rekey_at(t: &mut [u8], n: usize, i: usize, offset: Offset, fresh: &[u8]) 
         return plans::fail(Reason::PermissionDenied);
     }
     match heirs::heir_dates(table::latest_clock(t), offset, old) {
-        HeirDates::Dated {
-            activation,
-            deactivation,
-        } => replace_at(t, n, i, old, activation, deactivation, fresh),
-        HeirDates::OffsetWrong => plans::fail(Reason::InvalidField),
+        Some(dates) => replace_at(t, n, i, old, dates, fresh),
+        None => plans::fail(Reason::InvalidField),
     }
 }

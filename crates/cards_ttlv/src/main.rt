@@ -6,7 +6,6 @@
 // error.
 #![tactic(auto)]
 
-use hex_text::Bytes;
 use std::io;
 
 // The most bytes that a card has.
@@ -35,7 +34,7 @@ fn card(rt: &impl Print, line: &[u8]) -> io::Result<bool> {
     }
     let from = lines::past(line, stop);
     let mut bytes = [0u8; CARD_MOST];
-    let Bytes::Count(n) = hex_text::bytes_in(&line[from..], &mut bytes) else {
+    let Some(n) = hex_text::bytes_in(&line[from..], &mut bytes) else {
         return Ok(false);
     };
     printlib::name(rt, &line[..stop])?;
@@ -56,12 +55,8 @@ fn one_line(rt: &impl Print, line: &[u8]) -> io::Result<()> {
 
 // All lines of a text.
 fn cards(rt: &impl Print, text: &[u8]) -> io::Result<()> {
-    let mut left = text;
-    while 0 < left.len() {
-        let end = lines::find(left, b'\n');
-        one_line(rt, &left[..end])?;
-        let from = lines::past(left, end);
-        left = &left[from..];
+    for line in text.split(|b| *b == b'\n') {
+        one_line(rt, line)?;
     }
     Ok(())
 }

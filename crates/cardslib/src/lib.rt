@@ -7,9 +7,7 @@
 ghost use Rattle.std.specs.Prelude.{◌≡◌};
 ghost use Rattle.cardslib.specs.Usual.{usual_setting};
 
-use commands::{Buffer, Done, Setting};
-use hex_text::Bytes;
-use script::{Number, Span};
+use commands::{Buffer, Setting};
 use script_verbs::Verb;
 use std::io;
 use std::io::Read;
@@ -46,42 +44,27 @@ fn usual(size: usize) -> Setting
 
 // `blank`, `blank COUNT`: the table, the output, the second buffer and the setting as they are at
 // first.
-fn blank(
-    rest: &[u8],
-    table: &mut [u8],
-    out: &mut [u8],
-    second: &mut [u8],
-    setting: Setting,
-) -> Done {
-    let refused = Done {
-        good: false,
-        setting,
-    };
-    let Number::Is(n) = commands::places_in(rest) else {
-        return refused;
-    };
+fn blank(rest: &[u8], table: &mut [u8], out: &mut [u8], second: &mut [u8]) -> Option<Setting> {
+    let n = commands::places_in(rest)?;
     let size = Layout { places: n }.size();
     if table.len() < size {
-        return refused;
+        return None;
     }
     lent::fill(table, 0);
     lent::blank_over(&mut table[..size], n);
     lent::fill(out, UNTOUCHED);
     lent::fill(second, SECOND_UNTOUCHED);
-    Done {
-        good: true,
-        setting: usual(size),
-    }
+    Some(usual(size))
 }
 
 // `put OFFSET HEX`: bytes laid over the table, all of them or none.
 fn put(rest: &[u8], table: &mut [u8]) -> bool {
     let gap = lines::find(rest, b' ');
-    let Number::Is(at) = script::number_in(&rest[..gap]) else {
+    let Some(at) = script::number_in(&rest[..gap]) else {
         return false;
     };
     let mut bytes = [0u8; Layout::LARGE_SIZE];
-    let Bytes::Count(n) = hex_text::bytes_in(&rest[gap..], &mut bytes) else {
+    let Some(n) = hex_text::bytes_in(&rest[gap..], &mut bytes) else {
         return false;
     };
     if n == 0 {
@@ -102,7 +85,7 @@ fn put(rest: &[u8], table: &mut [u8]) -> bool {
 fn show(rt: &impl Print, rest: &[u8], s: &[u8]) -> io::Result<bool> {
     let stop = lines::name_end(rest);
     let from = lines::past(rest, lines::past(rest, stop));
-    let Span::Of { at, len } = script::span_in(&rest[from..]) else {
+    let Some(script::Span { at, len }) = script::span_in(&rest[from..]) else {
         return Ok(false);
     };
     if s.len() < at {
@@ -152,7 +135,8 @@ fn answer(
         &mut out[..room],
         &mut second[..undo],
     );
-    printlib::answer(rt, out, served.number, served.length)
+    let (number, length) = refusal::told(served);
+    printlib::answer(rt, out, number, length)
 }
 
 // `request NAME: HEX`: serves these bytes.
@@ -171,7 +155,7 @@ fn request(
     }
     let from = lines::past(rest, stop);
     let mut bytes = [0u8; REQUEST_ROOM];
-    let Bytes::Count(n) = hex_text::bytes_in(&rest[from..], &mut bytes) else {
+    let Some(n) = hex_text::bytes_in(&rest[from..], &mut bytes) else {
         return Ok(false);
     };
     printlib::name(rt, &rest[..stop])?;
@@ -179,7 +163,7 @@ fn request(
     Ok(true)
 }
 
-// One command carried out.
+// One command carried out: the setting after it, if the line is one of a script.
 fn carry_out(
     rt: &impl Print,
     line: &[u8],
@@ -188,44 +172,26 @@ fn carry_out(
     out: &mut [u8],
     second: &mut [u8],
     s: Setting,
-) -> io::Result<Done> {
+) -> io::Result<Option<Setting>> {
     let gap = lines::find(line, b' ');
     let verb = script_verbs::verb_of(&line[..gap]);
     let from = lines::past(line, gap);
     let rest = &line[from..];
-    let done = match verb {
-        Verb::Blank => blank(rest, table, out, second, s),
-        Verb::Put => Done {
-            good: put(rest, table),
-            setting: s,
-        },
+    let next = match verb {
+        Verb::Blank => blank(rest, table, out, second),
+        Verb::Put => put(rest, table).then_some(s),
         Verb::Clock => commands::set_clock(rest, s),
         Verb::Size => commands::lend(rest, Buffer::Table, s),
         Verb::Strip => commands::lend(rest, Buffer::Strip, s),
         Verb::Room => commands::lend(rest, Buffer::Output, s),
-        Verb::Request => Done {
-            good: request(rt, rest, table, strip, out, second, s)?,
-            setting: s,
-        },
-        Verb::Table => Done {
-            good: show(rt, rest, table)?,
-            setting: s,
-        },
-        Verb::Output => Done {
-            good: show(rt, rest, out)?,
-            setting: s,
-        },
+        Verb::Request => request(rt, rest, table, strip, out, second, s)?.then_some(s),
+        Verb::Table => show(rt, rest, table)?.then_some(s),
+        Verb::Output => show(rt, rest, out)?.then_some(s),
         Verb::Undo => commands::lend(rest, Buffer::Second, s),
-        Verb::Second => Done {
-            good: show(rt, rest, second)?,
-            setting: s,
-        },
-        Verb::Unknown => Done {
-            good: false,
-            setting: s,
-        },
+        Verb::Second => show(rt, rest, second)?.then_some(s),
+        Verb::Unknown => None,
     };
-    Ok(done)
+    Ok(next)
 }
 
 // One line: the setting after it.
@@ -241,11 +207,11 @@ fn one_line(
     if lines::is_silent(line) {
         return Ok(s);
     }
-    let done = carry_out(rt, line, table, strip, out, second, s)?;
-    if !done.good {
+    let Some(next) = carry_out(rt, line, table, strip, out, second, s)? else {
         printlib::bad_line(rt, line)?;
-    }
-    Ok(done.setting)
+        return Ok(s);
+    };
+    Ok(next)
 }
 
 // All lines of a text, from this setting on.
@@ -260,6 +226,7 @@ fn script(
 ) -> io::Result<()> {
     let mut s = first;
     let mut left = text;
+    // by hand: with `split` the check gives no proof, where a loop lends so many slices on
     while 0 < left.len() {
         let end = lines::find(left, b'\n');
         s = one_line(rt, &left[..end], table, strip, out, second, s)?;
@@ -282,13 +249,6 @@ pub fn run<R: Read>(rt: &impl Print, from: &mut R) -> io::Result<()> {
     lent::fill_strip(&mut strip);
     let mut out = [0u8; OUTPUT_ROOM];
     let mut second = [0u8; SECOND_ROOM];
-    let first = blank(
-        b"",
-        &mut table,
-        &mut out,
-        &mut second,
-        usual(Layout::SMALL_SIZE),
-    );
-    let s = first.setting;
+    let s = blank(b"", &mut table, &mut out, &mut second).unwrap_or(usual(Layout::SMALL_SIZE));
     script(rt, &text[..n], &mut table, &strip, &mut out, &mut second, s)
 }

@@ -3,7 +3,7 @@
 use mathlib.Core.Path.{◌≡◌, refl}
 use Prim.Native.Nat.{ℕ, ◌+◌}
 use mathlib.Core.Bool.{Bool, true, ◌&&◌}
-use mathlib.Core.Option.{some}
+use Rattle.std.specs.Prelude.{Some}
 use mathlib.Core.List.{List, [], ◌∷◌, ◌++◌, map}
 use lib.ListN.{replicate, set}
 use Rattle.octets.specs.If.{ifb}
@@ -167,28 +167,28 @@ faulty =
 
 -- what is wrong with each
 pub faults : map (first_fault 4) faulty
-    ≡ some (whole 1)
-    ∷ some (whole 2)
-    ∷ some (at_place 3 3)
-    ∷ some (at_place 4 1)
-    ∷ some (at_place 5 1)
-    ∷ some (at_place 6 2)
-    ∷ some (at_place 7 1)
-    ∷ some (at_place 8 2)
-    ∷ some (at_place 9 1)
-    ∷ some (at_place 10 2)
-    ∷ some (at_place 11 1)
-    ∷ some (at_place 12 2)
-    ∷ some (at_place 13 2)
-    ∷ some (at_place 14 1)
-    ∷ some (at_place 15 2)
-    ∷ some (at_place 16 1)
-    ∷ some (whole 17)
-    ∷ some (at_place 18 2)
-    ∷ some (at_place 19 1)
-    ∷ some (at_place 20 2)
-    ∷ some (at_place 21 1)
-    ∷ some (at_place 22 1)
+    ≡ Some (whole 1)
+    ∷ Some (whole 2)
+    ∷ Some (at_place 3 3)
+    ∷ Some (at_place 4 1)
+    ∷ Some (at_place 5 1)
+    ∷ Some (at_place 6 2)
+    ∷ Some (at_place 7 1)
+    ∷ Some (at_place 8 2)
+    ∷ Some (at_place 9 1)
+    ∷ Some (at_place 10 2)
+    ∷ Some (at_place 11 1)
+    ∷ Some (at_place 12 2)
+    ∷ Some (at_place 13 2)
+    ∷ Some (at_place 14 1)
+    ∷ Some (at_place 15 2)
+    ∷ Some (at_place 16 1)
+    ∷ Some (whole 17)
+    ∷ Some (at_place 18 2)
+    ∷ Some (at_place 19 1)
+    ∷ Some (at_place 20 2)
+    ∷ Some (at_place 21 1)
+    ∷ Some (at_place 22 1)
     ∷ []
 unfolding ifb be from_be from_be_after all line body record_of place_at with_place serial_at last_serial with_last places_said latest_clock with_clock blank first_from is_nothing find size_right count_right latest_right free_right zeros_right distinct_right issued_right state_right bits_right mask_right limit_right tail_right wiped_right replaced_right replacement_right dates_right order_right started_right if_stands links_right breaks_free breaks_standing or_later fault_from first_fault words_of word_bytes filled text name_field stored_name name_text name_of same_name shape_right name_at name_right name_text_right names_differ
 faults = refl

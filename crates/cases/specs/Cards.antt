@@ -1,7 +1,7 @@
 -- 01, "Bench cards": the cases marked P, as one list of tests over the definitions, at clock 1. Requests and responses stand as bytes.
 -- Assumes nothing. The bytes were worked out from the papers and not from these definitions.
 use Rattle.std.specs.Prelude.{ℕ, zero, suc, Bool, true, false, not, ◌&&◌, List, [], ◌∷◌, ◌++◌, length, take, replicate, eqb}
-use Rattle.std.proofs.Math.Option.{Option, none, some}
+use Rattle.std.specs.Prelude.{Option, None, Some}
 use Rattle.octets.specs.Maybe.{is_some}
 use Rattle.octets.specs.Octets.{from_be, part, same, counted_from}
 use Rattle.ttlv.specs.Items.{Items, nil, value, group, encode}
@@ -26,8 +26,8 @@ same_items (group tag body rest) (group tag2 body2 rest2) = eqb tag tag2 && same
 
 -- these items were read
 unfoldable pub is_read : Items → Option Items → Bool
-is_read t none = false
-is_read t (some u) = same_items t u
+is_read t None = false
+is_read t (Some u) = same_items t u
 
 -- bytes that read as this one item
 abbrev pub reads_as : List ℕ → Items → Bool

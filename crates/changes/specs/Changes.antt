@@ -1,9 +1,8 @@
 -- 01, "Operations": what becomes of the table, and when no new object can be taken in.
 -- Assumes nothing.
+use Rattle.std.specs.Prelude.{Option, None, Some}
 use Rattle.std.specs.Prelude.{ℕ, ◌+◌, Bool, ◌||◌, List, eqb}
 use Rattle.table.specs.declared.Record.{Record}
-use Rattle.search.specs.declared.Found.{Found}
-use Rattle.search.specs.declared.Found.TheVariants.{At, Nothing}
 use Rattle.table.specs.Records.{place_at, with_place, last_serial, with_last}
 use Rattle.search.specs.Search.{is_nothing, new_place}
 use Rattle.heirs.specs.Heirs.{linked_to}
@@ -21,9 +20,9 @@ abbrev pub next_serial : List ℕ → ℕ
 next_serial t = last_serial t + 1
 
 -- a new record stored in a place, "from then on the last issued"
-unfoldable pub born_at : ℕ → List ℕ → Record → Found → List ℕ
-born_at n t r Nothing = t
-born_at n t r (At i) = with_last (with_place n t i r) r.serial
+unfoldable pub born_at : ℕ → List ℕ → Record → Option ℕ → List ℕ
+born_at n t r None = t
+born_at n t r (Some i) = with_last (with_place n t i r) r.serial
 
 -- the table with a new record in the place that is due
 unfoldable pub with_born : ℕ → List ℕ → Record → List ℕ

@@ -9,6 +9,8 @@ ghost use Rattle.octets.specs.If.{ifb};
 
 use table::Record;
 
+// Operation, code and state stay numbers: `moved_to` answers for any.
+
 // Whether an operation is a Revoke that is no compromise, which sets the deactivation date.
 fn stops(operation: u32, code: u32) -> bool
     ensures { result ≡ stops operation code }

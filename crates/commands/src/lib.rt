@@ -6,7 +6,6 @@ ghost use Rattle.std.specs.Prelude.{◌≡◌, replicate};
 ghost use Rattle.script.specs.Numbers.{number_in, clock_in};
 ghost use Rattle.commands.specs.Commands.{with_clock, lending, places_in};
 
-use script::{Clock, Number};
 use table::Layout;
 
 // The bytes of room for a script: one more than the longest.
@@ -32,13 +31,6 @@ pub struct Setting {
     pub undo: usize,
 }
 
-// What a line comes to: whether it is one of a script, and the setting after it.
-#[derive(Clone, Copy)]
-pub struct Done {
-    pub good: bool,
-    pub setting: Setting,
-}
-
 // Room for a script, all zero.
 pub fn script_room() -> [u8; SCRIPT_ROOM]
     ensures { result ≡ replicate 1048576 0 }
@@ -47,51 +39,36 @@ pub fn script_room() -> [u8; SCRIPT_ROOM]
 }
 
 // `blank`, `blank COUNT`: the place count, which is that of a small table where the line says none.
-pub fn places_in(rest: &[u8]) -> Number
+pub fn places_in(rest: &[u8]) -> Option<usize>
     ensures { result ≡ places_in rest.now }
 {
-    if rest.len() == 0 {
-        return Number::Is(Layout::SMALL_COUNT);
+    if rest.is_empty() {
+        return Some(Layout::SMALL_COUNT);
     }
-    let Number::Is(n) = script::number_in(rest) else {
-        return Number::NoNumber;
-    };
+    let n = script::number_in(rest)?;
     if (n == Layout::SMALL_COUNT) | (n == Layout::LARGE_COUNT) {
-        Number::Is(n)
+        Some(n)
     } else {
-        Number::NoNumber
+        None
     }
 }
 
-// `clock NUMBER`: the clock from here on.
-pub fn set_clock(rest: &[u8], setting: Setting) -> Done
+// `clock NUMBER`: the clock from here on, in the setting after the line, if it is one of a script.
+pub fn set_clock(rest: &[u8], setting: Setting) -> Option<Setting>
     ensures { result ≡ with_clock setting (clock_in rest.now) }
 {
-    let Clock::At(clock) = script::clock_in(rest) else {
-        return Done {
-            good: false,
-            setting,
-        };
-    };
+    let clock = script::clock_in(rest)?;
     let mut s = setting;
     s.clock = clock;
-    Done {
-        good: true,
-        setting: s,
-    }
+    Some(s)
 }
 
 // `size NUMBER`, `strip NUMBER`, `room NUMBER`, `undo NUMBER`: how many bytes of a buffer are lent
-// from here on.
-pub fn lend(rest: &[u8], buffer: Buffer, setting: Setting) -> Done
+// from here on, in the setting after the line, if it is one of a script.
+pub fn lend(rest: &[u8], buffer: Buffer, setting: Setting) -> Option<Setting>
     ensures { result ≡ lending buffer setting (number_in rest.now) }
 {
-    let Number::Is(n) = script::number_in(rest) else {
-        return Done {
-            good: false,
-            setting,
-        };
-    };
+    let n = script::number_in(rest)?;
     let mut s = setting;
     match buffer {
         Buffer::Table => s.size = n,
@@ -99,8 +76,5 @@ pub fn lend(rest: &[u8], buffer: Buffer, setting: Setting) -> Done
         Buffer::Output => s.room = n,
         Buffer::Second => s.undo = n,
     }
-    Done {
-        good: true,
-        setting: s,
-    }
+    Some(s)
 }

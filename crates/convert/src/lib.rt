@@ -43,10 +43,8 @@ fn fill(old: &[u8], new: &mut [u8], w: usize, n: usize)
 {
     let front = Layout::line(n);
     octets::put_all(new, 0, &old[..front]);
-    let mut i: usize = 0;
-    while i < n {
+    for i in 0..n {
         copy_body(old, new, w, n, i);
-        i += 1;
     }
 }
 

@@ -8,13 +8,17 @@ use Rattle.rules.specs.Numbers.{activate, pre_active, active, deactivated}
 abbrev pub has_come : ℕ → ℕ → Bool
 has_come clock date = leb 1 date && leb date clock
 
+-- the state that a date makes of a state: once it has come, `to` of `from`
+abbrev pub moved_by : ℕ → ℕ → ℕ → ℕ → ℕ → ℕ
+moved_by clock date from to state = ifb (eqb state from && has_come clock date) to state
+
 -- "every Pre-Active key whose set activation date is at or before the clock becomes Active"
 unfoldable pub started_state : ℕ → ℕ → ℕ → ℕ
-started_state clock activation state = ifb (eqb state pre_active && has_come clock activation) active state
+started_state clock activation state = moved_by clock activation pre_active active state
 
 -- "and then every Active key whose set deactivation date is at or before it becomes Deactivated"
 unfoldable pub stopped_state : ℕ → ℕ → ℕ → ℕ
-stopped_state clock deactivation state = ifb (eqb state active && has_come clock deactivation) deactivated state
+stopped_state clock deactivation state = moved_by clock deactivation active deactivated state
 
 -- the state that a key's dates make of its state
 unfoldable pub dated_state : ℕ → ℕ → ℕ → ℕ → ℕ

@@ -3,41 +3,34 @@
 #![tactic(auto)]
 
 ghost use Rattle.std.specs.Prelude.{◌≡◌};
-ghost use Rattle.date_rules.specs.Dates.{has_come, started_state, stopped_state, dated_state, is_late};
+ghost use Rattle.date_rules.specs.Dates.{has_come, moved_by, dated_state, is_late};
+
+// Operation and state stay numbers: `dated_state` and `is_late` answer for any.
 
 // Whether a date is set and has come.
 fn has_come(clock: u64, date: u64) -> bool
     ensures { result ≡ has_come clock date }
 {
-    (1 <= date) & (date <= clock)
+    (1..=clock).contains(&date)
 }
 
-// The state that an activation date makes of a state.
-fn started(clock: u64, activation: u64, state: u8) -> u8
-    ensures { result ≡ started_state clock activation state }
+// The state that a date makes of a state: once it has come, `to` of `from`.
+fn moved_by(clock: u64, date: u64, from: u8, to: u8, state: u8) -> u8
+    ensures { result ≡ moved_by clock date from to state }
 {
-    if (state == rules::PRE_ACTIVE) & has_come(clock, activation) {
-        return rules::ACTIVE;
+    if (state == from) & has_come(clock, date) {
+        to
+    } else {
+        state
     }
-    state
-}
-
-// The state that a deactivation date makes of a state.
-fn stopped(clock: u64, deactivation: u64, state: u8) -> u8
-    ensures { result ≡ stopped_state clock deactivation state }
-{
-    if (state == rules::ACTIVE) & has_come(clock, deactivation) {
-        return rules::DEACTIVATED;
-    }
-    state
 }
 
 // The state that a key's dates make of its state: first the activation, then the deactivation.
 pub fn dated_state(clock: u64, activation: u64, deactivation: u64, state: u8) -> u8
     ensures { result ≡ dated_state clock activation deactivation state }
 {
-    let now = started(clock, activation, state);
-    stopped(clock, deactivation, now)
+    let now = moved_by(clock, activation, rules::PRE_ACTIVE, rules::ACTIVE, state);
+    moved_by(clock, deactivation, rules::ACTIVE, rules::DEACTIVATED, now)
 }
 
 // Whether an operation is an Activate that comes when the key's deactivation date has come.

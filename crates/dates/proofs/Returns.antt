@@ -1,15 +1,15 @@
 -- What each return of the functions of this crate leaves, from what the functions that it called answered.
 -- Assumes nothing.
-use Prim.Native.Nat.{ℕ, ◌+◌, ◌-◌}
+use Prim.Native.Nat.{ℕ, ◌+◌, ◌-◌, ◌≤◌, ◌<◌, max}
 use native.Mathlib.Omega.{arith}
 use mathlib.Core.Path.{◌≡◌, sym, ap, ◌∙◌}
 use mathlib.Core.Bool.{Bool, true, false, not, ◌&&◌}
 use mathlib.Core.List.{List}
 use lib.Dec.{eqb, ltb}
-use borrow.Author.Tests.{eq-eqb, ne_eqb, not-true, not-false}
+use borrow.Author.Tests.{eq-eqb, ne_eqb, ltb-true, ltb-false, not-true, not-false}
 use Rattle.octets.specs.If.{ifb}
 use Rattle.octets.specs.Octets.{from_be, part}
-use Rattle.octets.proofs.If.{ifb_true, ifb_false}
+use Rattle.octets.proofs.If.{ifb_true, ifb_false, on_if}
 use Rattle.table.specs.declared.Record.{Record}
 use Rattle.table.specs.Layout.{line_start, body_start, state_in, activation_in, deactivation_in}
 use Rattle.table.specs.Records.{place_at, with_place, serial_at, latest_clock, with_clock}
@@ -60,9 +60,15 @@ module _ (n clock : ℕ) (t : List ℕ) (i : ℕ) (ripe : Bool) (is : ripe ≡ i
 pub left_start : (n clock : ℕ) (t : List ℕ) → left n clock 0 t ≡ ripe_from n clock 0 n t
 left_start n clock t = let z : n - 0 ≡ n = omega arith in ap (λ (k : ℕ). ripe_from n clock 0 k t) z
 
-pub begins : (n given : ℕ) (t : List ℕ) (latest clock : ℕ) → latest ≡ latest_clock t → clock ≡ ifb (ltb given latest) latest given → (u : List ℕ) → u ≡ with_clock t clock
+later_is : (given latest : ℕ) → max given latest ≡ ifb (ltb given latest) latest given
+later_is given latest =
+    on_if (λ (x : ℕ). max given latest ≡ x)
+    (λ e. let h : given < latest = ltb-true given latest e in omega arith)
+    (λ e. let h : latest ≤ given = ltb-false given latest e in omega arith)
+
+pub begins : (n given : ℕ) (t : List ℕ) (latest clock : ℕ) → latest ≡ latest_clock t → clock ≡ max given latest → (u : List ℕ) → u ≡ with_clock t clock
     → (t' : List ℕ) → t' ≡ ripe_from n clock 0 n u → (clock ≡ counted_clock given t) × (t' ≡ began n (counted_clock given t) t)
 unfolding counted_clock began
 begins n given t latest clock l c u s t' e =
-    let counted : clock ≡ counted_clock given t = c ∙ ap (λ (x : ℕ). ifb (ltb given x) x given) l in
+    let counted : clock ≡ counted_clock given t = c ∙ later_is given latest ∙ ap (λ (x : ℕ). ifb (ltb given x) x given) l in
     (counted, e ∙ ap (ripe_from n clock 0 n) s ∙ ap (λ (x : ℕ). ripe_from n x 0 n (with_clock t x)) counted)

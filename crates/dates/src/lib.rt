@@ -3,22 +3,13 @@
 // many places; the check of the table, which the engine makes first, shows it.
 #![tactic(auto)]
 
-ghost use Rattle.std.specs.Prelude.{◌≡◌, ltb};
-ghost use Rattle.octets.specs.If.{ifb};
+ghost use Rattle.std.specs.Prelude.{◌≡◌};
 ghost use Rattle.table.specs.Layout.{Table, Place};
 ghost use Rattle.changes.specs.Dates.{is_ripe, ripe_at, ripe_from, counted_clock, began};
 
 use table::Layout;
 
-// The clock that counts: the one given, unless it is earlier than the latest seen.
-fn later(given: u64, latest: u64) -> u64
-    ensures { result ≡ ifb (ltb given latest) latest given }
-{
-    if given < latest {
-        return latest;
-    }
-    given
-}
+// A table's bytes and its place count stay two parameters, as in `table`.
 
 // Whether a key stands at place i and its dates move it. Its state and its dates are read by
 // themselves: nothing is due at most places, and a whole record takes longer.
@@ -58,10 +49,8 @@ fn ripen(t: &mut [u8], n: usize, clock: u64)
     requires { Table n t.old }
     ensures { t.new ≡ ripe_from n clock 0 n t.old }
 {
-    let mut i: usize = 0;
-    while i < n {
+    for i in 0..n {
         ripen_at(t, n, i, clock);
-        i += 1;
     }
 }
 
@@ -71,7 +60,7 @@ pub fn begin(t: &mut [u8], n: usize, given: u64) -> u64
     ensures { (result ≡ counted_clock given t.old) × (t.new ≡ began n (counted_clock given t.old) t.old) }
 {
     let latest = table::latest_clock(t);
-    let clock = later(given, latest);
+    let clock = given.max(latest);
     table::set_latest_clock(t, clock);
     ripen(t, n, clock);
     clock

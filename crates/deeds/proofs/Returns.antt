@@ -1,9 +1,11 @@
 -- What each return of the functions of this crate leaves, from what the functions that it called answered.
 -- Assumes nothing.
+use Rattle.std.specs.Prelude.{Result}
+use Rattle.std.specs.Prelude.{Ok, Err}
 use mathlib.Core.Path.{◌≡◌, refl, sym, ap, ◌∙◌}
 use Prim.Native.Nat.{ℕ, ◌-◌}
 use mathlib.Core.Bool.{Bool, true, false}
-use mathlib.Core.Option.{Option, none, some}
+use Rattle.std.specs.Prelude.{Option, None, Some}
 use mathlib.Core.List.{List, []}
 use Rattle.octets.proofs.If.{ifb_true, ifb_false, on_bool}
 use Rattle.table.specs.declared.Record.{Record}
@@ -11,11 +13,6 @@ use Rattle.table.specs.Records.{place_at, with_place, latest_clock}
 use Rattle.search.specs.Search.{is_destroyed}
 use Rattle.rules.specs.declared.Reason.{Reason}
 use Rattle.rules.specs.declared.Reason.TheVariants.{ObjectDestroyed, WrongKeyLifecycleState}
-use Rattle.rules.specs.declared.Next.{Next}
-use Rattle.rules.specs.declared.Next.TheVariants.{To, Fails}
-use Rattle.rules.specs.declared.Granted.{Granted}
-use Rattle.rules.specs.declared.Granted.TheVariants.{Left, Denied}
-use Rattle.rules.specs.declared.Offset.{Offset}
 use Rattle.rules.specs.Tests.{due}
 use Rattle.rules.specs.States.{move_tests, moved_state, next_unless, next_state, grant_tests, left_unless, granting}
 use Rattle.date_rules.specs.Dates.{is_late}
@@ -38,16 +35,16 @@ stored n holder t i r t' e = ap (λ (u : List ℕ). record { outcome = Done r.se
 -- ---- grants
 
 -- what a grant makes of an item, by what is left
-unfoldable on_granted : List ℕ → (ℕ → Did) → Granted → Did
-on_granted t did (Left count) = did count
-on_granted t did (Denied reason) = failing t reason
+unfoldable on_granted : List ℕ → (ℕ → Did) → Result ℕ Reason → Did
+on_granted t did (Ok count) = did count
+on_granted t did (Err reason) = failing t reason
 
 granted_by : (t : List ℕ) (did : ℕ → Did) (count : ℕ) (d : Option Reason) → carried t (did count) d ≡ on_granted t did (left_unless count d)
 unfolding carried on_granted left_unless
-granted_by t did count none = refl
-granted_by t did count (some reason) = refl
+granted_by t did count None = refl
+granted_by t did count (Some reason) = refl
 
-module _ (n holder : ℕ) (t : List ℕ) (amount i : ℕ) (old : Record) (loaded : old ≡ place_at n t i) (left : Granted) (is : left ≡ granting old.state old.unit old.count amount) where
+module _ (n holder : ℕ) (t : List ℕ) (amount i : ℕ) (old : Record) (loaded : old ≡ place_at n t i) (left : Result ℕ Reason) (is : left ≡ granting old.state old.unit old.count amount) where
   abbrev allocated : Record → Did
   allocated r = carried_out t (allocation_plan (in_places n []) holder t amount i r)
 
@@ -62,25 +59,25 @@ module _ (n holder : ℕ) (t : List ℕ) (amount i : ℕ) (old : Record) (loaded
       ∙ granted_by t counted (old.count - amount) (due (grant_tests old.state old.unit old.count amount))
       ∙ ap (on_granted t counted) (sym is)
 
-  pub grants : (count : ℕ) → left ≡ Left count → (new : Record) → new ≡ with_count count old → (done : Did) → done ≡ storing n holder t i new → done ≡ allocated (place_at n t i)
+  pub grants : (count : ℕ) → left ≡ Ok count → (new : Record) → new ≡ with_count count old → (done : Did) → done ≡ storing n holder t i new → done ≡ allocated (place_at n t i)
   unfolding on_granted
   grants count l new w done e = e ∙ ap (storing n holder t i) w ∙ sym (granted ∙ ap (on_granted t counted) l)
 
-  pub grant_denied : (reason : Reason) → left ≡ Denied reason → (r : Performed) → r ≡ failed reason → leaves r t ≡ allocated (place_at n t i)
+  pub grant_denied : (reason : Reason) → left ≡ Err reason → (r : Performed) → r ≡ failed reason → leaves r t ≡ allocated (place_at n t i)
   unfolding on_granted
   grant_denied reason d r e = fails t e ∙ sym (granted ∙ ap (on_granted t counted) d)
 
 -- ---- moves
 
 -- what a move makes of an item, by the next state
-unfoldable on_next : List ℕ → (ℕ → Did) → Next → Did
-on_next t did (To state) = did state
-on_next t did (Fails reason) = failing t reason
+unfoldable on_next : List ℕ → (ℕ → Did) → Result ℕ Reason → Did
+on_next t did (Ok state) = did state
+on_next t did (Err reason) = failing t reason
 
 moved_by : (t : List ℕ) (did : ℕ → Did) (state : ℕ) (d : Option Reason) → carried t (did state) d ≡ on_next t did (next_unless state d)
 unfolding carried on_next next_unless
-moved_by t did state none = refl
-moved_by t did state (some reason) = refl
+moved_by t did state None = refl
+moved_by t did state (Some reason) = refl
 
 module _ (n holder : ℕ) (t : List ℕ) (operation code i : ℕ) (old : Record) (loaded : old ≡ place_at n t i) (clock : ℕ) (now : clock ≡ latest_clock t)
     (late : Bool) (told : late ≡ is_late operation clock old.deactivation)
@@ -95,7 +92,7 @@ module _ (n holder : ℕ) (t : List ℕ) (operation code i : ℕ) (old : Record)
     unfolding move_plan
     move_late l r e = fails t e ∙ sym (ap moving (sym loaded) ∙ fails_first t _ _ _ (late_is l))
 
-    module _ (early : late ≡ false) (next : Next) (is : next ≡ next_state operation code old.state) where
+    module _ (early : late ≡ false) (next : Result ℕ Reason) (is : next ≡ next_state operation code old.state) where
       -- what is stored in this state
       abbrev stating : ℕ → Did
       stating state = storing n holder t i (moved_to operation code (latest_clock t) state old)
@@ -107,13 +104,13 @@ module _ (n holder : ℕ) (t : List ℕ) (operation code i : ℕ) (old : Record)
           ∙ moved_by t stating (moved_state operation code old.state) (due (move_tests operation code old.state))
           ∙ ap (on_next t stating) (sym is)
 
-      pub moves : (state : ℕ) → next ≡ To state → (new : Record) → new ≡ moved_to operation code clock state old → (done : Did) → done ≡ storing n holder t i new
+      pub moves : (state : ℕ) → next ≡ Ok state → (new : Record) → new ≡ moved_to operation code clock state old → (done : Did) → done ≡ storing n holder t i new
           → done ≡ moving (place_at n t i)
       unfolding on_next
       moves state m new w done e =
           e ∙ ap (storing n holder t i) (w ∙ ap (λ (c : ℕ). moved_to operation code c state old) now) ∙ sym (moved ∙ ap (on_next t stating) m)
 
-      pub move_fails : (reason : Reason) → next ≡ Fails reason → (r : Performed) → r ≡ failed reason → leaves r t ≡ moving (place_at n t i)
+      pub move_fails : (reason : Reason) → next ≡ Err reason → (r : Performed) → r ≡ failed reason → leaves r t ≡ moving (place_at n t i)
       unfolding on_next
       move_fails reason f r e = fails t e ∙ sym (moved ∙ ap (on_next t stating) f)
 
@@ -141,7 +138,7 @@ module _ (n : ℕ) (fresh : List ℕ) (holder : ℕ) (t : List ℕ) (i : ℕ) (d
   doing d = carried_out t (deed_plan (in_places n fresh) holder t d i (place_at n t i))
 
   module _ (done : Did) where
-    pub does_replace : (offset : Offset) → deed ≡ Replace offset → done ≡ carried_out t (rekey_plan (in_places n fresh) empty_holder t offset i (place_at n t i)) → done ≡ doing deed
+    pub does_replace : (offset : Option ℕ) → deed ≡ Replace offset → done ≡ carried_out t (rekey_plan (in_places n fresh) empty_holder t offset i (place_at n t i)) → done ≡ doing deed
     unfolding deed_plan rekey_plan
     does_replace offset d e = e ∙ sym (ap doing d)
 

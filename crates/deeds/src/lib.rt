@@ -10,8 +10,12 @@ ghost use Rattle.plans.specs.Plans.{allocation_plan, carried_out, in_places, lea
 ghost use Rattle.deeds.specs.Deeds.{showing, giving, storing, move_plan, deed_plan};
 
 use plans::{Key, Outcome, Performed, Shown};
-use rules::{Granted, Next, Offset, Reason};
+use rules::Reason;
 use table::Record;
+
+// A table's bytes and its place count stay two parameters, as in `table`.
+
+// Operation and code stay numbers in a `Deed`: `act_at` answers for any.
 
 // What is done to a record that stands. A `Command` reads as a line of 01, a `Deed` as what the
 // record meets, so that a command is taken apart twice: which record it is about is seen to once,
@@ -19,7 +23,7 @@ use table::Record;
 #[derive(Clone, Copy)]
 pub enum Deed {
     // with the Offset that is asked for
-    Replace(Offset),
+    Replace(Option<u32>),
     // so many units
     Allocate(u64),
     // an operation that moves the state, with its revocation code
@@ -48,11 +52,11 @@ fn allocate_at(t: &mut [u8], n: usize, i: usize, holder: u32, amount: u64) -> Pe
 {
     let old = records::load(t, n, i);
     match rules::grant(old.state, old.unit, old.count, amount) {
-        Granted::Left(count) => {
+        Ok(count) => {
             let granted = changes::with_count(count, old);
             store_at(t, n, i, holder, granted)
         }
-        Granted::Denied(reason) => plans::fail(reason),
+        Err(reason) => plans::fail(reason),
     }
 }
 
@@ -67,11 +71,11 @@ fn move_at(t: &mut [u8], n: usize, i: usize, holder: u32, operation: u32, code: 
         return plans::fail(Reason::WrongKeyLifecycleState);
     }
     match rules::next_state(operation, code, old.state) {
-        Next::To(state) => {
+        Ok(state) => {
             let moved = changes::moved_to(operation, code, clock, state, old);
             store_at(t, n, i, holder, moved)
         }
-        Next::Fails(reason) => plans::fail(reason),
+        Err(reason) => plans::fail(reason),
     }
 }
 

@@ -3,7 +3,7 @@
 use Prim.Native.Nat.{ℕ, ◌+◌, ◌*◌}
 use mathlib.Core.Path.{◌≡◌, refl}
 use mathlib.Core.Bool.{Bool, true, false}
-use mathlib.Core.Option.{Option, none, some}
+use Rattle.std.specs.Prelude.{Option, None, Some}
 use mathlib.Core.List.{List, [], ◌∷◌, ◌++◌, map}
 use lib.ListN.{replicate, drop}
 use Rattle.hex_digits.specs.Texts.{hex}
@@ -22,18 +22,15 @@ use Rattle.words.specs.Words.{words_of, word_bytes, filled}
 use Rattle.names.specs.Names.{no_name, name_field, stored_name, name_of, name_ok}
 use Rattle.name_read.specs.Name.{name_body, name_first, only_name_in, or_no_name, last_name_in}
 use Rattle.table.specs.Records.{line, body, record_of, place_at, with_place, serial_at, state_at, name_at, blank, latest_clock, places_said}
-use Rattle.search.specs.declared.Found.TheVariants.{At, Nothing}
 use Rattle.search.specs.Search.{first_from, or_else, find, free_place, destroyed_place, new_place}
 use Rattle.soundness.specs.Checked.{is_at}
 use Rattle.rules.specs.declared.Reason.TheVariants.{UsageLimitExceeded}
 use Rattle.batch_item.specs.Item.{Asked}
-use Rattle.rules.specs.declared.Offset.{Offset}
-use Rattle.rules.specs.declared.Offset.TheVariants.{NoOffset, Seconds}
 use Rattle.target_read.specs.declared.Target.TheVariants.{Placeholder, Serial}
 use Rattle.payload.specs.declared.Command.{Command}
 use Rattle.payload.specs.declared.Command.TheVariants.{Unsupported, Invalid, Create, Rekey, GetUsageAllocation, Activate, Revoke, Destroy, GetAttributes, Get, Locate}
 use Rattle.attributes_read.specs.Attributes.{limit_in, limit_first, date_first, or_unset, dated_in, wanted_of, limited_in, masked_in, attributes_in}
-use Rattle.payload.specs.Payload.{create_in, offset_of, rekey_in, alone_in, allocation_in, revoke_in, locate_in, or_invalid, command}
+use Rattle.payload.specs.Payload.{create_in, rekey_in, alone_in, allocation_in, revoke_in, locate_in, or_invalid, command}
 use Rattle.date_rules.specs.Dates.{started_state, stopped_state, dated_state}
 use Rattle.heirs.specs.Heirs.{heir_activation, heir_deactivation}
 use Rattle.target_read.specs.Target.{target_of, target_in}
@@ -57,7 +54,7 @@ commands =
     Unsupported
     ∷ Invalid
     ∷ Create (record { bits = 128; mask = 4; unit = 2; total = 100; activation = 0; deactivation = 0; name = no_name })
-    ∷ Rekey (Serial 7) NoOffset
+    ∷ Rekey (Serial 7) None
     ∷ GetUsageAllocation (Serial 7) 60
     ∷ Activate (Serial 7)
     ∷ Revoke (Serial 7) 5
@@ -69,7 +66,7 @@ commands =
 
 -- by the placeholder
 held_commands : List Command
-held_commands = Rekey Placeholder NoOffset ∷ GetUsageAllocation Placeholder 60 ∷ Activate Placeholder ∷ Revoke Placeholder 5 ∷ Destroy Placeholder ∷ GetAttributes Placeholder ∷ Get Placeholder ∷ []
+held_commands = Rekey Placeholder None ∷ GetUsageAllocation Placeholder 60 ∷ Activate Placeholder ∷ Revoke Placeholder 5 ∷ Destroy Placeholder ∷ GetAttributes Placeholder ∷ Get Placeholder ∷ []
 
 -- a key of 128 bits
 key : ℕ → Key
@@ -210,8 +207,8 @@ date_cases =
 
 -- the items that bytes are
 items_read : Option Items → Items
-items_read none = nil
-items_read (some t) = t
+items_read None = nil
+items_read (Some t) = t
 
 asking : ℕ → List ℕ → Asked
 asking operation payload = record { operation = operation; id = []; payload = items_read (parse 6 payload) }
@@ -314,8 +311,8 @@ log_cases =
     ∷ same (held_in (paired 5 [] answers)) []
     ∷ same (map (λ (ev : Event). ev.asked.operation) events) (map (λ (ev : Event). ev.answer.operation) events)
     -- bytes that are no request have no items, and bytes that are no response no answers
-    ∷ same (held_in (paired 5 (or_no_items none) answers)) []
-    ∷ same (held_in (paired 5 items (or_no_answers none))) []
+    ∷ same (held_in (paired 5 (or_no_items None) answers)) []
+    ∷ same (held_in (paired 5 items (or_no_answers None))) []
     ∷ same (of_each issued log) (1 ∷ 1 ∷ 1 ∷ 0 ∷ [])
     ∷ same (of_each issued (onto events log)) (2 ∷ 2 ∷ 2 ∷ 0 ∷ [])
     ∷ same (of_each granted log) (60 ∷ 10 ∷ 0 ∷ 0 ∷ [])
@@ -377,8 +374,8 @@ of_places test = map (λ i. flag (test i)) (0 ∷ 1 ∷ 2 ∷ [])
 
 place_cases : List Bool
 place_cases =
-    same (of_places (λ i. is_at i (At 1))) (0 ∷ 1 ∷ 0 ∷ [])
-    ∷ same (of_places (λ i. is_at i Nothing)) (0 ∷ 0 ∷ 0 ∷ [])
+    same (of_places (λ i. is_at i (Some 1))) (0 ∷ 1 ∷ 0 ∷ [])
+    ∷ same (of_places (λ i. is_at i None)) (0 ∷ 0 ∷ 0 ∷ [])
     -- the key that the placeholder names
     ∷ same (of_places (names small_count activating (keyed 1))) (0 ∷ 1 ∷ 0 ∷ [])
     -- what issues an identifier takes the lowest free place, and an item that failed or was undone none
@@ -392,8 +389,8 @@ place_cases =
     ∷ same (born_state small_count activating (keyed 2) ∷ []) (1 ∷ [])
     -- at clock 5 a replacement begins as its dates make it, copied or moved by an Offset, and everything else Pre-Active
     ∷ same (map (λ c. born_by 5 c (dated_key 4 5 2)) commands) (1 ∷ 1 ∷ 1 ∷ 3 ∷ 1 ∷ 1 ∷ 1 ∷ 1 ∷ 1 ∷ 1 ∷ 1 ∷ [])
-    ∷ same (map (λ (o : Offset). born_by 5 (Rekey (Serial 7) o) (dated_key 4 6 2)) (NoOffset ∷ Seconds 0 ∷ Seconds 1 ∷ [])) (2 ∷ 2 ∷ 1 ∷ [])
-    ∷ same (map (λ (o : Offset). born_by 5 (Rekey (Serial 7) o) (dated_key 4 4 3)) (NoOffset ∷ Seconds 0 ∷ Seconds 1 ∷ [])) (3 ∷ 3 ∷ 1 ∷ [])
+    ∷ same (map (λ (o : Option ℕ). born_by 5 (Rekey (Serial 7) o) (dated_key 4 6 2)) (None ∷ Some 0 ∷ Some 1 ∷ [])) (2 ∷ 2 ∷ 1 ∷ [])
+    ∷ same (map (λ (o : Option ℕ). born_by 5 (Rekey (Serial 7) o) (dated_key 4 4 3)) (None ∷ Some 0 ∷ Some 1 ∷ [])) (3 ∷ 3 ∷ 1 ∷ [])
     -- a free place may be taken, and one in state 5 or 6
     ∷ same (of_places (may_take small_count (keyed 4))) (1 ∷ 0 ∷ 1 ∷ [])
     ∷ same (of_places (may_take small_count (keyed 5))) (1 ∷ 1 ∷ 1 ∷ [])
@@ -457,7 +454,7 @@ options = 1 ∷ 2 ∷ 3 ∷ []
 call_cases : List Bool
 call_cases =
     same (lowest 1 [] ∷ lowest 1 (false ∷ false ∷ []) ∷ lowest 1 (false ∷ true ∷ true ∷ []) ∷ lowest 5 (true ∷ []) ∷ []) (0 ∷ 0 ∷ 2 ∷ 5 ∷ [])
-    ∷ same (flag (of_frame (λ f. true) none) ∷ []) (0 ∷ [])
+    ∷ same (flag (of_frame (λ f. true) None) ∷ []) (0 ∷ [])
     -- eleven refusals
     ∷ same (refusals ∷ []) (11 ∷ [])
     -- the longest response
@@ -503,7 +500,7 @@ cases = command_cases ++ (state_cases ++ (date_cases ++ (log_cases ++ (place_cas
 
 -- every case holds
 pub worked : all (λ b. b) cases ≡ true
-unfolding cases large late refusal_conditions places_said is_made any_fails settled undone_for answers_for kept_for undone_events undone_log got_undone third passing failing status statuses tables options born_by found_in heir_activation heir_deactivation dated_state stopped_state started_state date_cases dated_key due_to due_from listed_by before latest_clock key of_none destroyed_in got named names_of called_key name_by heir_from name_in name_born asks_key asks_heir asks_units asks_name carries handed_by destroyed_by was_destroyed handed_dead command_cases state_cases log_cases place_cases call_cases commands held_commands outcomes flag matrix none_of eight ways_to ways_from ways items_read asking items answering answers events log of_each held_in limit_of holding keyed activating rekeying of_places call second goes_on is_failed answer_for named_by is_understood moves_state code_of listed is_at held_after paired or_no_items or_no_answers onto issued_by issued grant_by granted limit_by limit of_frame lowest sought ifb ◌>>=◌ ◌>>◌ is_some be from_be_after from_be all same length_ok text value_ok encode item_ok well_formed ended headed first_of put_value put_group more walk parse starts_with bytes_of body_of number_of optional digits identifier from_digits_after serial_of limit_in limit_first date_first or_unset dated_in last_name_in name_first name_body or_no_name name_of name_ok wanted_of limited_in masked_in attributes_in create_in target_of target_in offset_of rekey_in alone_in allocation_in revoke_in locate_in only_name_in or_invalid command line body record_of place_at with_place serial_at state_at name_at name_field stored_name words_of word_bytes filled blank first_from or_else find free_place destroyed_place new_place
+unfolding cases large late refusal_conditions places_said is_made any_fails settled undone_for answers_for kept_for undone_events undone_log got_undone third passing failing status statuses tables options born_by found_in heir_activation heir_deactivation dated_state stopped_state started_state date_cases dated_key due_to due_from listed_by before latest_clock key of_none destroyed_in got named names_of called_key name_by heir_from name_in name_born asks_key asks_heir asks_units asks_name carries handed_by destroyed_by was_destroyed handed_dead command_cases state_cases log_cases place_cases call_cases commands held_commands outcomes flag matrix none_of eight ways_to ways_from ways items_read asking items answering answers events log of_each held_in limit_of holding keyed activating rekeying of_places call second goes_on is_failed answer_for named_by is_understood moves_state code_of listed is_at held_after paired or_no_items or_no_answers onto issued_by issued grant_by granted limit_by limit of_frame lowest sought ifb ◌>>=◌ ◌>>◌ is_some be from_be_after from_be all same length_ok text value_ok encode item_ok well_formed ended headed first_of put_value put_group more walk parse starts_with bytes_of body_of number_of optional digits identifier from_digits_after serial_of limit_in limit_first date_first or_unset dated_in last_name_in name_first name_body or_no_name name_of name_ok wanted_of limited_in masked_in attributes_in create_in target_of target_in rekey_in alone_in allocation_in revoke_in locate_in only_name_in or_invalid command line body record_of place_at with_place serial_at state_at name_at name_field stored_name words_of word_bytes filled blank first_from or_else find free_place destroyed_place new_place
 worked = refl
 
 -- a run begins with a blank table of its own number of places

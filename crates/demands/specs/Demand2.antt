@@ -1,7 +1,7 @@
 -- Demand 2: "it answers as KMIP 2.1 TTLV says, in the cut of document 01, and with one spelling".
 -- Assumes nothing. It speaks of the parse, the frame, the conditions in order, the record changes and the response reader.
 use Rattle.std.specs.Prelude.{ℕ, suc, ◌+◌, ◌^◌, ◌<◌, ◌≡◌, Bool, true, false, not, ◌&&◌, ◌||◌, List, [], ◌∷◌, map, length, take, leb, ltb, eqb}
-use Rattle.std.proofs.Math.Option.{Option, none, some}
+use Rattle.std.specs.Prelude.{Option, None, Some}
 use Rattle.octets.specs.If.{ifb}
 use Rattle.octets.specs.Octets.{Bytes}
 use Rattle.octets.specs.Maybe.{◌>>=◌, is_some}
@@ -33,8 +33,8 @@ frame_of c = message c.request >>= frame_in
 
 -- a test of the frame, where there is one
 unfoldable pub of_frame : (Frame → Bool) → Option Frame → Bool
-of_frame test none = false
-of_frame test (some f) = test f
+of_frame test None = false
+of_frame test (Some f) = test f
 
 -- 01's table with 02's lines: the conditions of refusals 1 to 11; a clock below 1 is 0 or, by its 64 bits, negative. 02, L8: "a wrong size is refusal 11, tested after 10 for every option"
 unfoldable pub refusal_conditions : Call → List Bool
@@ -85,8 +85,8 @@ plan_of l = plan l.env l.holder l.table (command l.asked.operation l.asked.paylo
 -- (d), (e): it succeeds exactly when none of its conditions holds, and leaves what its line of 01 says;
 -- otherwise it carries the reason of the first that holds, leaves the table and empties the placeholder
 pub record Due (l : Link) : Type 0 where
-  pub succeeds : due (plan_of l).tests ≡ none → l.did ≡ (plan_of l).did
-  pub fails : (reason : Reason) → due (plan_of l).tests ≡ some reason → l.did ≡ record { outcome = Failed reason; table = l.table; holder = 0 }
+  pub succeeds : due (plan_of l).tests ≡ None → l.did ≡ (plan_of l).did
+  pub fails : (reason : Reason) → due (plan_of l).tests ≡ Some reason → l.did ≡ record { outcome = Failed reason; table = l.table; holder = 0 }
 
 -- the answer that an item gets: operation and ID as given
 unfoldable pub answer_for : Link → Answer
@@ -157,9 +157,9 @@ pub record Answered (c : Call) (e : Effect) : Type 0 where
   -- (b) the one reading of the request's bytes
   pub items : Items
   pub frame : Frame
-  pub reads : message c.request ≡ some items
+  pub reads : message c.request ≡ Some items
   pub spelled : encode items ≡ c.request
-  pub framed : frame_in items ≡ some frame
+  pub framed : frame_in items ≡ Some frame
   -- (c) to (f) the chain, from the table that the request begins with, with an empty placeholder, and the table that is left
   pub start : List ℕ
   pub reached : List ℕ
@@ -175,12 +175,12 @@ pub record Answered (c : Call) (e : Effect) : Type 0 where
   pub spelling : take e.length e.output ≡ encode (respond (meant c (option_in frame) links))
   -- "and reading it back gives the answers that were meant"
   pub response : Items
-  pub readable : message (take e.length e.output) ≡ some response
-  pub read_back : answers_in response ≡ some (meant c (option_in frame) links)
+  pub readable : message (take e.length e.output) ≡ Some response
+  pub read_back : answers_in response ≡ Some (meant c (option_in frame) links)
   -- no other response has these bytes
   pub one_response : (r : Response) → allowed r ≡ true → encode (respond r) ≡ take e.length e.output → r ≡ meant c (option_in frame) links
   -- and no other bytes are read as this response
-  pub one_spelling : (s : List ℕ) → Bytes s → (message s >>= answers_in) ≡ some (meant c (option_in frame) links) → s ≡ take e.length e.output
+  pub one_spelling : (s : List ℕ) → Bytes s → (message s >>= answers_in) ≡ Some (meant c (option_in frame) links) → s ≡ take e.length e.output
 
 pub record Demand2 (B : Box) : Type 0 where
   -- (a) the number is k > 0 exactly when k is the lowest whose condition holds, and 0 exactly when none does

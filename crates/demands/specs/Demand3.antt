@@ -1,12 +1,11 @@
 -- Demand 3: "keys are counted and stay dead".
 -- Assumes nothing. Take a blank table and any run of calls, accepted or refused, with nobody else writing to the table between them.
 -- Each call goes item by item: what one item may do to the records, and what holds between any two items, is said here without saying what an item does.
+use Rattle.std.specs.Prelude.{Option, None, Some}
 use Rattle.std.specs.Prelude.{ℕ, ◌+◌, ◌≤◌, ◌<◌, ◌≡◌, ◌⊎◌, Bool, true, false, not, ◌&&◌, ◌||◌, List, [], ◌∷◌, length, replicate, eqb}
 use Rattle.table.specs.Layout.{places_ok, material_size}
 use Rattle.table.specs.declared.Record.{Record}
 use Rattle.table.specs.Records.{place_at, serial_at, is_free, last_serial, latest_clock, blank}
-use Rattle.search.specs.declared.Found.{Found}
-use Rattle.search.specs.declared.Found.TheVariants.{At, Nothing}
 use Rattle.search.specs.Search.{find, new_place, is_destroyed}
 use Rattle.soundness.specs.Sound.{sound}
 use Rattle.soundness.specs.Checked.{is_at}
@@ -241,9 +240,9 @@ module _ (n : ℕ) where
   may_take t i = is_free t i || is_destroyed (place_at n t i).state
 
   -- the record that a search found; where it found none, that of place 0 stands in
-  unfoldable pub found_in : List ℕ → Found → Record
-  found_in t (At i) = place_at n t i
-  found_in t Nothing = place_at n t 0
+  unfoldable pub found_in : List ℕ → Option ℕ → Record
+  found_in t (Some i) = place_at n t i
+  found_in t None = place_at n t 0
 
   -- the state in which an object begins that the item issued
   abbrev pub born_state : Event → List ℕ → ℕ

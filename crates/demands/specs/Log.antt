@@ -2,7 +2,7 @@
 -- 02, L8: "grants, identifiers and state changes in undone items count as never made": an undone answer issues, grants, hands out and destroys nothing.
 -- Assumes nothing.
 use Rattle.std.specs.Prelude.{ℕ, suc, ◌+◌, Bool, false, ◌&&◌, ◌||◌, List, [], ◌∷◌, take, eqb}
-use Rattle.std.proofs.Math.Option.{Option, none, some}
+use Rattle.std.specs.Prelude.{Option, None, Some}
 use Rattle.octets.specs.If.{ifb}
 use Rattle.octets.specs.Maybe.{◌>>=◌}
 use Rattle.ttlv.specs.Parse.{message}
@@ -52,12 +52,12 @@ paired held (asked ∷ items) [] = []
 paired held (asked ∷ items) (a ∷ answers) = record { held = held; asked = asked; answer = a } ∷ paired (held_after held a a.outcome) items answers
 
 unfoldable pub or_no_items : Option Frame → List Asked
-or_no_items none = []
-or_no_items (some f) = f.items
+or_no_items None = []
+or_no_items (Some f) = f.items
 
 unfoldable pub or_no_answers : Option Response → List Answer
-or_no_answers none = []
-or_no_answers (some r) = r.answers
+or_no_answers None = []
+or_no_answers (Some r) = r.answers
 
 -- the items of a request's bytes, and the answers read back from the first bytes of the output, `length` many
 abbrev pub items_asked : Call → List Asked

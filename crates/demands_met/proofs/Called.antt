@@ -1,5 +1,6 @@
 -- Names by the log: in every box that meets demand 3 a key has the name that the log gives it.
 -- Assumes nothing.
+use Rattle.std.specs.Prelude.{Option, None, Some}
 use Prim.Native.Nat.{ℕ}
 use native.Mathlib.Omega.{arith}
 use native.Mathlib.Decide.{ℕ_discrete}
@@ -17,8 +18,6 @@ use Rattle.table.specs.Layout.{places_ok}
 use Rattle.table.specs.declared.Record.{Record}
 use Rattle.table.specs.Records.{place_at, serial_at}
 use Rattle.table.proofs.Blank.{serial_blank}
-use Rattle.search.specs.declared.Found.{Found}
-use Rattle.search.specs.declared.Found.TheVariants.{At, Nothing}
 use Rattle.search.specs.Search.{find}
 use Rattle.search.proofs.Finds.{find_is, find_serial, find_nonzero}
 use Rattle.soundness.specs.Checked.{is_at}
@@ -67,16 +66,16 @@ issued_made (Get target) o h = absurd (h refl)
 issued_made (Locate name) o h = absurd (h refl)
 
 -- a search that found a place
-at_found : (i : ℕ) (f : Found) → is_at i f ≡ true → f ≡ At i
+at_found : (i : ℕ) (f : Option ℕ) → is_at i f ≡ true → f ≡ Some i
 unfolding is_at
-at_found i (At k) h = ap At (eqb-true k i h)
-at_found i Nothing h = absurd (false≢true h)
+at_found i (Some k) h = ap Some (eqb-true k i h)
+at_found i None h = absurd (false≢true h)
 
 -- a search for y finds no place where x stands
-not_there : (n : ℕ) (t : List ℕ) (x y j : ℕ) → (y ≡ x → ⊥) → serial_at t j ≡ x → (f : Found) → find n t y ≡ f → is_at j f ≡ false
+not_there : (n : ℕ) (t : List ℕ) (x y j : ℕ) → (y ≡ x → ⊥) → serial_at t j ≡ x → (f : Option ℕ) → find n t y ≡ f → is_at j f ≡ false
 unfolding is_at
-not_there n t x y j d s Nothing e = refl
-not_there n t x y j d s (At i) e = on_bool (eqb i j) (λ h. absurd (d (sym (find_serial n t y i e) ∙ ap (serial_at t) (eqb-true i j h) ∙ s))) (λ h. h)
+not_there n t x y j d s None e = refl
+not_there n t x y j d s (Some i) e = on_bool (eqb i j) (λ h. absurd (d (sym (find_serial n t y i e) ∙ ap (serial_at t) (eqb-true i j h) ∙ s))) (λ h. h)
 
 module _ {n : ℕ} (log : List Event) (t u : List ℕ) (ev : Event) (tame : Tame n ev t u) (order : InOrder n log t) (after : InOrder n (ev ∷ log) u) (names : Told n log t) where
   abbrev o : Outcome
@@ -97,8 +96,8 @@ module _ {n : ℕ} (log : List Event) (t u : List ℕ) (ev : Event) (tame : Tame
       moved : (found_in n t (find n t (named_by ev.held (Rekey target offset)))).name ≡ name_in y log
       moved =
           let r = tame.renews (issued_made (Rekey target offset) o nonzero) (ap asks_heir e) in
-          let found : find n t y ≡ At r.place = at_found r.place _ (sym (ap (λ (c : Command). is_at r.place (find n t (named_by ev.held c))) e) ∙ r.named) in
-          ap (λ (f : Found). (found_in n t f).name) found
+          let found : find n t y ≡ Some r.place = at_found r.place _ (sym (ap (λ (c : Command). is_at r.place (find n t (named_by ev.held c))) e) ∙ r.named) in
+          ap (λ (f : Option ℕ). (found_in n t f).name) found
           ∙ names.told y r.place (find_nonzero n t y r.place found) (record { below = r.below; serial = find_serial n t y r.place found })
   begun_name x z Unsupported e is = absurd (z (sym is))
   begun_name x z Invalid e is = absurd (z (sym is))
@@ -123,7 +122,7 @@ module _ {n : ℕ} (log : List Event) (t u : List ℕ) (ev : Event) (tame : Tame
       y : ℕ
       y = heir_from ev.held (command_of ev)
 
-      there : find n t x ≡ At j
+      there : find n t x ≡ Some j
       there = find_is n t x j z s.below s.serial (λ l h q. absurd (let w : l ≡ j = (sound_is n t order.stays_sound).distinct l j (let b = s.below in omega arith) s.below (λ v. z (sym q ∙ v)) (q ∙ sym s.serial) in omega arith))
 
       by_which : is_at j (find n t y) ≡ eqb y x

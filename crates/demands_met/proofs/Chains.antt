@@ -3,7 +3,7 @@
 use Prim.Native.Nat.{ℕ, ◌+◌}
 use mathlib.Core.Path.{◌≡◌, refl, sym, ap, ◌∙◌}
 use mathlib.Core.Bool.{Bool, true, false, not, ◌&&◌, ◌||◌}
-use mathlib.Core.Option.{Option, none, some}
+use Rattle.std.specs.Prelude.{Option, None, Some}
 use mathlib.Core.List.{List, [], ◌∷◌, map}
 use lib.Dec.{eqb}
 use borrow.Author.Tests.{not-true, not-false}
@@ -40,8 +40,8 @@ unfolding step carried
 due_step l d = go (due (plan_of l).tests) refl
   where
     go : (o : Option Reason) → due (plan_of l).tests ≡ o → l.did ≡ carried l.table (plan_of l).did (due (plan_of l).tests)
-    go none e = d.succeeds e ∙ sym (ap (carried l.table (plan_of l).did) e)
-    go (some reason) e = d.fails reason e ∙ sym (ap (carried l.table (plan_of l).did) e)
+    go None e = d.succeeds e ∙ sym (ap (carried l.table (plan_of l).did) e)
+    go (Some reason) e = d.fails reason e ∙ sym (ap (carried l.table (plan_of l).did) e)
 
 -- the links of a run of items: a chain to the table that the batch leaves, whose answers are the batch's
 pub record Chained (c : Call) (option i holder : ℕ) (t : List ℕ) (items : List Asked) (ran : Ran) : Type 0 where

@@ -1,5 +1,6 @@
 -- What one item does to counts and serials, classified once for the log: each record after it is one from before with its grant taken off, or the new one.
 -- Assumes nothing.
+use Rattle.std.specs.Prelude.{Option, Some, Ok}
 use Prim.Native.Nat.{ℕ, ◌+◌, ◌-◌, ◌≤◌, ◌<◌}
 use native.Mathlib.Omega.{arith}
 use native.Mathlib.Decide.{ℕ_discrete}
@@ -13,7 +14,6 @@ use Rattle.octets.specs.If.{ifb}
 use Rattle.octets.specs.Octets.{Bytes}
 use Rattle.octets.proofs.If.{ifb_true, ifb_false}
 use Rattle.table.specs.declared.Record.{Record}
-use Rattle.search.specs.declared.Found.TheVariants.{At}
 use Rattle.table.specs.Records.{place_at, last_serial, latest_clock}
 use Rattle.search.specs.Search.{find, is_destroyed}
 use Rattle.table.proofs.Places.{serial_is}
@@ -23,15 +23,12 @@ use Rattle.rules.specs.declared.Attributes.{Attributes}
 use Rattle.changes.specs.Records.{in_state, with_dates, moved_to, with_count}
 use Rattle.heirs.specs.Heirs.{offset_wrong, heir_dated, heir_of, linked_to}
 use Rattle.new_records.specs.New.{new_record}
-use Rattle.rules.specs.declared.Next.TheVariants.{To}
-use Rattle.rules.specs.declared.Granted.TheVariants.{Left}
 use Rattle.rules.specs.States.{next_state, granting}
 use Rattle.changes.specs.Changes.{is_full, next_serial, with_born, with_heir}
 use Rattle.rules.proofs.Grants.{grant_is}
 use Rattle.keeps.proofs.Stores.{Stored, other}
 use Rattle.keeps.proofs.Keeps.{Held, facts, found_stands}
 use Rattle.keeps.proofs.Leaves.{Born, Replaced, moved_leaves, count_leaves, born_leaves, heir_leaves}
-use Rattle.rules.specs.declared.Offset.{Offset}
 use Rattle.target_read.specs.declared.Target.{Target}
 use Rattle.payload.specs.declared.Command.{Command}
 use Rattle.payload.specs.declared.Command.TheVariants.{Unsupported, Invalid, Create, Rekey, GetUsageAllocation, Activate, Revoke, Destroy, GetAttributes, Get, Locate}
@@ -173,10 +170,10 @@ begins_with n t holder (Locate name) i = 0
 -- what a command counts, with the place of the record that it names where a new object copies its total
 pub record Counts (n : ℕ) (t : List ℕ) (holder : ℕ) (c : Command) (did : Did) : Type 0 where
   pub place : ℕ
-  pub copies : (target : Target) (offset : Offset) → c ≡ Rekey target offset → issued_by c did.outcome ≡ last_serial t + 1 → find n t (sought holder target) ≡ At place
+  pub copies : (target : Target) (offset : Option ℕ) → c ≡ Rekey target offset → issued_by c did.outcome ≡ last_serial t + 1 → find n t (sought holder target) ≡ Some place
   pub counted : Counted n t did.table (issued_by c did.outcome) (λ x. grant_by x c did.outcome) (begins_with n t holder c place)
 
-not_rekey : {A : Type 0} {target : Target} {offset : Offset} {c : Command} → c ≡ Rekey target offset → (q : Command → ℕ) → q c ≡ 0 → q (Rekey target offset) ≡ 1 → A
+not_rekey : {A : Type 0} {target : Target} {offset : Option ℕ} {c : Command} → c ≡ Rekey target offset → (q : Command → ℕ) → q c ≡ 0 → q (Rekey target offset) ≡ 1 → A
 not_rekey e q z o = absurd (let y : ◌≡◌ {A = ℕ} 0 1 = sym z ∙ ap q e ∙ o in omega arith)
 
 module _ (env : Env) (holder : ℕ) (t : List ℕ) (held : Held env.places t) (fresh_bytes : Bytes env.fresh) where
@@ -186,7 +183,7 @@ module _ (env : Env) (holder : ℕ) (t : List ℕ) (held : Held env.places t) (f
   silent z q = record { place = 0; copies = λ target offset e i. absurd (let y : 0 ≡ last_serial t + 1 = sym z ∙ i in omega arith); counted = q }
 
   -- the record that a search found
-  module _ (x i : ℕ) (e : find env.places t x ≡ At i) where
+  module _ (x i : ℕ) (e : find env.places t x ≡ Some i) where
     serial_found_lem : (place_at env.places t i).serial ≡ x
     serial_found_lem = sym (serial_is env.places t i) ∙ find_serial env.places t x i e
 
@@ -198,8 +195,8 @@ module _ (env : Env) (holder : ℕ) (t : List ℕ) (held : Held env.places t) (f
     apart j l d q =
         d (sym ((facts env.places t held).distinct i j (find_below env.places t x i e) l (found_stands env.places t x i e) (serial_is env.places t i ∙ q ∙ sym (serial_is env.places t j))))
 
-  grant_counted : (target : Target) (amount i : ℕ) → find env.places t (sought holder target) ≡ At i
-      → (g : granting (place_at env.places t i).state (place_at env.places t i).unit (place_at env.places t i).count amount ≡ Left ((place_at env.places t i).count - amount))
+  grant_counted : (target : Target) (amount i : ℕ) → find env.places t (sought holder target) ≡ Some i
+      → (g : granting (place_at env.places t i).state (place_at env.places t i).unit (place_at env.places t i).count amount ≡ Ok ((place_at env.places t i).count - amount))
       → Counts env.places t holder (GetUsageAllocation target amount) (changed env holder t i (with_count ((place_at env.places t i).count - amount) (place_at env.places t i)))
   unfolding issued_by grant_by with_count
   grant_counted target amount i e g =
@@ -253,7 +250,7 @@ module _ (env : Env) (holder : ℕ) (t : List ℕ) (held : Held env.places t) (f
       is_rekey (Get target) = 0
       is_rekey (Locate name) = 0
 
-  rekey_counted : (target : Target) (offset : Offset) (i : ℕ) → find env.places t (sought holder target) ≡ At i → is_destroyed (place_at env.places t i).state ≡ false
+  rekey_counted : (target : Target) (offset : Option ℕ) (i : ℕ) → find env.places t (sought holder target) ≡ Some i → is_destroyed (place_at env.places t i).state ≡ false
       → offset_wrong (latest_clock t) offset (place_at env.places t i) ≡ false → (room : is_full env.places t ≡ false)
       → Counts env.places t holder (Rekey target offset) (rekey_plan env holder t offset i (place_at env.places t i)).did
   unfolding rekey_plan issued_by grant_by heir_of heir_dated linked_to begins_with
@@ -264,7 +261,7 @@ module _ (env : Env) (holder : ℕ) (t : List ℕ) (held : Held env.places t) (f
       heir_leaves env.places t held room env.fresh fresh_bytes offset i (find_below env.places t x i e) (found_stands env.places t x i e) alive right in
       record {
         place = i;
-        copies = λ other_target moved q _. subst (λ (y : Target). find env.places t (sought holder y) ≡ At i) (same_target q) e;
+        copies = λ other_target moved q _. subst (λ (y : Target). find env.places t (sought holder y) ≡ Some i) (same_target q) e;
         counted = record {
           places = λ j l h. elim (ℕ_discrete j b.place) [
             | yes q ↦ inr (subst (λ (k : ℕ). New t (last_serial t + 1) r.total (place_at env.places (with_heir env.places t i (heir_of (next_serial t) (latest_clock t) offset r env.fresh)) k)) (sym q)
@@ -293,11 +290,11 @@ module _ (env : Env) (holder : ℕ) (t : List ℕ) (held : Held env.places t) (f
       target_in (Get target) d = d
       target_in (Locate name) d = d
 
-      same_target : {other : Target} {moved : Offset} → Rekey target offset ≡ Rekey other moved → target ≡ other
+      same_target : {other : Target} {moved : Option ℕ} → Rekey target offset ≡ Rekey other moved → target ≡ other
       same_target q = ap (λ (c : Command). target_in c target) q
 
-  move_counted : {c : Command} {operation code : ℕ} {target : Target} (m : Moving c operation code target) (i next : ℕ) → find env.places t (sought holder target) ≡ At i
-      → next_state operation code (place_at env.places t i).state ≡ To next → Counts env.places t holder c (changed env holder t i (moved_to operation code (latest_clock t) next (place_at env.places t i)))
+  move_counted : {c : Command} {operation code : ℕ} {target : Target} (m : Moving c operation code target) (i next : ℕ) → find env.places t (sought holder target) ≡ Some i
+      → next_state operation code (place_at env.places t i).state ≡ Ok next → Counts env.places t holder c (changed env holder t i (moved_to operation code (latest_clock t) next (place_at env.places t i)))
   unfolding moved_to with_dates in_state
   move_counted {c} {operation} {code} {target} m i next e g =
       let x = sought holder target in

@@ -3,7 +3,7 @@
 use Prim.Native.Nat.{ℕ, zero, suc, ◌+◌, ◌^◌, ◌≤◌, ◌<◌}
 use mathlib.Core.Path.{◌≡◌, refl, sym, ap, subst, ◌∙◌}
 use mathlib.Core.Bool.{Bool, true, false, not, ◌||◌}
-use mathlib.Core.Option.{Option, none, some}
+use Rattle.std.specs.Prelude.{Option, None, Some}
 use mathlib.Core.List.{List, [], ◌∷◌}
 use lib.ListN.{length}
 use lib.Dec.{leb, ltb, eqb}
@@ -80,7 +80,7 @@ or_answered x t out buffer k p = on_bool (eqb k 0) (λ e. ap (λ (y : Effect). y
 
 -- the conditions of refusals 7 to 11 where there is a frame
 framing_number : (clock : ℕ) (t strip out buffer : List ℕ) (f : Frame)
-    → (carry_out clock t strip out buffer (framing (some f))).number
+    → (carry_out clock t strip out buffer (framing (Some f))).number
     ≡ ifb (not (version_ok f.header)) 7 (ifb (not (count_ok f)) 8 (ifb (not (option_ok (option_of f.header.option))) 9 (lowest 10 (late clock t buffer))))
 unfolding framing carry_out answered
 framing_number clock t strip out buffer f =
@@ -103,8 +103,8 @@ frame_number : (clock : ℕ) (t strip out buffer : List ℕ) (o : Option Frame)
     ∷ of_frame (λ f. not (option_ok (option_of f.header.option))) o
     ∷ late clock t buffer)
 unfolding carry_out framing lowest is_some of_frame ifb
-frame_number clock t strip out buffer none = refl
-frame_number clock t strip out buffer (some f) = framing_number clock t strip out buffer f
+frame_number clock t strip out buffer None = refl
+frame_number clock t strip out buffer (Some f) = framing_number clock t strip out buffer f
 
 -- the number of a call, by its early refusal
 abbrev numbered : Call → ℕ → ℕ
@@ -154,10 +154,10 @@ pub record Accepted (c : Call) : Type 0 where
   pub right : table_right c.table ≡ true
   pub items : Items
   pub frame : Frame
-  pub reads : message c.request ≡ some items
-  pub framed : frame_in items ≡ some frame
+  pub reads : message c.request ≡ Some items
+  pub framed : frame_in items ≡ Some frame
   pub counted : count_ok frame ≡ true
-  pub asks : framing (some frame) ≡ asked (request_of frame)
+  pub asks : framing (Some frame) ≡ asked (request_of frame)
   pub clock : above_zero c.clock ≡ true
   pub sized : length c.undo ≡ length c.table
 
@@ -202,11 +202,11 @@ module _ (c : Call) where
 
   -- where the sizes and the table are right, the frame that the request was read as decides
   by_frame : room_least ≤ length c.output → length c.strip ≡ strip_size → table_right c.table ≡ true
-      → (items : Items) → message c.request ≡ some items → (o : Option Frame) → frame_in items ≡ o
+      → (items : Items) → message c.request ≡ Some items → (o : Option Frame) → frame_in items ≡ o
       → Told c (decided (framing o))
   unfolding framing carry_out
-  by_frame room strip right items m none e = away 5
-  by_frame room strip right items m (some f) e =
+  by_frame room strip right items m None e = away 5
+  by_frame room strip right items m (Some f) e =
       on_if (λ (x : Framed). Told c (decided x))
       (λ n. away 6)
       (λ version. on_if (λ (x : Framed). Told c (decided x))
@@ -237,8 +237,8 @@ module _ (c : Call) where
     where
       by_reading : Passed c.request c.table c.strip c.output → (m : Option Items) → message c.request ≡ m
           → Told c (decided (framing (m >>= frame_in)))
-      by_reading p none m = away 5
-      by_reading p (some items) m = by_frame p.room p.strip_size p.right items m (frame_in items) refl
+      by_reading p None m = away 5
+      by_reading p (Some items) m = by_frame p.room p.strip_size p.right items m (frame_in items) refl
 
       by_early : (k : ℕ) → early_refusal c.request c.table c.strip (length c.output) ≡ k → Told c (served c)
       by_early zero e = let p = passed c.request c.table c.strip c.output e in subst (Told c) (sym (frame_decides p c.clock c.undo)) (by_reading p (message c.request) refl)

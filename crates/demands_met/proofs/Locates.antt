@@ -4,7 +4,7 @@ use Prim.Native.Nat.{ℕ, ◌<◌}
 use native.Mathlib.Omega.{arith}
 use mathlib.Core.Path.{◌≡◌, refl, sym, ap, subst, ◌∙◌}
 use mathlib.Core.Bool.{true, true≢false}
-use mathlib.Core.Option.{Option, none, some}
+use Rattle.std.specs.Prelude.{Option, None, Some}
 use mathlib.Core.List.{List}
 use Rattle.octets.proofs.Maybe.{some_is, on_bind, on_test}
 use Rattle.ttlv.specs.Items.{Items}
@@ -12,8 +12,6 @@ use Rattle.table.specs.declared.Record.{Record}
 use Rattle.table.specs.Records.{place_at, serial_at, name_at}
 use Rattle.table.proofs.Places.{name_is}
 use Rattle.table.proofs.Blank.{zero_place}
-use Rattle.search.specs.declared.Found.{Found}
-use Rattle.search.specs.declared.Found.TheVariants.{At, Nothing}
 use Rattle.names.specs.declared.Name.{Name}
 use Rattle.names.specs.Names.{is_named}
 use Rattle.names.proofs.Texts.{of_named}
@@ -48,9 +46,9 @@ module _ {n : ℕ} (t : List ℕ) (held : Held n t) where
       let bare : place_at n t i ≡ _ = zero_place n t i (facts n t held).size low empty.line empty.body in
       true≢false (sym there ∙ ap is_named (name_is n t i ∙ ap (λ (r : Record). r.name) bare))
 
-  finds : (name : Name) → is_named name ≡ true → (f : Found) → find_name n t name ≡ f → Finds n name t (serial_found t f)
+  finds : (name : Name) → is_named name ≡ true → (f : Option ℕ) → find_name n t name ≡ f → Finds n name t (serial_found t f)
   unfolding serial_found
-  finds name is (At i) e =
+  finds name is (Some i) e =
       let low = found_name_below n t name i e in
       let here = found_name n t name i e in
       let there = ap is_named here ∙ is in
@@ -58,7 +56,7 @@ module _ {n : ℕ} (t : List ℕ) (held : Held n t) where
         nothing = λ z. absurd (named_stands i low there z);
         there = λ z. (i, record { below = low; serial = refl }, sym (name_is n t i) ∙ here);
       }
-  finds name is Nothing e = record {
+  finds name is None e = record {
     nothing = λ z j l q. none_named n t name is e j l (name_is n t j ∙ q);
     there = λ z. absurd (z refl);
   }
@@ -66,13 +64,13 @@ module _ {n : ℕ} (t : List ℕ) (held : Held n t) where
 -- ---- an item
 
 -- a name that Locate asks for is one
-body_named : (t : Items) {m : Name} → name_body t ≡ some m → is_named m ≡ true
+body_named : (t : Items) {m : Name} → name_body t ≡ Some m → is_named m ≡ true
 unfolding name_body
 body_named t h =
     on_bind h λ v e1 h1. on_test h1 λ ok h2. on_bind h2 λ kind e2 h3. on_test h3 λ one h4. on_test h4 λ end h5.
     subst (λ (m : Name). is_named m ≡ true) (some_is h5) (of_named v.0 ok)
 
-only_named : (t : Items) {m : Name} → only_name_in t ≡ some m → is_named m ≡ true
+only_named : (t : Items) {m : Name} → only_name_in t ≡ Some m → is_named m ≡ true
 unfolding only_name_in name_first
 only_named t h =
     on_bind h λ a e1 h1. on_test h1 λ end h2.
@@ -85,9 +83,9 @@ locate_named t {name} h =
     on_bind (read (locate_in t) h) λ a e1 h1. on_test h1 λ end h2. on_bind h2 λ m e3 h3.
     subst (λ (m : Name). is_named m ≡ true) (made (some_is h3)) (only_named a.0 e3)
   where
-    read : (o : Option Command) → or_invalid o ≡ Locate name → o ≡ some (Locate name)
-    read none z = let y : ◌≡◌ {A = ℕ} 0 1 = cc in absurd (omega arith)
-    read (some c) z = ap (λ (x : Command). some x) z
+    read : (o : Option Command) → or_invalid o ≡ Locate name → o ≡ Some (Locate name)
+    read None z = let y : ◌≡◌ {A = ℕ} 0 1 = cc in absurd (omega arith)
+    read (Some c) z = ap (λ (x : Command). Some x) z
 
     made : {m : Name} → Locate m ≡ Locate name → m ≡ name
     made z = cc

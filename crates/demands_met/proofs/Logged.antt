@@ -1,5 +1,6 @@
 -- Counts, serials and the log, kept in step: an invariant of the log and the table, over one item, a batch and a run.
 -- Assumes nothing.
+use Rattle.std.specs.Prelude.{Some}
 use Prim.Native.Nat.{ℕ, suc, ◌+◌, ◌≤◌, ◌<◌}
 use native.Mathlib.Omega.{arith}
 use native.Mathlib.Decide.{ℕ_discrete}
@@ -9,7 +10,6 @@ use mathlib.Core.List.{List, ◌∷◌}
 use borrow.Author.Tests.{eq-eqb, ne_eqb}
 use Rattle.octets.proofs.If.{ifb_true, ifb_false}
 use Rattle.table.specs.declared.Record.{Record}
-use Rattle.search.specs.declared.Found.TheVariants.{At}
 use Rattle.table.specs.Records.{place_at, last_serial}
 use Rattle.search.specs.Search.{find}
 use Rattle.table.proofs.Places.{serial_is}
@@ -86,7 +86,7 @@ module _ (n : ℕ) (log : List Event) (t : List ℕ) (inv : Inv n log t) (e : Ev
       by_command (Create wanted) d = refl
       by_command (Rekey target offset) d = copied (q.copies target offset d (sym (ap (issued_by (command_of e)) same) ∙ i))
         where
-          copied : find n t (sought e.held target) ≡ At q.place → limit (sought e.held target) log ≡ (place_at n t q.place).total
+          copied : find n t (sought e.held target) ≡ Some q.place → limit (sought e.held target) log ≡ (place_at n t q.place).total
           copied f =
               let x = sought e.held target in
               let is : (place_at n t q.place).serial ≡ x = sym (serial_is n t q.place) ∙ find_serial n t x q.place f in

@@ -5,7 +5,7 @@ use native.Mathlib.Omega.{arith}
 use native.Mathlib.Nat.{max-eq_left, max-eq_right}
 use mathlib.Core.Path.{◌≡◌, refl, sym, ap, ap₂, subst, ◌∙◌}
 use mathlib.Core.Bool.{true, ◌&&◌}
-use mathlib.Core.Option.{some}
+use Rattle.std.specs.Prelude.{Some}
 use mathlib.Core.List.{List}
 use lib.ListN.{length, take, drop}
 use lib.Seq.{take_at, drop_at}
@@ -178,7 +178,7 @@ module _ (c : Call) (lent : Lent c) (a : Accepted c) where
         spelling = bytes;
         response = respond r;
         readable = ap message front_is ∙ response_message_lem r left_allowed;
-        read_back = answers_back r left_allowed ∙ ap some same;
+        read_back = answers_back r left_allowed ∙ ap Some same;
         one_response = λ q ok e. bytes_one q r ok left_allowed (e ∙ front_is) ∙ same;
         one_spelling = λ s b h. (response_spells s (meant c option chained.links) b h).0 ∙ sym bytes;
       }

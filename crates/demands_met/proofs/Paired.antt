@@ -1,5 +1,6 @@
 -- The log of a batch: the events read from the bytes are the items with their answers, each goes a tame step, and the invariant holds behind it.
 -- Assumes nothing.
+use Rattle.std.specs.Prelude.{Option}
 use Prim.Native.Nat.{ℕ, ◌+◌, ◌*◌, ◌≤◌}
 use native.Mathlib.Omega.{arith}
 use mathlib.Core.Path.{◌≡◌, refl, sym, subst, ◌∙◌}
@@ -13,7 +14,6 @@ use Rattle.octets.proofs.If.{ifb_true, ifb_false, on_if}
 use Rattle.table.specs.Layout.{material_size}
 use Rattle.rules.specs.Numbers.{rekey, get_usage_allocation, activate, revoke, destroy}
 use Rattle.batch_item.specs.Item.{Asked}
-use Rattle.rules.specs.declared.Offset.{Offset}
 use Rattle.target_read.specs.declared.Target.{Target}
 use Rattle.payload.specs.declared.Command.{Command}
 use Rattle.payload.specs.declared.Command.TheVariants.{Rekey, GetUsageAllocation}
@@ -35,7 +35,7 @@ use Rattle.demands_met.proofs.Ordered.{inv_order}
 
 -- ---- the placeholder
 
-rekey_is : {operation : ℕ} {target : Target} {offset : Offset} → Commanded operation (Rekey target offset) → operation ≡ rekey
+rekey_is : {operation : ℕ} {target : Target} {offset : Option ℕ} → Commanded operation (Rekey target offset) → operation ≡ rekey
 rekey_is (to_rekey o) = o
 
 allocation_not : {operation amount : ℕ} {target : Target} → Commanded operation (GetUsageAllocation target amount) → operation ≡ rekey → ⊥

@@ -3,7 +3,7 @@
 use Prim.Native.Nat.{ℕ, suc, ◌+◌, ◌*◌, ◌≤◌}
 use native.Mathlib.Omega.{arith}
 use mathlib.Core.Path.{◌≡◌, refl, sym, ap, subst, ◌∙◌}
-use mathlib.Core.Option.{Option, none, some}
+use Rattle.std.specs.Prelude.{Option, None, Some}
 use mathlib.Core.Bool.{true}
 use mathlib.Core.List.{List, []}
 use lib.ListN.{length, take}
@@ -44,7 +44,7 @@ use Rattle.demands_met.proofs.Unmade.{unmade_travels, batch_unmade}
 -- ---- the events of one call
 
 -- no bytes are no item
-no_message : message [] ≡ none
+no_message : message [] ≡ None
 unfolding message parse walk more first_of is_one ifb ◌>>=◌ ◌>>◌
 no_message = refl
 
@@ -70,7 +70,7 @@ module _ (c : Call) (lent : Lent c) (a : Accepted c) where
   unfolding answered or_no_answers ◌>>=◌
   answers_are =
       let r : Response = response_to (counting c) (left_of c a) in
-      let g : (message (take (length (spelling c lent a)) (over (spelling c lent a) c.output)) >>= answers_in) ≡ some r = ap (λ (s : List ℕ). message s >>= answers_in) (front_is c lent a) ∙ response_back r (left_allowed c lent a) in
+      let g : (message (take (length (spelling c lent a)) (over (spelling c lent a) c.output)) >>= answers_in) ≡ Some r = ap (λ (s : List ℕ). message s >>= answers_in) (front_is c lent a) ∙ response_back r (left_allowed c lent a) in
       ap or_no_answers g
 
   pub events_accepted : events_of c (answered_by c a) ≡ paired 0 a.frame.items (left_of c a).answers

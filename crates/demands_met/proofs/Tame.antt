@@ -1,5 +1,6 @@
 -- What one item may do to the records: states change only by the listed transitions, a record leaves its place only by a take-over, and untouched records stay.
 -- Assumes nothing.
+use Rattle.std.specs.Prelude.{Option, None, Some}
 use Prim.Native.Nat.{ℕ, ◌+◌, ◌<◌, ◌≤◌}
 use native.Mathlib.Omega.{arith}
 use native.Mathlib.Decide.{ℕ_discrete}
@@ -19,8 +20,6 @@ use Rattle.octets.proofs.If.{ifb_true, ifb_false}
 use Rattle.octets.specs.Octets.{Bytes}
 use Rattle.octets.proofs.Bools.{and_i, and_no, or_l, or_r}
 use Rattle.table.specs.declared.Record.{Record}
-use Rattle.search.specs.declared.Found.{Found}
-use Rattle.search.specs.declared.Found.TheVariants.{At, Nothing}
 use Rattle.table.specs.Layout.{material_size}
 use Rattle.table.specs.Records.{place_at, serial_at, is_free, last_serial, latest_clock}
 use Rattle.search.specs.Search.{find, new_place, is_destroyed}
@@ -78,15 +77,15 @@ move_live (destroys_compromised o s n) d = absurd (false≢true (sym d ∙ ap is
 
 -- ---- places
 
-is_at_lem : (i k : ℕ) (f : Found) → f ≡ At k → i ≡ k → is_at i f ≡ true
+is_at_lem : (i k : ℕ) (f : Option ℕ) → f ≡ Some k → i ≡ k → is_at i f ≡ true
 unfolding is_at
 is_at_lem i k f e q = ap (is_at i) e ∙ eq-eqb k i (sym q)
 
-not_at : (i k : ℕ) (f : Found) → f ≡ At k → (i ≡ k → ⊥) → is_at i f ≡ false
+not_at : (i k : ℕ) (f : Option ℕ) → f ≡ Some k → (i ≡ k → ⊥) → is_at i f ≡ false
 unfolding is_at
 not_at i k f e q = ap (is_at i) e ∙ ne_eqb k i (λ z. q (sym z))
 
-at_is : (i k : ℕ) (f : Found) → f ≡ At k → is_at i f ≡ true → i ≡ k
+at_is : (i k : ℕ) (f : Option ℕ) → f ≡ Some k → is_at i f ≡ true → i ≡ k
 unfolding is_at
 at_is i k f e h = sym (eqb-true k i (sym (ap (is_at i) e) ∙ h))
 
@@ -105,21 +104,21 @@ abbrev took_at : ℕ → List ℕ → Command → Did → ℕ → Bool
 took_at n t c did i = not (eqb (issued_by c did.outcome) 0) && is_at i (new_place n t)
 
 -- an item takes no place but the one that is due, and none where it issues nothing
-not_taken : (n : ℕ) (t : List ℕ) (c : Command) (did : Did) (i k : ℕ) → new_place n t ≡ At k → (i ≡ k → ⊥) → took_at n t c did i ≡ false
+not_taken : (n : ℕ) (t : List ℕ) (c : Command) (did : Did) (i k : ℕ) → new_place n t ≡ Some k → (i ≡ k → ⊥) → took_at n t c did i ≡ false
 not_taken n t c did i k e q = and_false (not (eqb (issued_by c did.outcome) 0)) (is_at i (new_place n t)) (not_at i k (new_place n t) e q)
 
 none_taken : (n : ℕ) (t : List ℕ) (c : Command) (did : Did) (i : ℕ) → issued_by c did.outcome ≡ 0 → took_at n t c did i ≡ false
 none_taken n t c did i e = and_no (not (eqb (issued_by c did.outcome) 0)) (is_at i (new_place n t)) (ap (λ (s : ℕ). not (eqb s 0)) e)
 
 -- the record that a search in n places found
-pub found_at : ℕ → List ℕ → Found → Record
-found_at n t (At i) = place_at n t i
-found_at n t Nothing = place_at n t 0
+pub found_at : ℕ → List ℕ → Option ℕ → Record
+found_at n t (Some i) = place_at n t i
+found_at n t None = place_at n t 0
 
-found_same : (n : ℕ) (t : List ℕ) (f : Found) → found_at n t f ≡ found_in n t f
+found_same : (n : ℕ) (t : List ℕ) (f : Option ℕ) → found_at n t f ≡ found_in n t f
 unfolding found_at found_in
-found_same n t (At i) = refl
-found_same n t Nothing = refl
+found_same n t (Some i) = refl
+found_same n t None = refl
 
 -- the state in which what the item issues begins
 abbrev born_as : ℕ → ℕ → List ℕ → Command → ℕ
@@ -139,7 +138,7 @@ quiet_none n holder t c did i e = and_no (not (eqb (issued_by c did.outcome) 0))
 
 find_zero : (n : ℕ) (t : List ℕ) (i : ℕ) → is_at i (find n t 0) ≡ false
 unfolding find is_at
-find_zero n t i = ap (is_at i) (ifb_true (eqb 0 0) Nothing _ refl)
+find_zero n t i = ap (is_at i) (ifb_true (eqb 0 0) None _ refl)
 
 -- and moves its state by a listed transition
 abbrev way_at : ℕ → List ℕ → ℕ → Command → Did → ℕ → Bool
@@ -200,7 +199,7 @@ module _ {n holder : ℕ} {t : List ℕ} {operation : ℕ} {c : Command} {did : 
   }
 
   -- an object that is new
-  born : (k : ℕ) → new_place n t ≡ At k → i ≡ k → (issued_by c did.outcome ≡ 0 → ⊥) → moves_state c ≡ false
+  born : (k : ℕ) → new_place n t ≡ Some k → i ≡ k → (issued_by c did.outcome ≡ 0 → ⊥) → moves_state c ≡ false
       → (place_at n did.table i).serial ≡ issued_by c did.outcome → (place_at n did.table i).state ≡ born_as n holder t c → (place_at n did.table i).name ≡ born_called n holder t c → TameAt n holder t operation c did i
   born k e q new still s b m = record {
     holds = λ miss d. absurd (true≢false (sym hit ∙ miss));
@@ -219,7 +218,7 @@ module _ {n holder : ℕ} {t : List ℕ} {operation : ℕ} {c : Command} {did : 
       was =
           ⊎_elim (λ z. or_l (is_free t i) _ (eq-eqb (serial_at t i) 0 z))
           (λ d. or_r (is_free t i) _ (ap is_destroyed (sym (state_is n t i)) ∙ d.1))
-          (new_at n t i (e ∙ ap At (sym q)))
+          (new_at n t i (e ∙ ap Some (sym q)))
 
 -- a record's key with other bytes
 abbrev key_with : Record → List ℕ → Key
@@ -257,8 +256,8 @@ module _ (env : Env) (holder : ℕ) (t : List ℕ) (held : Held env.places t) (f
   kind_tame c did (rekeys target offset k e alive single right room) m =
       let x = sought holder target in
       let b = heir_leaves n t held room env.fresh fresh_bytes offset k (find_below n t x k e) (found_stands n t x k e) alive right in
-      let begins = ap (λ (f : Found). born_by (latest_clock t) c (found_at n t f)) e in
-      let called_so = ap (λ (f : Found). name_born c (found_at n t f)) e in
+      let begins = ap (λ (f : Option ℕ). born_by (latest_clock t) c (found_at n t f)) e in
+      let called_so = ap (λ (f : Option ℕ). name_born c (found_at n t f)) e in
       let issues : (last_serial t + 1 ≡ 0) → ⊥ = λ z. omega arith in
       elim (ℕ_discrete i b.place) [
         | yes q ↦ (let r = here did.table q b.new in
@@ -287,7 +286,7 @@ module _ (env : Env) (holder : ℕ) (t : List ℕ) (held : Held env.places t) (f
       let x = sought holder target in
       let st = moved_leaves n t held k (find_below n t x k e) (found_stands n t x k e) op code next g in
       let w = move_code holder v m in
-      let found : find n t (named_by holder c) ≡ At k = ap (find n t) w.2 ∙ e in
+      let found : find n t (named_by holder c) ≡ Some k = ap (find n t) w.2 ∙ e in
       let miss : took_at n t c did i ≡ false = none_taken n t c did i (move_issues v did.outcome) in
       elim (ℕ_discrete i k) [
         | no p ↦ stayed i (other n t k _ _ _ st i low p) miss (quiet_none n holder t c did i (move_issues v did.outcome)) (λ a f z. p (at_is i k _ found a))
@@ -323,7 +322,7 @@ kind_stands env holder t held fresh_bytes c did (locates name) m h = absurd (h r
 
 -- a success that issues nothing is about a record that stands, and carries its identifier
 module _ (env : Env) (holder : ℕ) (t : List ℕ) where
-  named_there : (c : Command) (did : Did) (x k : ℕ) → find env.places t x ≡ At k → named_by holder c ≡ x → carries did.outcome ≡ (place_at env.places t k).serial
+  named_there : (c : Command) (did : Did) (x k : ℕ) → find env.places t x ≡ Some k → named_by holder c ≡ x → carries did.outcome ≡ (place_at env.places t k).serial
       → (i : ℕ) × (i < env.places) × (is_at i (find env.places t (named_by holder c)) ≡ true) × (carries did.outcome ≡ serial_at t i)
   named_there c did x k e n s =
       (k, find_below env.places t x k e, is_at_lem k k _ (ap (find env.places t) n ∙ e) refl, s ∙ sym (serial_is env.places t k))
@@ -341,10 +340,10 @@ module _ (env : Env) (holder : ℕ) (t : List ℕ) where
   kind_about c did (locates name) m f z a = absurd (true≢false a)
 
   -- what a search for a name found stands
-  named_found : (name : Name) (f : Found) → find_name env.places t name ≡ f → (serial_found t f ≡ 0 → ⊥) → (i : ℕ) × (i < env.places) × (serial_at t i ≡ serial_found t f)
+  named_found : (name : Name) (f : Option ℕ) → find_name env.places t name ≡ f → (serial_found t f ≡ 0 → ⊥) → (i : ℕ) × (i < env.places) × (serial_at t i ≡ serial_found t f)
   unfolding serial_found
-  named_found name (At i) e h = (i, found_name_below env.places t name i e, refl)
-  named_found name Nothing e h = absurd (h refl)
+  named_found name (Some i) e h = (i, found_name_below env.places t name i e, refl)
+  named_found name None e h = absurd (h refl)
 
   moving_named : {c : Command} {operation code : ℕ} {target : Target} → Moving c operation code target → asks_name c ≡ false
   unfolding asks_name

@@ -4,7 +4,7 @@ use Prim.Native.Nat.{ℕ, suc, ◌-◌, ◌≤◌}
 use native.Mathlib.Omega.{arith}
 use mathlib.Core.Path.{◌≡◌, refl, sym, ap, subst, ◌∙◌}
 use mathlib.Core.Bool.{true, false≢true}
-use mathlib.Core.Option.{Option, none, some}
+use Rattle.std.specs.Prelude.{Option, None, Some, Ok, Err}
 use mathlib.Core.List.{List}
 use lib.ListN.{length, take, drop, length-drop}
 use lib.Seq.{take_all}
@@ -22,10 +22,12 @@ use Rattle.table.specs.Records.{places_said}
 use Rattle.place_counts.proofs.Counts.{right_sound}
 use Rattle.soundness.proofs.SoundIs.{sound_is}
 use Rattle.changes.specs.Dates.{counted_clock, began}
-use Rattle.frame.specs.declared.Framing.{Framing}
+use Rattle.refusal.specs.declared.Refusal.{Refusal}
+use Rattle.refusal.specs.Numbers.{refusal_number}
+use Rattle.refusal.proofs.Numbers.{number_above}
 use Rattle.batch_item.specs.Item.{Asked, items_in}
 use Rattle.frame.specs.Frame.{Frame, Framed, Request, refused, asked, frame_in, framing, framed, batch_most}
-use Rattle.frame.specs.Readers.{items_at, framing_in, framing_of}
+use Rattle.frame.specs.Readers.{Framing, items_at, framing_in, framing_of}
 use Rattle.frame.proofs.Frame.{BatchShape, batch_shape}
 use Rattle.plans.specs.Plans.{empty_holder}
 use Rattle.batch.specs.Batch.{Ran, batch, first_item, running}
@@ -62,8 +64,8 @@ data Taken : Framed → Type 0 where
 
 framing_taken : (o : Option Frame) → Taken (framing o)
 unfolding framing
-framing_taken none = not_taken 5
-framing_taken (some f) = on_if Taken (λ e. not_taken 6) (λ e. on_if Taken (λ e. not_taken 7) (λ e. on_if Taken (λ e. not_taken 8) (λ e. taken _)))
+framing_taken None = not_taken 5
+framing_taken (Some f) = on_if Taken (λ e. not_taken 6) (λ e. on_if Taken (λ e. not_taken 7) (λ e. on_if Taken (λ e. not_taken 8) (λ e. taken _)))
 
 module _ {request t strip out : List ℕ} (p : Passed request t strip out) (clock : ℕ) (buffer : List ℕ) where
   -- by the number of the frame: the refusal is the outcome, or the request that was read decides
@@ -75,18 +77,18 @@ module _ {request t strip out : List ℕ} (p : Passed request t strip out) (cloc
   unfolding framing_of framing_in framed carry_out is_some ◌>>=◌
   frames = by_message (message request) refl p.is_message
     where
-      decided : {items : Items} {f : Framed} → message request ≡ some items → framed items ≡ f → serving request t strip clock out buffer ≡ carry_out clock t strip out buffer f
+      decided : {items : Items} {f : Framed} → message request ≡ Some items → framed items ≡ f → serving request t strip clock out buffer ≡ carry_out clock t strip out buffer f
       decided m e = frame_decides p clock buffer ∙ ap (λ (x : Option Items). carry_out clock t strip out buffer (framing (x >>= frame_in))) m ∙ ap (carry_out clock t strip out buffer) e
 
-      by_taken : (items : Items) → message request ≡ some items → (f : Framed) → framed items ≡ f → Taken f → Frames (framing_of request).number
+      by_taken : (items : Items) → message request ≡ Some items → (f : Framed) → framed items ≡ f → Taken f → Frames (framing_of request).number
       by_taken items m f e (not_taken k) =
           subst Frames (sym (ap (λ (x : Framed). (framing_in x (items_at request)).number) (ap framed (message_tree request items m).1 ∙ e))) (refuses k (decided m e))
       by_taken items m f e (taken r) =
           subst Frames (sym (batch_shape request items r m e).number) (takes r (batch_shape request items r m e) (decided m e))
 
       by_message : (o : Option Items) → message request ≡ o → is_some o ≡ true → Frames (framing_of request).number
-      by_message none m h = absurd (false≢true h)
-      by_message (some items) m h = by_taken items m (framed items) refl (framed_is items)
+      by_message None m h = absurd (false≢true h)
+      by_message (Some items) m h = by_taken items m (framed items) refl (framed_is items)
         where
           framed_is : (x : Items) → Taken (framed x)
           framed_is x = framing_taken (frame_in x)
@@ -101,7 +103,7 @@ module _ {request : List ℕ} {r : Request} (shape : BatchShape request r) where
   lent_is : lent_items ≡ drop (framing_of request).items request
   lent_is = take_all (length request - (framing_of request).items) (drop (framing_of request).items request) (rw length-drop (omega arith))
 
-  lent_asks : items_in (tree_of lent_items) ≡ some r.items
+  lent_asks : items_in (tree_of lent_items) ≡ Some r.items
   lent_asks = ap (λ (u : List ℕ). items_in (tree_of u)) lent_is ∙ shape.items
 
   -- what answering asks
@@ -130,9 +132,9 @@ module _ {request : List ℕ} {r : Request} (shape : BatchShape request r) where
 -- ---- what `serve` answers
 
 -- a call that is turned away
-away_is : {request t strip : List ℕ} {clock : ℕ} {out buffer : List ℕ} (k : ℕ) → serving request t strip clock out buffer ≡ turned_away t out buffer k
-    → ServedIs request t strip clock out buffer (record { number = k; length = 0 }) t out buffer
-away_is k e = record {
+away_is : {request t strip : List ℕ} {clock : ℕ} {out buffer : List ℕ} (r : Refusal) → serving request t strip clock out buffer ≡ turned_away t out buffer (refusal_number r)
+    → ServedIs request t strip clock out buffer (Err r) t out buffer
+away_is r e = record {
   number = sym (ap (λ (x : Effect). x.number) e);
   length = sym (ap (λ (x : Effect). x.length) e);
   table = sym (ap (λ (x : Effect). x.table) e);
@@ -140,9 +142,9 @@ away_is k e = record {
   undo = sym (ap (λ (x : Effect). x.undo) e);
 }
 
-pub early_away : (request t strip : List ℕ) (clock : ℕ) (out buffer : List ℕ) (k : ℕ) → k ≡ early_refusal request t strip (length out) → (k ≡ 0 → ⊥)
-    → ServedIs request t strip clock out buffer (record { number = k; length = 0 }) t out buffer
-early_away request t strip clock out buffer k e h = away_is k (refused_early request t strip clock out buffer k e h)
+pub early_away : (request t strip : List ℕ) (clock : ℕ) (out buffer : List ℕ) (r : Refusal) → refusal_number r ≡ early_refusal request t strip (length out)
+    → ServedIs request t strip clock out buffer (Err r) t out buffer
+early_away request t strip clock out buffer r e = away_is r (refused_early request t strip clock out buffer (refusal_number r) e (number_above r))
 
 -- a call to which refusals 1 to 9 do not apply: the frame says where its items stand
 pub record Asks (request t strip : List ℕ) (clock : ℕ) (out buffer : List ℕ) (f : Framing) : Type 0 where
@@ -156,12 +158,12 @@ module _ {request t strip out : List ℕ} (p : Passed request t strip out) (cloc
   frames_by : Frames p clock buffer f.number
   frames_by = subst (λ (x : Framing). Frames p clock buffer x.number) (sym e) (frames p clock buffer)
 
-  pub frame_away : (f.number ≡ 0 → ⊥) → ServedIs request t strip clock out buffer (record { number = f.number; length = 0 }) t out buffer
-  frame_away h = away_is f.number (go frames_by h)
+  pub frame_away : (r : Refusal) → refusal_number r ≡ f.number → ServedIs request t strip clock out buffer (Err r) t out buffer
+  frame_away r same = away_is r (go frames_by same)
     where
-      go : {n : ℕ} → Frames p clock buffer n → (n ≡ 0 → ⊥) → serving request t strip clock out buffer ≡ turned_away t out buffer n
-      go (refuses j q) h = q
-      go (takes r s q) h = absurd (h refl)
+      go : {n : ℕ} → Frames p clock buffer n → refusal_number r ≡ n → serving request t strip clock out buffer ≡ turned_away t out buffer (refusal_number r)
+      go (refuses j q) same = q ∙ ap (turned_away t out buffer) (sym same)
+      go (takes x s q) same = absurd (number_above r same)
 
   pub frame_asks : f.number ≡ 0 → Asks request t strip clock out buffer f
   frame_asks z = go frames_by z
@@ -192,14 +194,15 @@ module _ {request t strip : List ℕ} {clock : ℕ} {out buffer : List ℕ} {f :
     late_is = e ∙ ap (λ (k : ℕ). late_refusal k (length t) (length buffer)) same
 
     -- refusals 10 and 11
-    pub late_away : (late ≡ 0 → ⊥) → ServedIs request t strip clock out buffer (record { number = late; length = 0 }) t out buffer
+    pub late_away : (r : Refusal) → refusal_number r ≡ late → ServedIs request t strip clock out buffer (Err r) t out buffer
     unfolding carry_out
-    late_away h =
-        away_is late (a.decides ∙ ifb_false _ _ _ (ne_eqb (late_refusal clock (length t) (length buffer)) 0 (λ z. h (late_is ∙ z))) ∙ ap (turned_away t out buffer) (sym late_is))
+    late_away r k =
+        let h : late ≡ 0 → ⊥ = λ z. number_above r (k ∙ z) in
+        away_is r (a.decides ∙ ifb_false _ _ _ (ne_eqb (late_refusal clock (length t) (length buffer)) 0 (λ z. h (late_is ∙ z))) ∙ ap (turned_away t out buffer) (sym (k ∙ late_is)))
 
-    module _ (none : late ≡ 0) where
+    module _ (not_late : late ≡ 0) where
       none_late : late_refusal clock (length t) (length buffer) ≡ 0
-      none_late = sym late_is ∙ none
+      none_late = sym late_is ∙ not_late
 
       -- with the places that the lead says, as they were read
       module _ {n : ℕ} (places : n ≡ places_said t) where
@@ -229,7 +232,7 @@ module _ {request t strip : List ℕ} {clock : ℕ} {out buffer : List ℕ} {f :
 
         -- none
         pub served_is : {length : ℕ} {t' out' buffer' : List ℕ} → AcceptedIs (accepted_over n (items f) strip f.option bits t out buffer) length t' out' buffer'
-            → ServedIs request t strip clock out buffer (record { number = 0; length = length }) t' out' buffer'
+            → ServedIs request t strip clock out buffer (Ok length) t' out' buffer'
         unfolding answered
         served_is is = record {
           number = ap (λ (x : Effect). x.number) whole;

@@ -1,8 +1,9 @@
 -- What the engine's functions ask and answer; `serving` is the whole.
 -- Assumes nothing.
-use Rattle.std.specs.Prelude.{ℕ, ◌≡◌, List, length}
+use Rattle.std.specs.Prelude.{ℕ, ◌≡◌, List, length, Result}
 use Rattle.batch.specs.Runs.{RunsIn, ran_over}
-use Rattle.engine.specs.declared.Served.{Served}
+use Rattle.refusal.specs.declared.Refusal.{Refusal}
+use Rattle.refusal.specs.Numbers.{told_of}
 use Rattle.calls.specs.Effects.{Effect, room_least}
 use Rattle.engine.specs.Serving.{accepted, serving}
 
@@ -22,10 +23,10 @@ pub record AcceptedIs (e : Effect) (r : ℕ) (t' out' buffer' : List ℕ) : Type
   pub output : out' ≡ e.output
   pub undo : buffer' ≡ e.undo
 
--- what a call leaves: number, length, table, output and second buffer are those of `serving`
-pub record ServedIs (request t strip : List ℕ) (clock : ℕ) (out buffer : List ℕ) (r : Served) (t' out' buffer' : List ℕ) : Type 0 where
-  pub number : r.number ≡ (serving request t strip clock out buffer).number
-  pub length : r.length ≡ (serving request t strip clock out buffer).length
+-- what a call leaves: what is told of it, the number and the length, and table, output and second buffer are those of `serving`
+pub record ServedIs (request t strip : List ℕ) (clock : ℕ) (out buffer : List ℕ) (r : Result ℕ Refusal) (t' out' buffer' : List ℕ) : Type 0 where
+  pub number : (told_of r).0 ≡ (serving request t strip clock out buffer).number
+  pub length : (told_of r).1 ≡ (serving request t strip clock out buffer).length
   pub table : t' ≡ (serving request t strip clock out buffer).table
   pub output : out' ≡ (serving request t strip clock out buffer).output
   pub undo : buffer' ≡ (serving request t strip clock out buffer).undo

@@ -6,6 +6,12 @@ ghost use Rattle.std.specs.Int.{w64};
 ghost use Rattle.std.proofs.Common.{of_z};
 ghost use Rattle.engine.specs.Calls.{RunsWhole, accepted_over, AcceptedIs, ServedIs};
 
+use refusal::Refusal;
+
+// A table's bytes and its place count stay two parameters, as in `table`.
+
+// An option stays a number, as `settle::run_batch` takes it.
+
 // The sizes that a caller keeps to; the table's are those of `table::Layout`.
 pub const ROOM_LEAST: usize = refusals::ROOM_LEAST;
 
@@ -14,13 +20,6 @@ pub const STRIP_SIZE: usize = refusals::STRIP_SIZE;
 pub const REQUEST_MOST: usize = refusals::REQUEST_MOST;
 
 const FRAME_SIZE: usize = 88;
-
-// What a call answers: the number of the refusal, or 0, and the bytes of the response.
-#[derive(Clone, Copy)]
-pub struct Served {
-    pub number: u32,
-    pub length: usize,
-}
 
 // An accepted request: the clock that counts is stored and what is due by it is done, then the
 // items are carried out and answered, and the front is written. Answers the length of the response.
@@ -45,9 +44,9 @@ fn answer_all(
     FRAME_SIZE + used
 }
 
-// One request in, a response out, the table changed. The number of a refusal, with length 0 and
-// nothing touched; or 0 and the length of the response. The second buffer is for Undo: it has the
-// table's size.
+// One request in, a response out, the table changed: answers the length of the response. Or the
+// request is turned away, and nothing is touched. The second buffer is for Undo: it has the table's
+// size.
 pub fn serve(
     request: &[u8],
     table: &mut [u8],
@@ -55,32 +54,15 @@ pub fn serve(
     clock: i64,
     out: &mut [u8],
     undo: &mut [u8],
-) -> Served
+) -> Result<usize, Refusal>
     ensures { ServedIs request.now table.old fresh.now (of_z w64 clock) out.old undo.old result table.new out.new undo.new }
 {
-    let early = refusals::early_refusal(request, table, fresh, out.len());
-    if early != 0 {
-        return Served {
-            number: early,
-            length: 0,
-        };
-    }
-    let framing = frame::read_frame(request);
-    let number = framing.number;
-    if number != 0 {
-        return Served { number, length: 0 };
-    }
+    refusals::early_refusal(request, table, fresh, out.len())?;
+    let batch = frame::read_frame(request)?;
     let bits = clock::bits_of(clock);
-    let late = refusals::late_refusal(bits, table.len(), undo.len());
-    if late != 0 {
-        return Served {
-            number: late,
-            length: 0,
-        };
-    }
+    refusals::late_refusal(bits, table.len(), undo.len())?;
     let n = table::places_said(table) as usize;
-    let from = framing.items;
-    let option = framing.option;
-    let length = answer_all(&request[from..], table, n, fresh, option, bits, out, undo);
-    Served { number: 0, length }
+    let items = &request[batch.items..];
+    let length = answer_all(items, table, n, fresh, batch.option, bits, out, undo);
+    Ok(length)
 }

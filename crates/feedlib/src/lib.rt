@@ -154,7 +154,8 @@ fn call<R: Read, W: Write>(
         return Ok(false);
     }
     let served = engine::serve(request, table, strip, head.clock, out, undo);
-    give(rt, to, served.number, served.length, table, out, undo)
+    let (number, length) = refusal::told(served);
+    give(rt, to, number, length, table, out, undo)
 }
 
 // The call that a head stands in front of. Answers whether to go on.

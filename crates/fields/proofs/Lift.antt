@@ -4,7 +4,7 @@ use mathlib.Core.Path.{◌≡◌, refl, sym, ap, ◌∙◌}
 use Prim.Native.Nat.{ℕ, ◌-◌, ◌^◌, ◌≤◌, ◌<◌}
 use native.Mathlib.Omega.{arith}
 use mathlib.Core.Bool.{Bool, true, false, ◌&&◌, ◌||◌}
-use mathlib.Core.Option.{Option, none, some}
+use Rattle.std.specs.Prelude.{Option, None, Some}
 use mathlib.Core.List.{List}
 use lib.ListN.{length, take, drop}
 use lib.Dec.{eqb}
@@ -23,12 +23,6 @@ use Rattle.fields.specs.Fields.{starts_with, bytes_of, body_of, number_of}
 use Rattle.fields.specs.Found.{starts_in, starts_at, bytes_in, bytes_at, number_in, number_at, body_in, body_at}
 use Rattle.ttlv.specs.declared.First.{First}
 use Rattle.ttlv.specs.declared.First.TheVariants.{Bad, End, Value, Group}
-use Rattle.fields.specs.declared.BytesField.{BytesField}
-use Rattle.fields.specs.declared.BytesField.TheVariants.{Span, NoSpan}
-use Rattle.fields.specs.declared.NumberField.{NumberField}
-use Rattle.fields.specs.declared.NumberField.TheVariants.{Number, NoNumber}
-use Rattle.fields.specs.declared.BodyField.{BodyField}
-use Rattle.fields.specs.declared.BodyField.TheVariants.{Body, NoBody}
 use Rattle.ttlv.proofs.Step.{rest}
 use Rattle.ttlv.proofs.Eight.{eight_part}
 use Rattle.ttlv.proofs.One.{parse_ended}
@@ -37,17 +31,17 @@ use Rattle.ttlv.proofs.Tree.{Tree, t_end, t_value, t_group, tree, run_parse, Res
 
 -- ---- what an answer stands for: the field, and the items of the rest
 
-abbrev pub bytes_read : List ℕ → BytesField → Option (List ℕ × Items)
-bytes_read s (Span n next) = some (part s 8 n, tree_of (drop next s))
-bytes_read s NoSpan = none
+abbrev pub bytes_read : List ℕ → Option (ℕ × ℕ) → Option (List ℕ × Items)
+bytes_read s (Some (n, next)) = Some (part s 8 n, tree_of (drop next s))
+bytes_read s None = None
 
-abbrev pub number_read : List ℕ → NumberField → Option (ℕ × Items)
-number_read s (Number v next) = some (v, tree_of (drop next s))
-number_read s NoNumber = none
+abbrev pub number_read : List ℕ → Option (ℕ × ℕ) → Option (ℕ × Items)
+number_read s (Some (v, next)) = Some (v, tree_of (drop next s))
+number_read s None = None
 
-abbrev pub body_read : List ℕ → BodyField → Option (Items × Items)
-body_read s (Body next) = some (tree_of (part s 8 (next - 8)), tree_of (drop next s))
-body_read s NoBody = none
+abbrev pub body_read : List ℕ → Option ℕ → Option (Items × Items)
+body_read s (Some next) = Some (tree_of (part s 8 (next - 8)), tree_of (drop next s))
+body_read s None = None
 
 -- ---- types whose values are numbers of at most eight bytes
 
@@ -88,7 +82,7 @@ unfolding bytes_of bytes_in ifb
 bytes_at_lem s tag kind nil End (t_end e) = refl
 bytes_at_lem s tag kind (value tag2 kind2 v r) (Value tag3 kind3 m nx) (t_value {tag = tg} {kind = kd} {n} {next} l b a o e) = arm (eqb tg tag && eqb kd kind)
   where
-    arm : (c : Bool) → ifb c (some (part s 8 n, tree_of (drop next s))) none ≡ bytes_read s (ifb c (Span n next) NoSpan)
+    arm : (c : Bool) → ifb c (Some (part s 8 n, tree_of (drop next s))) None ≡ bytes_read s (ifb c (Some (n, next)) None)
     arm true = refl
     arm false = refl
 bytes_at_lem s tag kind (group tag2 i r) (Group tag3 next) (t_group l b i2 e) = refl
@@ -108,7 +102,7 @@ body_at_lem s tag nil End (t_end e) = refl
 body_at_lem s tag (value tag2 kind2 v r) (Value tag3 kind3 m nx) (t_value l b a o e) = refl
 body_at_lem s tag (group tag2 i r) (Group tag3 nx) (t_group {tag = tg} {next} l b i2 e) = arm (eqb tg tag)
   where
-    arm : (c : Bool) → ifb c (some (tree_of (part s 8 (next - 8)), tree_of (drop next s))) none ≡ body_read s (ifb c (Body next) NoBody)
+    arm : (c : Bool) → ifb c (Some (tree_of (part s 8 (next - 8)), tree_of (drop next s))) None ≡ body_read s (ifb c (Some next) None)
     arm true = refl
     arm false = refl
 body_at_lem s tag nil Bad x'' = elim x'' [ ]
@@ -136,33 +130,33 @@ module _ (s : List ℕ) (run : is_run s ≡ true) where
     unfolding bytes_at
     bytes_lifts = bytes_at_lem s tag kind (tree_of s) (first_of s) (tree s run)
 
-    pub bytes_rest : {n next : ℕ} → bytes_at s tag kind ≡ Span n next → Rest s next
+    pub bytes_rest : {n next : ℕ} → bytes_at s tag kind ≡ Some (n, next) → Rest s next
     bytes_rest h = value_rest s run (bytes_first s tag kind h)
 
-    pub number_rest : {v next : ℕ} → number_at s tag kind ≡ Number v next → Rest s next
+    pub number_rest : {v next : ℕ} → number_at s tag kind ≡ Some (v, next) → Rest s next
     number_rest h = bytes_rest (number_bytes s tag kind h).1
 
-    numbers : is_number kind ≡ true → (b : BytesField) → bytes_at s tag kind ≡ b
-        → (bytes_read s b >>= λ (v, rest). some (from_be v, rest)) ≡ number_read s (number_in s b)
+    numbers : is_number kind ≡ true → (b : Option (ℕ × ℕ)) → bytes_at s tag kind ≡ b
+        → (bytes_read s b >>= λ (v, rest). Some (from_be v, rest)) ≡ number_read s (number_in s b)
     unfolding number_in ◌>>=◌
-    numbers k (Span n next) h =
+    numbers k (Some (n, next)) h =
         let e = eight_part n 8 s (number_length kind n k (bytes_ends s tag kind h).2) in
-        ap (λ (x : List ℕ). some (from_be x, tree_of (drop next s))) (sym e)
-    numbers k NoSpan h = refl
+        ap (λ (x : List ℕ). Some (from_be x, tree_of (drop next s))) (sym e)
+    numbers k None h = refl
 
     pub number_lifts : is_number kind ≡ true → number_of tag kind (tree_of s) ≡ number_read s (number_at s tag kind)
     unfolding number_of number_at
-    number_lifts k = ap (λ (o : Option (List ℕ × Items)). o >>= λ (v, rest). some (from_be v, rest)) bytes_lifts ∙ numbers k (bytes_at s tag kind) refl
+    number_lifts k = ap (λ (o : Option (List ℕ × Items)). o >>= λ (v, rest). Some (from_be v, rest)) bytes_lifts ∙ numbers k (bytes_at s tag kind) refl
 
   module _ (tag : ℕ) where
     pub body_lifts : body_of tag (tree_of s) ≡ body_read s (body_at s tag)
     unfolding body_at
     body_lifts = body_at_lem s tag (tree_of s) (first_of s) (tree s run)
 
-    pub body_rest : {next : ℕ} → body_at s tag ≡ Body next → Rest s next
+    pub body_rest : {next : ℕ} → body_at s tag ≡ Some next → Rest s next
     body_rest h = group_rest s run (body_first s tag h)
 
-    pub body_is_run : {next : ℕ} → body_at s tag ≡ Body next → is_run (part s 8 (next - 8)) ≡ true
+    pub body_is_run : {next : ℕ} → body_at s tag ≡ Some next → is_run (part s 8 (next - 8)) ≡ true
     body_is_run h = body_run s run (body_first s tag h)
 
 -- ---- the rest as code cuts it
@@ -173,7 +167,7 @@ cut_tree s next = ap tree_of (rest s next)
 -- ---- how great a number is
 
 -- a value of four bytes fits 32 bits: what a cast asks
-pub word_below : (s : List ℕ) (tag kind : ℕ) {v next : ℕ} → Bytes s → is_word kind ≡ true → number_at s tag kind ≡ Number v next → v < 256 ^ 4
+pub word_below : (s : List ℕ) (tag kind : ℕ) {v next : ℕ} → Bytes s → is_word kind ≡ true → number_at s tag kind ≡ Some (v, next) → v < 256 ^ 4
 word_below s tag kind h w e =
     let i = number_bytes s tag kind e in
     let f = bytes_ends s tag kind i.1 in

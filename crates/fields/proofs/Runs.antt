@@ -4,7 +4,7 @@ use mathlib.Core.Path.{◌≡◌, sym, ap, ◌∙◌}
 use Prim.Native.Nat.{ℕ, ◌-◌, ◌≤◌}
 use native.Mathlib.Omega.{arith}
 use mathlib.Core.Bool.{true, false}
-use mathlib.Core.Option.{Option, none, some}
+use Rattle.std.specs.Prelude.{Option, None, Some}
 use mathlib.Core.List.{List}
 use lib.ListN.{length, take, drop, length-drop}
 use borrow.Author.Tests.{eq-eqb, ne_eqb}
@@ -15,9 +15,6 @@ use Rattle.ttlv.specs.Items.{Items, ended}
 use Rattle.ttlv.specs.Tree.{is_run, tree_of}
 use Rattle.fields.specs.Fields.{bytes_of, body_of, number_of, optional}
 use Rattle.fields.specs.Found.{starts_at, bytes_at, number_at, body_at}
-use Rattle.fields.specs.declared.BytesField.TheVariants.{Span, NoSpan}
-use Rattle.fields.specs.declared.NumberField.TheVariants.{Number, NoNumber}
-use Rattle.fields.specs.declared.BodyField.TheVariants.{Body, NoBody}
 use Rattle.ttlv.proofs.Step.{rest}
 use Rattle.ttlv.proofs.Tree.{Rest}
 use Rattle.fields.proofs.Lift.{bytes_read, number_read, body_read, is_number, starts_lifts, ended_lifts, bytes_lifts, number_lifts, body_lifts}
@@ -53,32 +50,32 @@ module _ (s : List ℕ) (run : is_run s ≡ true) where
     ended_not e = tail_more s next run_behind r.within e
 
   module _ (tag kind : ℕ) (k : is_number kind ≡ true) where
-    pub number_some : {v next : ℕ} → number_at s tag kind ≡ Number v next → number_of tag kind (tree_of s) ≡ some (v, tree_of (tail s next))
-    number_some {v} {next} e = number_lifts s run tag kind k ∙ ap (number_read s) e ∙ ap (λ (x : List ℕ). some (v, tree_of x)) (sym (rest s next))
+    pub number_some : {v next : ℕ} → number_at s tag kind ≡ Some (v, next) → number_of tag kind (tree_of s) ≡ Some (v, tree_of (tail s next))
+    number_some {v} {next} e = number_lifts s run tag kind k ∙ ap (number_read s) e ∙ ap (λ (x : List ℕ). Some (v, tree_of x)) (sym (rest s next))
 
-    pub number_none : number_at s tag kind ≡ NoNumber → number_of tag kind (tree_of s) ≡ none
+    pub number_none : number_at s tag kind ≡ None → number_of tag kind (tree_of s) ≡ None
     number_none e = number_lifts s run tag kind k ∙ ap (number_read s) e
 
   module _ (tag kind : ℕ) where
-    pub bytes_some : {n next : ℕ} → bytes_at s tag kind ≡ Span n next → bytes_of tag kind (tree_of s) ≡ some (part s 8 n, tree_of (tail s next))
-    bytes_some {n} {next} e = bytes_lifts s run tag kind ∙ ap (bytes_read s) e ∙ ap (λ (x : List ℕ). some (part s 8 n, tree_of x)) (sym (rest s next))
+    pub bytes_some : {n next : ℕ} → bytes_at s tag kind ≡ Some (n, next) → bytes_of tag kind (tree_of s) ≡ Some (part s 8 n, tree_of (tail s next))
+    bytes_some {n} {next} e = bytes_lifts s run tag kind ∙ ap (bytes_read s) e ∙ ap (λ (x : List ℕ). Some (part s 8 n, tree_of x)) (sym (rest s next))
 
-    pub bytes_none : bytes_at s tag kind ≡ NoSpan → bytes_of tag kind (tree_of s) ≡ none
+    pub bytes_none : bytes_at s tag kind ≡ None → bytes_of tag kind (tree_of s) ≡ None
     bytes_none e = bytes_lifts s run tag kind ∙ ap (bytes_read s) e
 
   module _ (tag : ℕ) where
-    pub body_some : {next : ℕ} → body_at s tag ≡ Body next → body_of tag (tree_of s) ≡ some (tree_of (part s 8 (next - 8)), tree_of (tail s next))
-    body_some {next} e = body_lifts s run tag ∙ ap (body_read s) e ∙ ap (λ (x : List ℕ). some (tree_of (part s 8 (next - 8)), tree_of x)) (sym (rest s next))
+    pub body_some : {next : ℕ} → body_at s tag ≡ Some next → body_of tag (tree_of s) ≡ Some (tree_of (part s 8 (next - 8)), tree_of (tail s next))
+    body_some {next} e = body_lifts s run tag ∙ ap (body_read s) e ∙ ap (λ (x : List ℕ). Some (tree_of (part s 8 (next - 8)), tree_of x)) (sym (rest s next))
 
-    pub body_none : body_at s tag ≡ NoBody → body_of tag (tree_of s) ≡ none
+    pub body_none : body_at s tag ≡ None → body_of tag (tree_of s) ≡ None
     body_none e = body_lifts s run tag ∙ ap (body_read s) e
 
     -- an optional field
     module _ {A : Type 0} (read : Items → Option (A × Items)) where
-      pub optional_there : starts_at s tag ≡ true → optional tag read (tree_of s) ≡ (read (tree_of s) >>= λ (a, rest). some (some a, rest))
+      pub optional_there : starts_at s tag ≡ true → optional tag read (tree_of s) ≡ (read (tree_of s) >>= λ (a, rest). Some (Some a, rest))
       unfolding optional
       optional_there e = ifb_true _ _ _ (starts_lifts s run tag ∙ e)
 
-      pub optional_absent : starts_at s tag ≡ false → optional tag read (tree_of s) ≡ some (none, tree_of s)
+      pub optional_absent : starts_at s tag ≡ false → optional tag read (tree_of s) ≡ Some (None, tree_of s)
       unfolding optional
       optional_absent e = ifb_false _ _ _ (starts_lifts s run tag ∙ e)

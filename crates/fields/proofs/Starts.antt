@@ -1,5 +1,6 @@
 -- What the tag's three bytes say of the item at the front, and whether one with a tag stands there.
 -- Assumes nothing.
+use mathlib.Core.Logic.{◌⊎◌, inl, inr}
 use mathlib.Core.Path.{◌≡◌, refl, sym, ap, subst, ◌∙◌}
 use Prim.Native.Nat.{ℕ, ◌<◌}
 use native.Mathlib.Omega.{arith}
@@ -39,13 +40,9 @@ module _ (s : List ℕ) (tag : ℕ) where
 
   -- the item at the front is known
 
-  pub starts_end : first_of s ≡ End → starts_at s tag ≡ false
+  pub starts_none : (first_of s ≡ End) ⊎ (first_of s ≡ Bad) → starts_at s tag ≡ false
   unfolding starts_at starts_in
-  starts_end e = ap (starts_in tag) e
-
-  pub starts_bad : first_of s ≡ Bad → starts_at s tag ≡ false
-  unfolding starts_at starts_in
-  starts_bad e = ap (starts_in tag) e
+  starts_none e = elim e [ inl e ↦ ap (starts_in tag) e | inr e ↦ ap (starts_in tag) e ]
 
   value_tag : {t k n next : ℕ} → View s (Value t k n next) → t ≡ from_be (part s 0 3)
   value_tag (val hd x y z) = hd.tagged

@@ -7,29 +7,7 @@ ghost use Rattle.fields.specs.Found.{starts_at, bytes_at, number_at, body_at};
 
 use ttlv::First;
 
-// The value of a wanted item at the front: len bytes, which start at 8, with the rest of the run
-// from next on. Or no such item stands there.
-#[derive(Clone, Copy)]
-pub enum BytesField {
-    Span { len: usize, next: usize },
-    NoSpan,
-}
-
-// The number that the value of a wanted item at the front spells, with the rest of the run from
-// next on. Or no such item stands there.
-#[derive(Clone, Copy)]
-pub enum NumberField {
-    Number { value: u64, next: usize },
-    NoNumber,
-}
-
-// The items of a wanted structure at the front, from 8 to next, with the rest of the run from next
-// on. Or no such structure stands there.
-#[derive(Clone, Copy)]
-pub enum BodyField {
-    Body { next: usize },
-    NoBody,
-}
+// A type stays the number that it is on the wire: `bytes_field` and `number_field` look for any.
 
 // Whether an item with this tag stands at the front. Another tag is seen by its three bytes.
 pub fn starts_with(s: &[u8], tag: u32) -> bool
@@ -43,20 +21,15 @@ pub fn starts_with(s: &[u8], tag: u32) -> bool
         return false;
     }
     match ttlv::read_first(s) {
-        First::End => false,
-        First::Bad => false,
-        First::Value {
-            tag: _,
-            kind: _,
-            len: _,
-            next: _,
-        } => true,
-        First::Group { tag: _, next: _ } => true,
+        First::End | First::Bad => false,
+        First::Value { .. } => true,
+        First::Group { .. } => true,
     }
 }
 
-// The value of the item at the front, if it has this tag and type.
-pub fn bytes_field(s: &[u8], tag: u32, kind: u8) -> BytesField
+// The value of the item at the front, if it has this tag and type: its length, and where the rest
+// of the run starts. The value starts at 8.
+pub fn bytes_field(s: &[u8], tag: u32, kind: u8) -> Option<(usize, usize)>
     ensures { result ≡ bytes_at s.now tag kind }
 {
     let First::Value {
@@ -66,41 +39,34 @@ pub fn bytes_field(s: &[u8], tag: u32, kind: u8) -> BytesField
         next,
     } = ttlv::read_first(s)
     else {
-        return BytesField::NoSpan;
+        return None;
     };
-    if found != tag {
-        return BytesField::NoSpan;
+    if found != tag || typed != kind {
+        return None;
     }
-    if typed != kind {
-        return BytesField::NoSpan;
-    }
-    BytesField::Span { len, next }
+    Some((len, next))
 }
 
-// The number that the value of the item at the front spells, if it has this tag and type; it reads
-// at most eight bytes.
-pub fn number_field(s: &[u8], tag: u32, kind: u8) -> NumberField
+// The number that the value of the item at the front spells, if it has this tag and type, and where
+// the rest of the run starts; it reads at most eight bytes.
+pub fn number_field(s: &[u8], tag: u32, kind: u8) -> Option<(u64, usize)>
     ensures { result ≡ number_at s.now tag kind }
 {
-    let BytesField::Span { len, next } = bytes_field(s, tag, kind) else {
-        return NumberField::NoNumber;
-    };
+    let (len, next) = bytes_field(s, tag, kind)?;
     let stop = 8 + len;
-    NumberField::Number {
-        value: octets::number(&s[8..stop]),
-        next,
-    }
+    Some((octets::number(&s[8..stop]), next))
 }
 
-// The items of the structure at the front, if it has this tag.
-pub fn body_field(s: &[u8], tag: u32) -> BodyField
+// Where the structure at the front ends, if it has this tag: its items start at 8, and the rest of
+// the run starts there.
+pub fn body_field(s: &[u8], tag: u32) -> Option<usize>
     ensures { result ≡ body_at s.now tag }
 {
     let First::Group { tag: named, next } = ttlv::read_first(s) else {
-        return BodyField::NoBody;
+        return None;
     };
     if named != tag {
-        return BodyField::NoBody;
+        return None;
     }
-    BodyField::Body { next }
+    Some(next)
 }

@@ -2,7 +2,7 @@
 -- Assumes nothing. `Bytes` holds of every lent slice.
 use mathlib.Core.Path.{◌≡◌}
 use Prim.Native.Nat.{ℕ}
-use mathlib.Core.Option.{some}
+use Rattle.std.specs.Prelude.{Some}
 use mathlib.Core.List.{List}
 use lib.ListN.{drop}
 use Rattle.octets.specs.Octets.{Bytes}
@@ -14,7 +14,7 @@ use Rattle.frame.specs.Frame.{Request, asked, framed}
 use Rattle.frame.specs.Readers.{framing_of}
 use Rattle.frame.proofs.Frame.{batch_shape}
 
-pub request_bounded : (s : List ℕ) (t : Items) (r : Request) → Bytes s → message s ≡ some t → framed t ≡ asked r → AllBounded r.items
+pub request_bounded : (s : List ℕ) (t : Items) (r : Request) → Bytes s → message s ≡ Some t → framed t ≡ asked r → AllBounded r.items
 request_bounded s t r b h e =
     let f = batch_shape s t r h e in
     items_bounded r.items (drop (framing_of s).items s) f.run (bytes_drop (framing_of s).items s b) f.items

@@ -2,53 +2,56 @@
 -- Assumes nothing. The promises are of the answers themselves; these laws say what the definitions of the same name in specs give of them.
 use Prim.Native.Nat.{ℕ}
 use mathlib.Core.Path.{◌≡◌, refl, sym, ◌∙◌}
-use mathlib.Core.Option.{Option, none, some}
+use Rattle.std.specs.Prelude.{Option, None, Some}
 use mathlib.Core.List.{List}
 use native.Mathlib.Omega.{arith}
 use Rattle.octets.proofs.If.{on_bool}
-use Rattle.batch_item.specs.Item.{Asked}
-use Rattle.batch_item.specs.Readers.{item_read, items_read}
-use Rattle.frame.specs.Frame.{Header, Frame, Request, refused, asked, frame_wrong, version_ok, count_ok, option_of, option_ok, framing}
-use Rattle.frame.specs.Readers.{version_read, header_read, frame_read}
-use Rattle.frame.specs.Refusals.{read_refusal, version_refusal, header_refusal, item_refusal, items_refusal, frame_refusal}
+use Rattle.ttlv.specs.Items.{Items}
+use Rattle.batch_item.specs.Item.{Asked, item_in}
+use Rattle.batch_item.specs.Readers.{items_read}
+use Rattle.frame.specs.Frame.{Header, Frame, Request, refused, asked, frame_wrong, version_in, version_ok, count_ok, option_of, option_ok, framing}
+use Rattle.frame.specs.Readers.{header_read, frame_read}
+use Rattle.frame.specs.Refusals.{read_refusal}
 use Rattle.frame.proofs.Frame.{other_version, other_count, other_option, accepted}
 
-pub version_refusal_lem : (o : Option (ℕ × ℕ)) → version_refusal (version_read o) ≡ read_refusal o
-unfolding version_refusal version_read read_refusal
-version_refusal_lem none = refl
-version_refusal_lem (some v) = refl
+-- refusal 6 exactly where nothing is read
+reads_nothing : {A : Type 0} (o : Option A) → read_refusal o ≡ frame_wrong → o ≡ None
+unfolding read_refusal
+reads_nothing None h = refl
+reads_nothing (Some a) h = absurd (omega arith)
 
-pub header_refusal_lem : (o : Option Header) → header_refusal (header_read o) ≡ read_refusal o
-unfolding header_refusal header_read read_refusal
-header_refusal_lem none = refl
-header_refusal_lem (some h) = refl
+pub version_refusal_lem : (t : Items) → read_refusal (version_in t) ≡ frame_wrong → version_in t ≡ None
+version_refusal_lem t h = reads_nothing (version_in t) h
 
-pub item_refusal_lem : (s : List ℕ) (o : Option Asked) → item_refusal (item_read s o) ≡ read_refusal o
-unfolding item_refusal item_read read_refusal
-item_refusal_lem s none = refl
-item_refusal_lem s (some a) = refl
+pub item_refusal_lem : (t : Items) → read_refusal (item_in t) ≡ frame_wrong → item_in t ≡ None
+item_refusal_lem t h = reads_nothing (item_in t) h
 
-pub items_refusal_lem : (o : Option (List Asked)) → items_refusal (items_read o) ≡ read_refusal o
-unfolding items_refusal items_read read_refusal
-items_refusal_lem none = refl
-items_refusal_lem (some items) = refl
+pub header_refusal_lem : (o : Option Header) → read_refusal (header_read o) ≡ read_refusal o
+unfolding header_read read_refusal
+header_refusal_lem None = refl
+header_refusal_lem (Some h) = refl
 
-pub frame_refusal_lem : (o : Option Frame) (at : ℕ) → frame_refusal (frame_read o at) ≡ read_refusal o
-unfolding frame_refusal frame_read read_refusal
-frame_refusal_lem none at = refl
-frame_refusal_lem (some f) at = refl
+pub items_refusal_lem : (o : Option (List Asked)) → read_refusal (items_read o) ≡ read_refusal o
+unfolding items_read read_refusal
+items_refusal_lem None = refl
+items_refusal_lem (Some items) = refl
+
+pub frame_refusal_lem : (o : Option Frame) (at : ℕ) → read_refusal (frame_read o at) ≡ read_refusal o
+unfolding frame_read read_refusal
+frame_refusal_lem None at = refl
+frame_refusal_lem (Some f) at = refl
 
 -- ---- refusal 6 is given where the frame reads as nothing, and nowhere else
 
 pub frame_wrong_lem : (o : Option Frame) → read_refusal o ≡ frame_wrong → framing o ≡ refused frame_wrong
 unfolding read_refusal framing
-frame_wrong_lem none h = refl
-frame_wrong_lem (some f) h = absurd (omega arith)
+frame_wrong_lem None h = refl
+frame_wrong_lem (Some f) h = absurd (omega arith)
 
 pub wrong_frame : (o : Option Frame) → framing o ≡ refused frame_wrong → read_refusal o ≡ frame_wrong
 unfolding read_refusal
-wrong_frame none h = refl
-wrong_frame (some f) h =
+wrong_frame None h = refl
+wrong_frame (Some f) h =
     on_bool (version_ok f.header)
     (λ v. on_bool (count_ok f)
     (λ c. on_bool (option_ok (option_of f.header.option))

@@ -1,7 +1,7 @@
 -- Worked frames, computed: a request with every field reads to what it says, and each of refusals 6 to 9 is given.
 -- Assumes nothing. The bytes were worked out from the papers.
 use mathlib.Core.Path.{◌≡◌, refl}
-use mathlib.Core.Option.{Option, none, some}
+use Rattle.std.specs.Prelude.{Option, None, Some}
 use mathlib.Core.List.{[], ◌∷◌}
 use Rattle.hex_digits.specs.Texts.{hex}
 use Rattle.ttlv.specs.Items.{Items, nil, ended}
@@ -19,8 +19,8 @@ use Rattle.frame.specs.Frame.{version_in, header_in, frame_in, option_of, framin
 
 -- what bytes say as a frame; 5 where they are no item
 framed_bytes : Option Items → Framed
-framed_bytes none = refused 5
-framed_bytes (some t) = framed t
+framed_bytes None = refused 5
+framed_bytes (Some t) = framed t
 
 -- the definitions that the cases compute with: who opens this opens them all
 opened : Unit {0}

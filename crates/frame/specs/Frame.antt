@@ -1,7 +1,7 @@
 -- 01, "Message frame" of a request, and refusals 6 to 9 of "Turning a request away".
 -- Assumes nothing. "Fields stand in the order given, brackets mean optional, nothing else may appear."
 use Rattle.std.specs.Prelude.{ℕ, Bool, not, ◌&&◌, ◌||◌, List, length, leb, eqb}
-use Rattle.std.proofs.Math.Option.{Option, none, some}
+use Rattle.std.specs.Prelude.{Option, None, Some}
 use Rattle.octets.specs.If.{ifb}
 use Rattle.octets.specs.Maybe.{◌>>=◌, ◌>>◌}
 use Rattle.ttlv_types.specs.Types.{integer, enumeration}
@@ -31,7 +31,7 @@ version_in t = do
   (major, r) ← number_of protocol_version_major integer t
   (minor, s) ← number_of protocol_version_minor integer r
   ended s
-  some (major, minor)
+  Some (major, minor)
 
 -- "Request Header { Protocol Version, [Batch Error Continuation Option, Enumeration], Batch Count, Integer }"
 unfoldable pub header_in : Items → Option Header
@@ -41,7 +41,7 @@ header_in t = do
   (option, s) ← optional batch_error_continuation_option (number_of batch_error_continuation_option enumeration) r
   (count, u) ← number_of batch_count integer s
   ended u
-  some (record { major = major; minor = minor; option = option; count = count })
+  Some (record { major = major; minor = minor; option = option; count = count })
 
 -- "Request Message { Request Header, one or more Batch Item }"
 unfoldable pub frame_in : Items → Option Frame
@@ -52,7 +52,7 @@ frame_in t = do
   header ← header_in head
   not (ended batch)
   items ← items_in batch
-  some (record { header = header; items = items })
+  Some (record { header = header; items = items })
 
 -- ---- refusals 6 to 9
 
@@ -88,8 +88,8 @@ abbrev pub undo : ℕ
 undo = 3
 
 unfoldable pub option_of : Option ℕ → ℕ
-option_of none = stop
-option_of (some option) = option
+option_of None = stop
+option_of (Some option) = option
 
 abbrev pub option_ok : ℕ → Bool
 option_ok option = eqb option continue || eqb option stop || eqb option undo
@@ -106,8 +106,8 @@ pub data Framed : Type 0 where
 
 -- "The lowest number that applies is given"
 unfoldable pub framing : Option Frame → Framed
-framing none = refused frame_wrong
-framing (some f) =
+framing None = refused frame_wrong
+framing (Some f) =
     ifb (not (version_ok f.header)) (refused 7)
     (ifb (not (count_ok f)) (refused 8)
     (ifb (not (option_ok (option_of f.header.option))) (refused 9)

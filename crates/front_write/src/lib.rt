@@ -13,6 +13,8 @@ ghost use Rattle.answer.specs.Respond.{word, version_items, header_items};
 ghost use Rattle.answer.specs.Front.{header_size, frame_size, longest_item, front};
 ghost use Rattle.named_write.specs.Puts.{Puts};
 
+use ttlv_numbers::{DateTime, Integer};
+
 // The header of a response: its head, version, Time Stamp, Batch Count.
 const HEADER_SIZE: usize = 80;
 
@@ -21,8 +23,8 @@ fn write_version_body(out: &mut [u8]) -> usize
     requires { 32 ≤ length out.old }
     ensures { Puts 32 (word protocol_version_major integer 2 (word protocol_version_minor integer 1 nil)) out.old out.new result }
 {
-    ttlv_numbers::write_integer(out, tags::PROTOCOL_VERSION_MAJOR, 2);
-    ttlv_numbers::write_integer(&mut out[16..], tags::PROTOCOL_VERSION_MINOR, 1);
+    ttlv_numbers::write_number(out, tags::PROTOCOL_VERSION_MAJOR, Integer(2));
+    ttlv_numbers::write_number(&mut out[16..], tags::PROTOCOL_VERSION_MINOR, Integer(1));
     32
 }
 
@@ -31,9 +33,7 @@ fn write_version(out: &mut [u8]) -> usize
     requires { 40 ≤ length out.old }
     ensures { Puts 40 (version_items nil) out.old out.new result }
 {
-    let n = write_version_body(&mut out[8..]);
-    ttlv_put::write_structure(out, tags::PROTOCOL_VERSION, n);
-    8 + n
+    ttlv_put::write_around(out, tags::PROTOCOL_VERSION, write_version_body)
 }
 
 // The items of the header.
@@ -42,9 +42,9 @@ fn write_header_items(out: &mut [u8], clock: u64, count: u32) -> usize
     ensures { Puts 72 (header_items clock count) out.old out.new result }
 {
     let n = write_version(out);
-    ttlv_numbers::write_date_time(&mut out[n..], tags::TIME_STAMP, clock);
+    ttlv_numbers::write_number(&mut out[n..], tags::TIME_STAMP, DateTime(clock));
     let at = n + 16;
-    ttlv_numbers::write_integer(&mut out[at..], tags::BATCH_COUNT, count);
+    ttlv_numbers::write_number(&mut out[at..], tags::BATCH_COUNT, Integer(count));
     at + 16
 }
 
@@ -53,9 +53,11 @@ fn write_header(out: &mut [u8], clock: u64, count: u32) -> usize
     requires { header_size ≤ length out.old }
     ensures { Puts header_size (group response_header (header_items clock count) nil) out.old out.new result }
 {
-    let n = write_header_items(&mut out[8..], clock, count);
-    ttlv_put::write_structure(out, tags::RESPONSE_HEADER, n);
-    8 + n
+    ttlv_put::write_around(
+        out,
+        tags::RESPONSE_HEADER,
+        |room| write_header_items(room, clock, count),
+    )
 }
 
 // What stands in front of n bytes of batch items, which are a length of items.

@@ -2,65 +2,54 @@
 // record that names it. Nothing is asked. Whether a Re-key is due is decided by rules.
 #![tactic(auto)]
 
-ghost use Rattle.std.specs.Prelude.{◌-◌, ◌≡◌};
+ghost use Rattle.std.specs.Prelude.{◌≡◌};
 ghost use Rattle.heirs.specs.Heirs.{heir_dated, heir_dates, linked_to};
 
-use rules::Offset;
 use table::Record;
 
 // The largest Date-Time.
 const DATE_MOST: u64 = 9223372036854775807;
 
-// The dates of a replacement, or an Offset that gives none.
+// The dates of a replacement.
 #[derive(Clone, Copy)]
-pub enum HeirDates {
-    Dated { activation: u64, deactivation: u64 },
-    OffsetWrong,
-}
-
-// How far one date is behind another, 0 where it is not.
-fn span(from: u64, to: u64) -> u64
-    ensures { result ≡ to - from }
-{
-    if from < to {
-        return to - from;
-    }
-    0
+pub struct Dates {
+    pub activation: u64,
+    pub deactivation: u64,
 }
 
 // The dates of the record that Re-key makes of `old`: copied, or with an Offset the clock plus the
-// Offset and, as far behind it as before, the deactivation date.
-pub fn heir_dates(clock: u64, offset: Offset, old: Record) -> HeirDates
+// Offset and, as far behind it as before, the deactivation date. An Offset that is wrong gives none.
+pub fn heir_dates(clock: u64, offset: Option<u32>, old: Record) -> Option<Dates>
     ensures { result ≡ heir_dates clock offset old }
 {
-    let Offset::Seconds { seconds } = offset else {
-        return HeirDates::Dated {
+    let Some(seconds) = offset else {
+        return Some(Dates {
             activation: old.activation,
             deactivation: old.deactivation,
-        };
+        });
     };
     if (old.activation == 0) & (old.deactivation != 0) {
-        return HeirDates::OffsetWrong;
+        return None;
     }
     let wait = seconds as u64;
     if DATE_MOST - wait < clock {
-        return HeirDates::OffsetWrong;
+        return None;
     }
     let start = clock + wait;
     if old.deactivation == 0 {
-        return HeirDates::Dated {
+        return Some(Dates {
             activation: start,
             deactivation: 0,
-        };
+        });
     }
-    let wide = span(old.activation, old.deactivation);
+    let wide = old.deactivation.saturating_sub(old.activation);
     if DATE_MOST - start < wide {
-        return HeirDates::OffsetWrong;
+        return None;
     }
-    HeirDates::Dated {
+    Some(Dates {
         activation: start,
         deactivation: start + wide,
-    }
+    })
 }
 
 // The record that Re-key makes of `old`, which it names, with these dates and in the state that

@@ -1,6 +1,7 @@
 -- Laws of hex digits: a digit and its character.
 -- Assumes nothing.
-use mathlib.Core.Path.{◌≡◌, sym, ◌∙◌}
+use mathlib.Core.Path.{◌≡◌, sym, ap, ◌∙◌}
+use Rattle.std.specs.Prelude.{Option, None, Some}
 use Prim.Native.Nat.{ℕ, ◌+◌, ◌-◌, ◌≤◌, ◌<◌}
 use native.Mathlib.Omega.{arith}
 use mathlib.Core.Bool.{true, false, ◌&&◌}
@@ -97,30 +98,24 @@ digit_plain c e =
     let s = character_spells c e in
     le-leb c 0x7F (omega arith)
 
--- ---- the digit of a character, or 16
+-- ---- the digit of a character, if it is one
 
 module _ (c : ℕ) where
-  pub value_spells : (r : ℕ) → Spells c r → r ≡ value_of c
-  value_spells r s = sym (ifb_true _ _ _ s.is ∙ s.back)
+  pub value_spells : (r : ℕ) → Spells c r → Some r ≡ value_of c
+  value_spells r s = sym (ifb_true _ _ _ s.is ∙ ap Some s.back)
 
-  pub value_none : is_decimal c ≡ false → is_letter c ≡ false → 16 ≡ value_of c
+  pub value_none : is_decimal c ≡ false → is_letter c ≡ false → None ≡ value_of c
   value_none n m = sym (ifb_false _ _ _ (rw (n, m)))
 
-  pub spells_value : (r : ℕ) → r ≡ value_of c → (r ≡ 16 → ⊥) → Spells c r
-  spells_value r e h =
+  -- and what the answer tells of the character
+  pub spells_value : {r : ℕ} → value_of c ≡ Some r → Spells c r
+  spells_value {r} e =
       on_bool (is_digit c)
-      (λ t. rw (e ∙ ifb_true _ _ _ t) (character_spells c t))
-      (λ n. absurd (h (e ∙ ifb_false _ _ _ n)))
+      (λ t. let s : Some (digit_of c) ≡ Some r = sym (ifb_true _ _ _ t) ∙ e in let d : digit_of c ≡ r = cc in rw (← d) (character_spells c t))
+      (λ n. absurd (let s : ◌≡◌ {A = Option ℕ} None (Some r) = sym (ifb_false _ _ _ n) ∙ e in cc))
 
-  pub none_value : (r : ℕ) → r ≡ value_of c → r ≡ 16 → is_digit c ≡ false
-  none_value r e h =
+  pub none_value : value_of c ≡ None → is_digit c ≡ false
+  none_value e =
       on_bool (is_digit c)
-      (λ t. let s = character_spells c t in let b : r ≡ digit_of c = e ∙ ifb_true _ _ _ t in absurd (omega arith))
+      (λ t. absurd (let s : ◌≡◌ {A = Option ℕ} (Some (digit_of c)) None = sym (ifb_true _ _ _ t) ∙ e in cc))
       (λ n. n)
-
-  -- a digit, or 16
-  pub value_most : value_of c ≤ 16
-  value_most =
-      on_bool (is_digit c)
-      (λ t. let s = character_spells c t in let e : value_of c ≡ digit_of c = ifb_true _ _ _ t in omega arith)
-      (λ n. let e : value_of c ≡ 16 = ifb_false _ _ _ n in omega arith)

@@ -1,6 +1,6 @@
 -- Upper-case hex digits: the character of a digit, and the digit of a character.
 -- Assumes nothing.
-use Rattle.std.specs.Prelude.{ℕ, ◌+◌, ◌-◌, ◌/◌, ◌%◌, Bool, ◌&&◌, ◌||◌, List, [], ◌∷◌, leb, ltb}
+use Rattle.std.specs.Prelude.{ℕ, ◌+◌, ◌-◌, ◌/◌, ◌%◌, Bool, ◌&&◌, ◌||◌, List, [], ◌∷◌, leb, ltb, Option, Some, None}
 use Rattle.octets.specs.If.{ifb}
 
 -- the character of a digit: 0 to 9, then A to F
@@ -25,6 +25,6 @@ is_digit c = is_decimal c || is_letter c
 abbrev pub digit_of : ℕ → ℕ
 digit_of c = ifb (is_decimal c) (c - 0x30) (c - 0x37)
 
--- the digit of a character; 16, which is none, for any other
-abbrev pub value_of : ℕ → ℕ
-value_of c = ifb (is_digit c) (digit_of c) 16
+-- the digit of a character, if it is one
+abbrev pub value_of : ℕ → Option ℕ
+value_of c = ifb (is_digit c) (Some (digit_of c)) None

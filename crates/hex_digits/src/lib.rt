@@ -5,17 +5,17 @@
 ghost use Rattle.std.specs.Prelude.{◌≡◌, ◌<◌};
 ghost use Rattle.hex_digits.specs.Hex.{digit, value_of, pair_of};
 
-// The digit of a character; 16 for a character that is no digit.
-pub fn value_of(c: u8) -> u8
+// The digit of a character, if it is one.
+pub fn value_of(c: u8) -> Option<u8>
     ensures { result ≡ value_of c }
 {
     if 0x30 <= c && c <= 0x39 {
-        return c - 0x30;
+        return Some(c - 0x30);
     }
     if 0x41 <= c && c <= 0x46 {
-        return c - 0x37;
+        return Some(c - 0x37);
     }
-    16
+    None
 }
 
 // The character of a digit.

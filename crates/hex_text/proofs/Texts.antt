@@ -4,6 +4,7 @@ use Prim.Native.Nat.{ℕ, suc, ◌+◌, ◌*◌, ◌-◌, ◌≤◌, ◌<◌}
 use mathlib.Core.Path.{◌≡◌, refl, sym, ap, ◌∙◌}
 use mathlib.Core.Bool.{true, false, ◌&&◌, and-false}
 use mathlib.Core.List.{List, [], ◌∷◌, ◌++◌}
+use Rattle.std.specs.Prelude.{Option, Some, None}
 use native.Mathlib.Omega.{arith}
 use native.Mathlib.Numerals.{add-one}
 use lib.ListN.{length, take, drop, get_or, set, drop_of_length-le, length-drop}
@@ -19,8 +20,6 @@ use Rattle.hex_digits.specs.Hex.{is_digit, digit_of}
 use Rattle.hex_digits.specs.Texts.{Pairs, Mark, gap, half, other, mark_of, marks_of, pairs_by, pairs_in, ended, broken, behind}
 use Rattle.hex_digits.proofs.Digits.{character_spells}
 use Rattle.hex_text.specs.Bytes.{byte_of, first_byte, count_in, BytesRead}
-use Rattle.hex_text.specs.declared.Bytes.{Bytes}
-use Rattle.hex_text.specs.declared.Bytes.TheVariants.{Count, NoBytes}
 
 -- ---- what a character is
 
@@ -46,34 +45,30 @@ half_alone h c s d =
     (λ e. rw (ifb_false (eqb c 0x20) gap (ifb (is_digit c) (half (digit_of c)) other) e, ifb_false (is_digit c) (half (digit_of c)) other d))
 
 module _ (c d : ℕ) where
-  byte_both : is_digit c ≡ true → is_digit d ≡ true → byte_of c d ≡ 16 * digit_of c + digit_of d
+  byte_both : is_digit c ≡ true → is_digit d ≡ true → byte_of c d ≡ Some (16 * digit_of c + digit_of d)
   byte_both h l = ifb_true _ _ _ (rw (h, l))
 
-  both_low : is_digit c ≡ true → is_digit d ≡ true → byte_of c d < 256
-  both_low h l =
-      let p = character_spells c h in
-      let q = character_spells d l in
-      let e = byte_both h l in
-      omega arith
-
   module _ (s : List Mark) (g : c ≡ 0x20 → ⊥) where
-    two_none : byte_of c d ≡ 256 → pairs_by (mark_of c ∷ (mark_of d ∷ s)) ≡ broken
+    two_none : byte_of c d ≡ None → pairs_by (mark_of c ∷ (mark_of d ∷ s)) ≡ broken
     two_none e = on_bool (is_digit c) first (λ n. rw (mark_other c g n))
       where
         first : is_digit c ≡ true → pairs_by (mark_of c ∷ (mark_of d ∷ s)) ≡ broken
         first h =
             on_bool (is_digit d)
-            (λ l. absurd (let low = both_low h l in omega arith))
+            (λ l. absurd (let z : ◌≡◌ {A = Option ℕ} (Some (16 * digit_of c + digit_of d)) None = sym (byte_both h l) ∙ e in cc))
             (λ n. rw (mark_half c h) (half_alone (digit_of c) d s n))
 
-    two_byte : (byte_of c d ≡ 256 → ⊥) → pairs_by (mark_of c ∷ (mark_of d ∷ s)) ≡ behind (byte_of c d) (pairs_by s)
-    two_byte n =
+    two_byte : {b : ℕ} → byte_of c d ≡ Some b → pairs_by (mark_of c ∷ (mark_of d ∷ s)) ≡ behind b (pairs_by s)
+    two_byte {b} e =
         on_bool (is_digit c && is_digit d)
         (λ t. both_byte (and_l (is_digit c) (is_digit d) t) (and_r (is_digit c) (is_digit d) t))
-        (λ f. absurd (n (ifb_false _ _ _ f)))
+        (λ f. absurd (let z : ◌≡◌ {A = Option ℕ} None (Some b) = sym (ifb_false _ _ _ f) ∙ e in cc))
       where
-        both_byte : is_digit c ≡ true → is_digit d ≡ true → pairs_by (mark_of c ∷ (mark_of d ∷ s)) ≡ behind (byte_of c d) (pairs_by s)
-        both_byte h l = rw (mark_half c h, mark_half d l, byte_both h l)
+        both_byte : is_digit c ≡ true → is_digit d ≡ true → pairs_by (mark_of c ∷ (mark_of d ∷ s)) ≡ behind b (pairs_by s)
+        both_byte h l =
+            let z : ◌≡◌ {A = Option ℕ} (Some (16 * digit_of c + digit_of d)) (Some b) = sym (byte_both h l) ∙ e in
+            let is : 16 * digit_of c + digit_of d ≡ b = cc in
+            rw (mark_half c h, mark_half d l, is)
 
 -- a last character is no byte
 one_cut : (c : ℕ) → (c ≡ 0x20 → ⊥) → pairs_by (mark_of c ∷ []) ≡ broken
@@ -88,14 +83,14 @@ gap_first : (c : ℕ) (s : List ℕ) → c ≡ 0x20 → pairs_in (c ∷ s) ≡ p
 unfolding pairs_in
 gap_first c s e = rw (mark_gap c e)
 
-none_first : (c : ℕ) (s : List ℕ) → (c ≡ 0x20 → ⊥) → first_byte (c ∷ s) ≡ 256 → pairs_in (c ∷ s) ≡ broken
+none_first : (c : ℕ) (s : List ℕ) → (c ≡ 0x20 → ⊥) → first_byte (c ∷ s) ≡ None → pairs_in (c ∷ s) ≡ broken
 unfolding pairs_in
 none_first c [] g e = one_cut c g
 none_first c (d ∷ s) g e = two_none c d (marks_of s) g e
 
-byte_first : (c : ℕ) (s : List ℕ) → (c ≡ 0x20 → ⊥) → (first_byte (c ∷ s) ≡ 256 → ⊥) → pairs_in (c ∷ s) ≡ behind (first_byte (c ∷ s)) (pairs_in (drop 1 s))
+byte_first : (c : ℕ) (s : List ℕ) {b : ℕ} → (c ≡ 0x20 → ⊥) → first_byte (c ∷ s) ≡ Some b → pairs_in (c ∷ s) ≡ behind b (pairs_in (drop 1 s))
 unfolding pairs_in
-byte_first c [] g e = absurd (e refl)
+byte_first c [] g e = absurd cc
 byte_first c (d ∷ s) g e = two_byte c d (marks_of s) g e
 
 -- ---- the text from i on
@@ -110,14 +105,14 @@ module _ (s : List ℕ) (i : ℕ) where
     pairs_gap e = rw (drop-cons s i 0 h, add-one) (gap_first (get_or s i 0) (drop (suc i) s) e)
 
     module _ (g : get_or s i 0 ≡ 0x20 → ⊥) where
-      pub pairs_none : first_byte (drop i s) ≡ 256 → pairs_in (drop i s) ≡ broken
+      pub pairs_none : first_byte (drop i s) ≡ None → pairs_in (drop i s) ≡ broken
       pairs_none e = rw (drop-cons s i 0 h) (none_first (get_or s i 0) (drop (suc i) s) g (rw (drop-cons s i 0 h) at e))
 
-      pub pairs_byte : (first_byte (drop i s) ≡ 256 → ⊥) → pairs_in (drop i s) ≡ behind (first_byte (drop i s)) (pairs_in (drop (i + 2) s))
+      pub pairs_byte : {b : ℕ} → first_byte (drop i s) ≡ Some b → pairs_in (drop i s) ≡ behind b (pairs_in (drop (i + 2) s))
       pairs_byte e =
           let two : suc i + 1 ≡ i + 2 = omega arith in
           let next : drop 1 (drop (suc i) s) ≡ drop (i + 2) s = drop-drop 1 (suc i) s ∙ ap (λ (k : ℕ). drop k s) two in
-          let first = byte_first (get_or s i 0) (drop (suc i) s) g (λ n. e (rw (drop-cons s i 0 h) n)) in
+          let first = byte_first (get_or s i 0) (drop (suc i) s) g (rw (drop-cons s i 0 h) at e) in
           rw (← next, drop-cons s i 0 h) first
 
     -- the two characters from i on
@@ -126,28 +121,16 @@ module _ (s : List ℕ) (i : ℕ) where
         let inside : suc i < length s = omega arith in
         rw (drop-cons s i 0 h, drop-cons s (suc i) 0 inside, add-one)
 
-    pub first_cut : length s - i < 2 → first_byte (drop i s) ≡ 256
+    pub first_cut : length s - i < 2 → first_byte (drop i s) ≡ None
     first_cut n =
         let over : length s ≤ suc i = omega arith in
         rw (drop-cons s i 0 h, drop_of_length-le s over)
 
-    pub two_left : (first_byte (drop i s) ≡ 256 → ⊥) → i + 2 ≤ length s
-    two_left e =
+    pub two_left : {b : ℕ} → first_byte (drop i s) ≡ Some b → i + 2 ≤ length s
+    two_left {b} e =
         on_bool (ltb (length s - i) 2)
-        (λ t. absurd (e (first_cut (ltb-true (length s - i) 2 t))))
+        (λ t. absurd (let z : ◌≡◌ {A = Option ℕ} None (Some b) = sym (first_cut (ltb-true (length s - i) 2 t)) ∙ e in cc))
         (λ f. let l = ltb-false (length s - i) 2 f in omega arith)
-
--- a byte is below 256, where two characters spell one
-pub byte_low : (c d : ℕ) → byte_of c d ≤ 256
-byte_low c d =
-    on_bool (is_digit c && is_digit d)
-    (λ t. let b = both_low c d (and_l (is_digit c) (is_digit d) t) (and_r (is_digit c) (is_digit d) t) in omega arith)
-    (λ f. let e : byte_of c d ≡ 256 = ifb_false _ _ _ f in omega arith)
-
-pub first_low : (s : List ℕ) → first_byte s ≤ 256
-first_low [] = omega arith
-first_low (c ∷ []) = omega arith
-first_low (c ∷ (d ∷ s)) = byte_low c d
 
 -- ---- a text read over `out₀`: i characters are read, n bytes are written
 
@@ -193,7 +176,7 @@ module _ {s out₀ out : List ℕ} {n i : ℕ} (m : Mid s out₀ out n i) where
       let all : take (length out₀) (pairs_in s).bytes ≡ (pairs_in s).bytes = take_all (length out₀) (pairs_in s).bytes (omega arith) in
       (size, m.written ∙ ap (λ (b : List ℕ). over b out₀) (short ∙ sym all))
 
-  pub mid_end : length s ≤ i → BytesRead s out₀ (Count n) out
+  pub mid_end : length s ≤ i → BytesRead s out₀ (Some n) out
   unfolding count_in
   mid_end h =
       let e = pairs_end s i h in
@@ -202,12 +185,12 @@ module _ {s out₀ out : List ℕ} {n i : ℕ} (m : Mid s out₀ out n i) where
       let r = m.room in
       let fits : length (pairs_in s).bytes ≤ length out₀ = let size = a.0 in omega arith in
       record {
-        count = ap Count (sym a.0) ∙ sym (ifb_true _ _ _ (rw (good, le-leb (length (pairs_in s).bytes) (length out₀) fits)));
+        count = ap Some (sym a.0) ∙ sym (ifb_true _ _ _ (rw (good, le-leb (length (pairs_in s).bytes) (length out₀) fits)));
         bytes = a.1;
       }
 
   module _ (h : i < length s) (g : get_or s i 0 ≡ 0x20 → ⊥) where
-    pub mid_broken : first_byte (drop i s) ≡ 256 → BytesRead s out₀ NoBytes out
+    pub mid_broken : first_byte (drop i s) ≡ None → BytesRead s out₀ None out
     unfolding count_in
     mid_broken e =
         let b = pairs_none s i h g e in
@@ -217,8 +200,8 @@ module _ {s out₀ out : List ℕ} {n i : ℕ} (m : Mid s out₀ out n i) where
           bytes = (all_read (ap (λ (p : Pairs). p.bytes) b)).1;
         }
 
-    module _ (e : first_byte (drop i s) ≡ 256 → ⊥) where
-      next_byte : drop n (pairs_in s).bytes ≡ first_byte (drop i s) ∷ (pairs_in (drop (i + 2) s)).bytes
+    module _ {b : ℕ} (e : first_byte (drop i s) ≡ Some b) where
+      next_byte : drop n (pairs_in s).bytes ≡ b ∷ (pairs_in (drop (i + 2) s)).bytes
       next_byte = m.left ∙ ap (λ (p : Pairs). p.bytes) (pairs_byte s i h g e)
 
       more : n < length (pairs_in s).bytes
@@ -227,7 +210,7 @@ module _ {s out₀ out : List ℕ} {n i : ℕ} (m : Mid s out₀ out n i) where
           let d = length-drop n (pairs_in s).bytes in
           omega arith
 
-      pub mid_full : length out ≤ n → BytesRead s out₀ NoBytes out
+      pub mid_full : length out ≤ n → BytesRead s out₀ None out
       unfolding count_in
       mid_full f =
           let l = mid_size in
@@ -239,15 +222,15 @@ module _ {s out₀ out : List ℕ} {n i : ℕ} (m : Mid s out₀ out n i) where
             bytes = m.written ∙ ap (λ (k : ℕ). over (take k (pairs_in s).bytes) out₀) size;
           }
 
-      pub mid_byte : n < length out → Mid s out₀ (set out n (first_byte (drop i s))) (n + 1) (i + 2)
+      pub mid_byte : n < length out → Mid s out₀ (set out n b) (n + 1) (i + 2)
       mid_byte f =
           let l = mid_size in
           let B = (pairs_in s).bytes in
           let cons = sym (drop-cons B n 0 more) ∙ next_byte in
-          let here : get_or B n 0 ≡ first_byte (drop i s) = cc in
+          let here : get_or B n 0 ≡ b = cc in
           let rest : drop (suc n) B ≡ (pairs_in (drop (i + 2) s)).bytes = cc in
           let one : n + 1 ≡ suc n = omega arith in
-          let front : take (n + 1) B ≡ take n B ++ (first_byte (drop i s) ∷ []) = rw one (take-suc B n 0 more ∙ ap (λ (x : ℕ). take n B ++ (x ∷ [])) here) in
+          let front : take (n + 1) B ≡ take n B ++ (b ∷ []) = rw one (take-suc B n 0 more ∙ ap (λ (x : ℕ). take n B ++ (x ∷ [])) here) in
           let size : length (take n B) ≡ n = length-take-le n B m.within in
           let w = m.within in
           let k = more in
@@ -257,15 +240,15 @@ module _ {s out₀ out : List ℕ} {n i : ℕ} (m : Mid s out₀ out n i) where
             within = omega arith;
             whole = m.whole ∙ ap (λ (p : Pairs). p.whole) (pairs_byte s i h g e);
             left = rw one rest;
-            written = ap (λ (x : List ℕ). set x n (first_byte (drop i s))) m.written ∙ over_byte (take n B) out₀ n (first_byte (drop i s)) size (omega arith) ∙ ap (λ (b : List ℕ). over b out₀) (sym front);
+            written = ap (λ (x : List ℕ). set x n (b)) m.written ∙ over_byte (take n B) out₀ n b size (omega arith) ∙ ap (λ (x : List ℕ). over x out₀) (sym front);
           }
 
 -- ---- what a caller goes by
 
 -- bytes that were counted lie in what was lent
-pub count_within : {s out left : List ℕ} {r : Bytes} {n : ℕ} → BytesRead s out r left → r ≡ Count n → n ≤ length out
+pub count_within : {s out left : List ℕ} {r : Option ℕ} {n : ℕ} → BytesRead s out r left → r ≡ Some n → n ≤ length out
 unfolding count_in
 count_within {s} {out} {left} {r} {n} b e =
     on_bool ((pairs_in s).whole && leb (length (pairs_in s).bytes) (length out))
-    (λ t. let is : Count (length (pairs_in s).bytes) ≡ Count n = sym (b.count ∙ ifb_true _ _ _ t) ∙ e in let size : length (pairs_in s).bytes ≡ n = cc in let fits = leb-true (length (pairs_in s).bytes) (length out) (and_r (pairs_in s).whole _ t) in omega arith)
-    (λ f. absurd (let no : NoBytes ≡ Count n = sym (b.count ∙ ifb_false _ _ _ f) ∙ e in let z : ◌≡◌ {A = ℕ} 0 1 = cc in omega arith))
+    (λ t. let is : Some (length (pairs_in s).bytes) ≡ Some n = sym (b.count ∙ ifb_true _ _ _ t) ∙ e in let size : length (pairs_in s).bytes ≡ n = cc in let fits = leb-true (length (pairs_in s).bytes) (length out) (and_r (pairs_in s).whole _ t) in omega arith)
+    (λ f. absurd (let no : ◌≡◌ {A = Option ℕ} None (Some n) = sym (b.count ∙ ifb_false _ _ _ f) ∙ e in cc))

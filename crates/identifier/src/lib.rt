@@ -57,11 +57,9 @@ pub fn text_of(serial: u32) -> [u8; 8]
 {
     let mut text = [0u8; 8];
     let mut rest = serial;
-    let mut k: usize = 8;
-    while 0 < k {
-        k -= 1;
+    for k in (0..text.len()).rev() {
         text[k] = hex_digits::character((rest % 16) as u8);
-        rest = rest / 16;
+        rest /= 16;
     }
     text
 }

@@ -19,6 +19,7 @@ pub fn junctionmoth_serve(
     ensures { CallIs request.now table.old fresh.now (of_z w64 clock) out.old undo.old result len.new table.new out.new undo.new }
 {
     let served = engine::serve(request, table, fresh, clock, out, undo);
-    *len = served.length as u64;
-    served.number
+    let (number, length) = refusal::told(served);
+    *len = length as u64;
+    number
 }

@@ -1,5 +1,6 @@
 -- A record as Create and Re-key begin it: it fits the table's fields and breaks no rule of its own.
 -- Assumes nothing.
+use Rattle.std.specs.Prelude.{Option}
 use mathlib.Core.Path.{◌≡◌, refl}
 use mathlib.Core.Logic.{◌⊎◌, inl, inr, ⊎_elim}
 use Prim.Native.Nat.{ℕ, ◌^◌, ◌≤◌, ◌<◌}
@@ -21,7 +22,6 @@ use Rattle.octets.proofs.Bools.{and_l, and_r, and_i, or_cases}
 use Rattle.record_rules.proofs.Fit.{Unlimited, Limited, Fit, Dated}
 use Rattle.rules.specs.declared.Attributes.{Attributes}
 use Rattle.rules.specs.Numbers.{pre_active}
-use Rattle.rules.specs.declared.Offset.{Offset}
 use Rattle.search.specs.Search.{is_destroyed}
 use Rattle.date_rules.specs.Dates.{dated_state}
 use Rattle.heirs.specs.Heirs.{heir_activation, heir_deactivation, offset_wrong, heir_dated, heir_of}
@@ -95,7 +95,7 @@ new_begun serial wanted fresh = refl
 
 -- ---- a replacement
 
-module _ (clock : ℕ) (offset : Offset) (old : Record) where
+module _ (clock : ℕ) (offset : Option ℕ) (old : Record) where
   -- its attributes are those of the record that it replaces, but for the dates
   abbrev pub heir_wanted : Attributes
   heir_wanted = record {
@@ -125,7 +125,7 @@ pub record First (latest state activation : ℕ) : Type 0 where
 pub first_new : (latest activation : ℕ) → First latest pre_active activation
 first_new latest activation = record { low = omega arith; high = omega arith; started = λ e. absurd (omega arith) }
 
-pub first_heir : (clock : ℕ) (offset : Offset) (old : Record) → First clock (heir_state clock offset old) (heir_activation clock offset old)
+pub first_heir : (clock : ℕ) (offset : Option ℕ) (old : Record) → First clock (heir_state clock offset old) (heir_activation clock offset old)
 first_heir clock offset old =
     let a : ℕ = heir_activation clock offset old in
     let d : ℕ = heir_deactivation clock offset old in
@@ -135,7 +135,7 @@ not_destroyed : (state : ℕ) → state ≤ 3 → is_destroyed state ≡ true �
 not_destroyed state h e = ⊎_elim (λ p. omega (arith, eqb-true state 5 p)) (λ p. omega (arith, eqb-true state 6 p)) (or_cases (eqb state 5) (eqb state 6) e)
 
 -- what a sound table allows, a replacement may have, where its Offset is not wrong
-pub allowed_of : (last clock : ℕ) (offset : Offset) (r : Record) → offset_wrong clock offset r ≡ false → NameRange r.name → Fit last r → Dated clock r → Allowed (heir_wanted clock offset r)
+pub allowed_of : (last clock : ℕ) (offset : Option ℕ) (r : Record) → offset_wrong clock offset r ≡ false → NameRange r.name → Fit last r → Dated clock r → Allowed (heir_wanted clock offset r)
 allowed_of last clock offset r right g f d = record {
   bits = f.bits;
   mask = le-leb r.mask 0x00FFFFFF f.mask;

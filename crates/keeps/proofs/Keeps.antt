@@ -1,5 +1,6 @@
 -- Create, Re-key, Activate, Revoke, Destroy and Get Usage Allocation each keep a sound table sound, and its bytes bytes.
 -- Assumes nothing. Each theorem asks what its operation has tested when it comes to change the table.
+use Rattle.std.specs.Prelude.{Option, Some, Ok}
 use mathlib.Core.Path.{◌≡◌, refl, sym, ap, ◌∙◌}
 use mathlib.Core.Logic.{inl, inr, ⊎_elim}
 use Prim.Native.Nat.{ℕ, ◌^◌, ◌≤◌, ◌<◌}
@@ -13,7 +14,6 @@ use Rattle.octets.proofs.Bools.{or_not_l, or_not_r}
 use Rattle.octets.proofs.Numbers.{from_be_lt}
 use Rattle.octets.proofs.Stores.{length_part}
 use Rattle.table.specs.declared.Record.{Record}
-use Rattle.search.specs.declared.Found.TheVariants.{At}
 use Rattle.table.specs.Layout.{material_size, last_in}
 use Rattle.table.specs.Records.{place_at, with_place, serial_at, state_at, last_serial, latest_clock, blank}
 use Rattle.search.specs.Search.{is_nothing, find, is_destroyed, new_place}
@@ -30,10 +30,7 @@ use Rattle.record_rules.proofs.Fit.{Fit, Dated}
 use Rattle.soundness.proofs.SoundIs.{Stands, Sound, sound_is, sound_of}
 use Rattle.soundness.proofs.Blank.{blank_sound}
 use Rattle.rules.specs.declared.Attributes.{Attributes}
-use Rattle.rules.specs.declared.Offset.{Offset}
 use Rattle.rules.specs.Numbers.{pre_active}
-use Rattle.rules.specs.declared.Next.TheVariants.{To}
-use Rattle.rules.specs.declared.Granted.TheVariants.{Left}
 use Rattle.rules.specs.States.{next_state, granting}
 use Rattle.date_rules.specs.Dates.{is_late}
 use Rattle.changes.specs.Records.{moved_to, with_count}
@@ -57,7 +54,7 @@ pub held_blank : (n : ℕ) → n < 256 ^ 4 → Held n (blank n)
 held_blank n few = record { right = blank_sound n few; bytes = bytes_blank n }
 
 -- what a search finds stands
-pub found_stands : (n : ℕ) (t : List ℕ) (serial i : ℕ) → find n t serial ≡ At i → Stands t i
+pub found_stands : (n : ℕ) (t : List ℕ) (serial i : ℕ) → find n t serial ≡ Some i → Stands t i
 found_stands n t serial i e z = find_nonzero n t serial i e (sym (find_serial n t serial i e) ∙ z)
 
 -- ---- the theorems
@@ -78,7 +75,7 @@ module _ (n : ℕ) (t : List ℕ) (held : Held n t) where
     dated = facts.dated i lo stands
 
     -- a place that is due is another, where this record is not destroyed
-    pub not_here : is_destroyed (place_at n t i).state ≡ false → (k : ℕ) → new_place n t ≡ At k → k ≡ i → ⊥
+    pub not_here : is_destroyed (place_at n t i).state ≡ false → (k : ℕ) → new_place n t ≡ Some k → k ≡ i → ⊥
     not_here alive k e q =
         ⊎_elim (λ z. stands (ap (serial_at t) (sym q) ∙ z))
         (λ d. true≢false (sym d.1 ∙ ap (λ (j : ℕ). is_destroyed (state_at t j)) q ∙ ap is_destroyed (state_is n t i) ∙ alive))
@@ -91,7 +88,7 @@ module _ (n : ℕ) (t : List ℕ) (held : Held n t) where
     }
 
     -- Activate, Revoke, Destroy
-    pub keeps_moved : (operation code next : ℕ) → next_state operation code (place_at n t i).state ≡ To next → is_late operation (latest_clock t) (place_at n t i).deactivation ≡ false
+    pub keeps_moved : (operation code next : ℕ) → next_state operation code (place_at n t i).state ≡ Ok next → is_late operation (latest_clock t) (place_at n t i).deactivation ≡ false
         → Held n (with_place n t i (moved_to operation code (latest_clock t) next (place_at n t i)))
     keeps_moved operation code next e late =
         let is = move operation code (place_at n t i).state next e in
@@ -101,7 +98,7 @@ module _ (n : ℕ) (t : List ℕ) (held : Held n t) where
         (moved_fit operation code clock next r is (last_serial t) fit) (moved_dated operation code clock next r is facts.latest late dated) (moved_stays operation code clock next r)
 
     -- Get Usage Allocation
-    pub keeps_count : (amount left : ℕ) → granting (place_at n t i).state (place_at n t i).unit (place_at n t i).count amount ≡ Left left
+    pub keeps_count : (amount left : ℕ) → granting (place_at n t i).state (place_at n t i).unit (place_at n t i).count amount ≡ Ok left
         → Held n (with_place n t i (with_count left (place_at n t i)))
     keeps_count amount left e =
         let g = grant_is (place_at n t i).state (place_at n t i).unit (place_at n t i).count amount left e in
@@ -119,7 +116,7 @@ module _ (n : ℕ) (t : List ℕ) (held : Held n t) where
 
   module _ (room : is_full n t ≡ false) where
     -- there is a place, and a serial
-    pub with_place_lem : {P : Type 0} → ((k : ℕ) → new_place n t ≡ At k → P) → P
+    pub with_place_lem : {P : Type 0} → ((k : ℕ) → new_place n t ≡ Some k → P) → P
     unfolding is_full
     with_place_lem f = on_found_lem (new_place n t) f (λ e. absurd (true≢false (sym (is_nothing_none (new_place n t) e) ∙ or_not_l _ _ room)))
 
@@ -144,7 +141,7 @@ module _ (n : ℕ) (t : List ℕ) (held : Held n t) where
           }))
 
       -- Re-key
-      module _ (offset : Offset) (i : ℕ) (lo : i < n) (stands : Stands t i) (alive : is_destroyed (place_at n t i).state ≡ false) (none : (place_at n t i).replacement ≡ 0)
+      module _ (offset : Option ℕ) (i : ℕ) (lo : i < n) (stands : Stands t i) (alive : is_destroyed (place_at n t i).state ≡ false) (none : (place_at n t i).replacement ≡ 0)
           (right : offset_wrong (latest_clock t) offset (place_at n t i) ≡ false) where
         pub keeps_heir : Held n (with_heir n t i (heir_of (next_serial t) (latest_clock t) offset (place_at n t i) fresh))
         unfolding with_heir born_at

@@ -1,5 +1,6 @@
 -- What each change leaves: the record that it made in its place, and every other record as it was.
 -- Assumes nothing. A record that the operation neither named, nor linked anew, nor took over is the same record.
+use Rattle.std.specs.Prelude.{Option, Some, Ok}
 use mathlib.Core.Path.{◌≡◌, sym, ◌∙◌}
 use Prim.Native.Nat.{ℕ, ◌^◌, ◌<◌}
 use native.Mathlib.Omega.{arith}
@@ -7,7 +8,6 @@ use mathlib.Core.Bool.{false}
 use mathlib.Core.List.{List}
 use Rattle.octets.specs.Octets.{Bytes}
 use Rattle.table.specs.declared.Record.{Record}
-use Rattle.search.specs.declared.Found.TheVariants.{At}
 use Rattle.table.specs.Layout.{Table}
 use Rattle.table.specs.Records.{place_at, with_place, last_serial, latest_clock}
 use Rattle.search.specs.Search.{is_destroyed, new_place}
@@ -16,10 +16,7 @@ use Rattle.table.proofs.Places.{length_with}
 use Rattle.search.proofs.Finds.{new_below}
 use Rattle.soundness.proofs.SoundIs.{Stands}
 use Rattle.rules.specs.declared.Attributes.{Attributes}
-use Rattle.rules.specs.declared.Offset.{Offset}
 use Rattle.rules.specs.Numbers.{pre_active}
-use Rattle.rules.specs.declared.Next.TheVariants.{To}
-use Rattle.rules.specs.declared.Granted.TheVariants.{Left}
 use Rattle.rules.specs.States.{next_state, granting}
 use Rattle.changes.specs.Records.{moved_to, with_count}
 use Rattle.heirs.specs.Heirs.{offset_wrong, heir_of, linked_to}
@@ -36,14 +33,14 @@ use Rattle.keeps.proofs.Keeps.{Held, facts, range, fit, dated, with_place_lem, n
 -- a record that is new, in the place that is due
 pub record Born (n : ℕ) (t : List ℕ) (r : Record) (u : List ℕ) : Type 0 where
   pub place : ℕ
-  pub due : new_place n t ≡ At place
+  pub due : new_place n t ≡ Some place
   pub below : place < n
   pub stored : Stored n t place r r.serial u
 
 -- the replacement of the record at place i, in the place that is due, and the record itself, which names it
 pub record Replaced (n : ℕ) (t : List ℕ) (i : ℕ) (heir : Record) (u : List ℕ) : Type 0 where
   pub place : ℕ
-  pub due : new_place n t ≡ At place
+  pub due : new_place n t ≡ Some place
   pub below : place < n
   pub apart : place ≡ i → ⊥
   pub issued : last_serial u ≡ heir.serial
@@ -53,7 +50,7 @@ pub record Replaced (n : ℕ) (t : List ℕ) (i : ℕ) (heir : Record) (u : List
   pub others : (j : ℕ) → j < n → (j ≡ place → ⊥) → (j ≡ i → ⊥) → place_at n u j ≡ place_at n t j
 
 -- two stores and a new last serial
-replaced : (n : ℕ) (t : List ℕ) (i k : ℕ) (heir : Record) (u : List ℕ) → new_place n t ≡ At k → i < n → (k ≡ i → ⊥)
+replaced : (n : ℕ) (t : List ℕ) (i k : ℕ) (heir : Record) (u : List ℕ) → new_place n t ≡ Some k → i < n → (k ≡ i → ⊥)
     → Stored n t i (linked_to heir.serial (place_at n t i)) (last_serial t) u → (v : List ℕ) → Stored n u k heir heir.serial v → Replaced n t i heir v
 replaced n t i k heir u due lo apart first v second = record {
   place = k;
@@ -70,14 +67,14 @@ replaced n t i k heir u due lo apart first v second = record {
 module _ (n : ℕ) (t : List ℕ) (held : Held n t) where
   module _ (i : ℕ) (lo : i < n) (stands : Stands t i) where
     -- Activate, Revoke, Destroy
-    pub moved_leaves : (operation code next : ℕ) → next_state operation code (place_at n t i).state ≡ To next
+    pub moved_leaves : (operation code next : ℕ) → next_state operation code (place_at n t i).state ≡ Ok next
         → Stored n t i (moved_to operation code (latest_clock t) next (place_at n t i)) (last_serial t) (with_place n t i (moved_to operation code (latest_clock t) next (place_at n t i)))
     moved_leaves operation code next e =
         stored n t i (moved_to operation code (latest_clock t) next (place_at n t i)) (facts n t held).size lo
         (moved_range operation code (latest_clock t) next (place_at n t i) (move operation code (place_at n t i).state next e) (facts n t held).latest (range n t held i lo stands))
 
     -- Get Usage Allocation
-    pub count_leaves : (amount left : ℕ) → granting (place_at n t i).state (place_at n t i).unit (place_at n t i).count amount ≡ Left left
+    pub count_leaves : (amount left : ℕ) → granting (place_at n t i).state (place_at n t i).unit (place_at n t i).count amount ≡ Ok left
         → Stored n t i (with_count left (place_at n t i)) (last_serial t) (with_place n t i (with_count left (place_at n t i)))
     count_leaves amount left e =
         let g = grant_is (place_at n t i).state (place_at n t i).unit (place_at n t i).count amount left e in
@@ -100,7 +97,7 @@ module _ (n : ℕ) (t : List ℕ) (held : Held n t) where
         }))
 
     -- Re-key
-    module _ (offset : Offset) (i : ℕ) (lo : i < n) (stands : Stands t i) (alive : is_destroyed (place_at n t i).state ≡ false)
+    module _ (offset : Option ℕ) (i : ℕ) (lo : i < n) (stands : Stands t i) (alive : is_destroyed (place_at n t i).state ≡ false)
         (right : offset_wrong (latest_clock t) offset (place_at n t i) ≡ false) where
       pub heir_leaves : Replaced n t i (heir_of (next_serial t) (latest_clock t) offset (place_at n t i) fresh) (with_heir n t i (heir_of (next_serial t) (latest_clock t) offset (place_at n t i) fresh))
       unfolding with_heir born_at

@@ -12,6 +12,7 @@ ghost use Rattle.answer.specs.Respond.{word, material_of, key_value_items, key_b
 ghost use Rattle.named_write.specs.Puts.{Puts};
 
 use plans::Key;
+use ttlv_numbers::{Enumeration, Integer};
 
 // Values of Enumerations.
 const RAW: u32 = 1;
@@ -37,9 +38,7 @@ fn write_key_value(out: &mut [u8], key: Key) -> usize
     requires { 48 ≤ length out.old }
     ensures { Puts 48 (key_value_items (material_of key) nil) out.old out.new result }
 {
-    let n = write_material(&mut out[8..], key);
-    ttlv_put::write_structure(out, tags::KEY_VALUE, n);
-    8 + n
+    ttlv_put::write_around(out, tags::KEY_VALUE, |room| write_material(room, key))
 }
 
 // Algorithm and length.
@@ -47,8 +46,8 @@ fn write_form(out: &mut [u8], bits: u32) -> usize
     requires { 32 ≤ length out.old }
     ensures { Puts 32 (word cryptographic_algorithm enumeration aes (word cryptographic_length integer bits nil)) out.old out.new result }
 {
-    ttlv_numbers::write_enumeration(out, tags::CRYPTOGRAPHIC_ALGORITHM, AES);
-    ttlv_numbers::write_integer(&mut out[16..], tags::CRYPTOGRAPHIC_LENGTH, bits);
+    ttlv_numbers::write_number(out, tags::CRYPTOGRAPHIC_ALGORITHM, Enumeration(AES));
+    ttlv_numbers::write_number(&mut out[16..], tags::CRYPTOGRAPHIC_LENGTH, Integer(bits));
     32
 }
 
@@ -57,7 +56,7 @@ fn write_block_items(out: &mut [u8], key: Key) -> usize
     requires { 96 ≤ length out.old }
     ensures { Puts 96 (key_block_items (material_of key) key.bits) out.old out.new result }
 {
-    ttlv_numbers::write_enumeration(out, tags::KEY_FORMAT_TYPE, RAW);
+    ttlv_numbers::write_number(out, tags::KEY_FORMAT_TYPE, Enumeration(RAW));
     let n = write_key_value(&mut out[16..], key);
     let at = 16 + n;
     let m = write_form(&mut out[at..], key.bits as u32);
@@ -69,9 +68,7 @@ fn write_block(out: &mut [u8], key: Key) -> usize
     requires { 104 ≤ length out.old }
     ensures { Puts 104 (group key_block (key_block_items (material_of key) key.bits) nil) out.old out.new result }
 {
-    let n = write_block_items(&mut out[8..], key);
-    ttlv_put::write_structure(out, tags::KEY_BLOCK, n);
-    8 + n
+    ttlv_put::write_around(out, tags::KEY_BLOCK, |room| write_block_items(room, key))
 }
 
 // The key itself.
@@ -79,7 +76,5 @@ pub fn write_key(out: &mut [u8], key: Key) -> usize
     requires { 112 ≤ length out.old }
     ensures { Puts 112 (key_items key) out.old out.new result }
 {
-    let n = write_block(&mut out[8..], key);
-    ttlv_put::write_structure(out, tags::SYMMETRIC_KEY, n);
-    8 + n
+    ttlv_put::write_around(out, tags::SYMMETRIC_KEY, |room| write_block(room, key))
 }

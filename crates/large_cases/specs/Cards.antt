@@ -1,7 +1,7 @@
 -- A case of 02, L7, over the definitions: a Create on a table of 256 places of which the first 64 are taken. What goes through it as if it had 64 places finds no room there.
 -- Assumes nothing. The table is no sound one, since of its records only the serials are there: soundness of 256 places is too dear to compute, and an item does not ask for it.
 use Rattle.std.specs.Prelude.{ℕ, zero, suc, Bool, ◌&&◌, List, [], ◌∷◌, ◌++◌, replicate}
-use Rattle.std.proofs.Math.Option.{Option, none, some}
+use Rattle.std.specs.Prelude.{Option, None, Some}
 use Rattle.octets.specs.Octets.{be, same, counted_from}
 use Rattle.hex_digits.specs.Texts.{hex}
 use Rattle.ttlv.specs.Items.{Items, nil}
@@ -25,8 +25,8 @@ quarter_taken = be 4 64 ++ (be 4 256 ++ (be 8 1 ++ (lines_from 1 64 ++ replicate
 
 -- a payload's items
 unfoldable pub items_of : Option Items → Items
-items_of none = nil
-items_of (some items) = items
+items_of None = nil
+items_of (Some items) = items
 
 -- a Create of 128 bits on it, as on a table of so many places
 unfoldable pub created_on : ℕ → Did

@@ -17,15 +17,6 @@ use Rattle.table.specs.Records.{blank}
 written_on : (s front : List ℕ) (i b : ℕ) → i < length s → take i s ≡ front → take (suc i) (set s i b) ≡ front ++ (b ∷ [])
 written_on s front i b h e = rw (take-suc-set s i b h, e)
 
--- ---- one byte again and again
-
-one_more : (k b : ℕ) → replicate (suc k) b ≡ replicate k b ++ (b ∷ [])
-one_more zero b = refl
-one_more (suc k) b = ap (λ (s : List ℕ). b ∷ s) (one_more k b)
-
-pub filled_on : (s : List ℕ) (i b : ℕ) → i < length s → take i s ≡ replicate i b → take (i + 1) (set s i b) ≡ replicate (i + 1) b
-filled_on s i b h e = rw add-one (written_on s (replicate i b) i b h e ∙ sym (one_more i b))
-
 -- ---- bytes that count up
 
 -- one more behind k of them

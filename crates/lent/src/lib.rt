@@ -13,11 +13,7 @@ use table::Layout;
 pub fn fill(s: &mut [u8], b: u8)
     ensures { s.new ≡ replicate (length s.old) b }
 {
-    let mut i: usize = 0;
-    while i < s.len() {
-        s[i] = b;
-        i += 1;
-    }
+    s.fill(b);
 }
 
 // Makes t the blank table of n places, "all zero but the place count". The caller shows that t has
@@ -34,9 +30,7 @@ pub fn blank_over(t: &mut [u8], n: usize)
 pub fn fill_strip(s: &mut [u8])
     ensures { s.new ≡ counted_from 0 (length s.old) }
 {
-    let mut i: usize = 0;
-    while i < s.len() {
+    for i in 0..s.len() {
         s[i] = (i % 256) as u8;
-        i += 1;
     }
 }

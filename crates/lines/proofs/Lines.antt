@@ -1,6 +1,6 @@
 -- Laws of places and of equal runs: what a loop over bytes goes by, and what the answers mean.
 -- Assumes nothing.
-use mathlib.Core.Path.{◌≡◌, refl, ◌∙◌}
+use mathlib.Core.Path.{◌≡◌, refl, ap, ◌∙◌}
 use Prim.Native.Nat.{ℕ, suc, ◌+◌, ◌≤◌, ◌<◌}
 use native.Mathlib.Numerals.{add-one}
 use native.Mathlib.Omega.{arith}
@@ -9,7 +9,11 @@ use mathlib.Core.List.{List, [], ◌∷◌}
 use lib.ListN.{length, drop, get_or, drop_of_length-le}
 use lib.Seq.{drop-cons}
 use lib.Dec.{eqb, ltb}
-use borrow.Author.Tests.{eq-eqb, ne_eqb, eqb-true, ltb-true, ltb-false}
+use lib.Pointwise.{pointwise}
+use Rattle.std.specs.Prelude.{Option}
+use Rattle.std.specs.List.{position, position_or_len}
+use Rattle.std.specs.Option.{unwrap_or}
+use borrow.Author.Tests.{eq-eqb, eqb-true, ltb-true, ltb-false}
 use Rattle.octets.proofs.Bools.{both}
 use Rattle.octets.proofs.If.{ifb_true, ifb_false, on_bool}
 use Rattle.octets.specs.If.{ifb}
@@ -18,18 +22,29 @@ use Rattle.lines.specs.Lines.{place_of, name_end, is_silent}
 
 -- ---- the place of a byte
 
-module _ (b : ℕ) (s : List ℕ) (i : ℕ) where
-  pub place_here : i < length s → get_or s i 0 ≡ b → place_of b (drop i s) ≡ 0
-  unfolding place_of
-  place_here h e = rw (drop-cons s i 0 h) (ifb_true _ _ _ (eq-eqb (get_or s i 0) b e))
+place_or_len : (b : ℕ) (s : List ℕ) → place_of b s ≡ position_or_len (λ x. eqb x b) s
+unfolding place_of
+place_or_len b [] = refl
+place_or_len b (x ∷ s) = on_bool (eqb x b) (λ e. rw e (ifb_true _ _ _ refl)) (λ e. rw e (ifb_false _ _ _ refl ∙ ap (λ (n : ℕ). 1 + n) (place_or_len b s)))
 
-  pub place_on : i < length s → (get_or s i 0 ≡ b → ⊥) → place_of b (drop i s) ≡ 1 + place_of b (drop (i + 1) s)
-  unfolding place_of
-  place_on h e = rw (drop-cons s i 0 h, add-one) (ifb_false _ _ _ (ne_eqb (get_or s i 0) b e))
+place_most : (b : ℕ) (s : List ℕ) → place_of b s ≤ length s
+unfolding place_of
+place_most b [] = omega arith
+place_most b (x ∷ s) =
+    let m = place_most b s in
+    on_bool (eqb x b)
+    (λ e. let z : ifb (eqb x b) 0 (1 + place_of b s) ≡ 0 = ifb_true _ _ _ e in omega arith)
+    (λ e. let z : ifb (eqb x b) 0 (1 + place_of b s) ≡ 1 + place_of b s = ifb_false _ _ _ e in omega arith)
 
-  pub place_end : length s ≤ i → place_of b (drop i s) ≡ 0
-  unfolding place_of
-  place_end h = rw (drop_of_length-le s h)
+-- the first place that std finds, or the length
+pub place_found : (b : ℕ) (s : List ℕ) {r : ℕ} {found : Option ℕ} → found ≡ position (λ x. eqb x b) s → r ≡ unwrap_or found (length s) → (r ≡ place_of b s) × (r ≤ length s)
+place_found b s f e =
+    let m = place_most b s in
+    let p = place_or_len b s in
+    let g = ap (λ (o : Option ℕ). unwrap_or o (length s)) f in
+    on_bool (ltb (position_or_len (λ x. eqb x b) s) (length s))
+    (λ t. let z : unwrap_or (position (λ x. eqb x b) s) (length s) ≡ position_or_len (λ x. eqb x b) s = rw t in (omega arith, omega arith))
+    (λ t. let h = ltb-false _ _ t in let z : unwrap_or (position (λ x. eqb x b) s) (length s) ≡ length s = rw t in (omega arith, omega arith))
 
 -- ---- the end of a name
 
@@ -79,29 +94,12 @@ silent_first (x ∷ s) h = refl
 
 -- ---- equal runs
 
-module _ (a b : List ℕ) (i : ℕ) where
-  pub same_on : i < length a → i < length b → get_or a i 0 ≡ get_or b i 0 → same (drop i a) (drop i b) ≡ same (drop (i + 1) a) (drop (i + 1) b)
-  unfolding same
-  same_on h g e = rw (drop-cons a i 0 h, drop-cons b i 0 g, add-one, eq-eqb (get_or a i 0) (get_or b i 0) e)
-
-  pub same_other : i < length a → i < length b → (get_or a i 0 ≡ get_or b i 0 → ⊥) → same (drop i a) (drop i b) ≡ false
-  unfolding same
-  same_other h g e = rw (drop-cons a i 0 h, drop-cons b i 0 g, ne_eqb (get_or a i 0) (get_or b i 0) e)
-
-  pub same_end : length a ≤ i → length b ≤ i → same (drop i a) (drop i b) ≡ true
-  unfolding same
-  same_end h g = rw (drop_of_length-le a h, drop_of_length-le b g)
-
--- runs of other lengths are not the same
-pub same_length : (a b : List ℕ) → (length a ≡ length b → ⊥) → same a b ≡ false
+pub same_pointwise : (a b : List ℕ) → pointwise eqb a b ≡ same a b
 unfolding same
-same_length [] [] h = absurd (h refl)
-same_length [] (y ∷ t) h = refl
-same_length (x ∷ s) [] h = refl
-same_length (x ∷ s) (y ∷ t) h =
-    on_bool (eqb x y)
-    (λ e. rw e (same_length s t (λ l. h (rw l))))
-    (λ e. rw e)
+same_pointwise [] [] = refl
+same_pointwise [] (y ∷ t) = refl
+same_pointwise (x ∷ s) [] = refl
+same_pointwise (x ∷ s) (y ∷ t) = ap (λ (r : Bool). eqb x y && r) (same_pointwise s t)
 
 -- the answer is yes just of equal runs
 pub same_means : (a b : List ℕ) → same a b ≡ true → a ≡ b

@@ -1,31 +1,21 @@
--- What each return of the functions of this crate answers, and that Locate meets its plan.
+-- That what is found stands in the table, and that Locate meets its plan.
 -- Assumes nothing.
+use Rattle.std.specs.Prelude.{Option, Some}
 use mathlib.Core.Path.{◌≡◌, sym, ap, ◌∙◌}
 use Prim.Native.Nat.{ℕ}
 use native.Mathlib.Omega.{arith}
 use mathlib.Core.List.{List}
 use Rattle.names.specs.declared.Name.{Name}
 use Rattle.table.specs.Layout.{Table, HasLine}
-use Rattle.table.specs.Records.{serial_at}
-use Rattle.search.specs.declared.Found.{Found}
-use Rattle.search.specs.declared.Found.TheVariants.{At, Nothing}
 use Rattle.name_search.specs.Names.{find_name}
 use Rattle.name_search.proofs.Finds.{found_name_below}
 use Rattle.plans.specs.declared.Performed.{Performed}
-use Rattle.plans.specs.Plans.{in_places, carried_out, leaves, serial_found, locate_plan}
+use Rattle.plans.specs.Plans.{in_places, carried_out, leaves, locate_plan}
 use Rattle.plans.proofs.Plans.{is_done}
 use Rattle.locate.specs.Locate.{locating}
 
-module _ (n : ℕ) (t : List ℕ) (name : Name) (found : Found) (is : found ≡ find_name n t name) where
-  pub serial_there : (i : ℕ) → found ≡ At i → (serial : ℕ) → serial ≡ serial_at t i → serial ≡ serial_found t (find_name n t name)
-  unfolding serial_found
-  serial_there i at serial e = e ∙ sym (ap (serial_found t) (sym is ∙ at))
-
-  pub serial_nowhere : found ≡ Nothing → 0 ≡ serial_found t (find_name n t name)
-  unfolding serial_found
-  serial_nowhere none = sym (ap (serial_found t) (sym is ∙ none))
-
-  pub line_there : Table n t → (i : ℕ) → found ≡ At i → HasLine t i
+module _ (n : ℕ) (t : List ℕ) (name : Name) (found : Option ℕ) (is : found ≡ find_name n t name) where
+  pub line_there : Table n t → (i : ℕ) → found ≡ Some i → HasLine t i
   line_there sized i at = let below = found_name_below n t name i (sym is ∙ at) in omega arith
 
 -- what Locate answers is what its plan does

@@ -10,17 +10,15 @@ ghost use Rattle.locate.specs.Locate.{locating};
 
 use names::Name;
 use plans::{Outcome, Performed};
-use search::Found;
+
+// A table's bytes and its place count stay two parameters, as in `table`.
 
 // The serial of the record with this name, 0 where there is none.
 fn serial_named(t: &[u8], n: usize, name: Name) -> u32
     requires { Table n t.now }
     ensures { result ≡ serial_found t.now (find_name n t.now name) }
 {
-    match name_search::find_name(t, n, name) {
-        Found::At(i) => table::serial_at(t, i),
-        Found::Nothing => 0,
-    }
+    name_search::find_name(t, n, name).map_or(0, |i| table::serial_at(t, i))
 }
 
 // Locate: what is found is answered and becomes the placeholder; where nothing is, it is emptied.

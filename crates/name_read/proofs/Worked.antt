@@ -1,7 +1,7 @@
 -- Worked names, computed: items read to the name that they spell.
 -- Assumes nothing. The bytes were worked out from the papers.
 use mathlib.Core.Path.{◌≡◌, refl}
-use mathlib.Core.Option.{Option, none, some}
+use Rattle.std.specs.Prelude.{Option, None, Some}
 use mathlib.Core.List.{[]}
 use Rattle.hex_digits.specs.Texts.{hex}
 use Rattle.octets.specs.If.{ifb}
@@ -23,12 +23,12 @@ broken = record { len = 0; zeros = 1; words = no_name.words }
 
 -- the name that the bytes spell, alone and as last attribute
 only_from : Option Items → Option Name
-only_from none = some broken
-only_from (some t) = only_name_in t
+only_from None = Some broken
+only_from (Some t) = only_name_in t
 
 last_from : Option Items → Option Name
-last_from none = some broken
-last_from (some t) = last_name_in t
+last_from None = Some broken
+last_from (Some t) = last_name_in t
 
 -- the definitions that the cases compute with: who opens this opens them all
 opened : Unit {0}
@@ -39,63 +39,63 @@ opened = tt
 abbrev pump : Name
 pump = record { len = 4; zeros = 0; words = record { a = 0x70756D7000000000; b = 0; c = 0; d = 0 } }
 
-alone : only_from (parse 5 (hex "42005301 00000020 42005507 00000004 70756D70 00000000 42005405 00000004 00000001 00000000")) ≡ some pump
+alone : only_from (parse 5 (hex "42005301 00000020 42005507 00000004 70756D70 00000000 42005405 00000004 00000001 00000000")) ≡ Some pump
 unfolding opened
 alone = refl
 
-last : last_from (parse 5 (hex "42005301 00000020 42005507 00000004 70756D70 00000000 42005405 00000004 00000001 00000000")) ≡ some pump
+last : last_from (parse 5 (hex "42005301 00000020 42005507 00000004 70756D70 00000000 42005405 00000004 00000001 00000000")) ≡ Some pump
 unfolding opened
 last = refl
 
 -- no name may be the last attribute, and is not what Locate asks for
-not_given : last_from (parse 5 []) ≡ some no_name
+not_given : last_from (parse 5 []) ≡ Some no_name
 unfolding opened
 not_given = refl
 
-nothing_asked : only_from (parse 5 []) ≡ none
+nothing_asked : only_from (parse 5 []) ≡ None
 unfolding opened
 nothing_asked = refl
 
 -- type 2, a URI
-uri : only_from (parse 5 (hex "42005301 00000020 42005507 00000004 70756D70 00000000 42005405 00000004 00000002 00000000")) ≡ none
+uri : only_from (parse 5 (hex "42005301 00000020 42005507 00000004 70756D70 00000000 42005405 00000004 00000002 00000000")) ≡ None
 unfolding opened
 uri = refl
 
 -- the type in front of the text
-exchanged : only_from (parse 5 (hex "42005301 00000020 42005405 00000004 00000001 00000000 42005507 00000004 70756D70 00000000")) ≡ none
+exchanged : only_from (parse 5 (hex "42005301 00000020 42005405 00000004 00000001 00000000 42005507 00000004 70756D70 00000000")) ≡ None
 unfolding opened
 exchanged = refl
 
 -- no type
-no_type : only_from (parse 5 (hex "42005301 00000010 42005507 00000004 70756D70 00000000")) ≡ none
+no_type : only_from (parse 5 (hex "42005301 00000010 42005507 00000004 70756D70 00000000")) ≡ None
 unfolding opened
 no_type = refl
 
 -- a text of no bytes
-empty : only_from (parse 5 (hex "42005301 00000018 42005507 00000000 42005405 00000004 00000001 00000000")) ≡ none
+empty : only_from (parse 5 (hex "42005301 00000018 42005507 00000000 42005405 00000004 00000001 00000000")) ≡ None
 unfolding opened
 empty = refl
 
 -- 33 bytes of text
-too_long : only_from (parse 5 (hex "42005301 00000040 42005507 00000021 61616161 61616161 61616161 61616161 61616161 61616161 61616161 61616161 61000000 00000000 42005405 00000004 00000001 00000000")) ≡ none
+too_long : only_from (parse 5 (hex "42005301 00000040 42005507 00000021 61616161 61616161 61616161 61616161 61616161 61616161 61616161 61616161 61000000 00000000 42005405 00000004 00000001 00000000")) ≡ None
 unfolding opened
 too_long = refl
 
 -- a Byte String
-no_text : only_from (parse 5 (hex "42005301 00000020 42005508 00000004 70756D70 00000000 42005405 00000004 00000001 00000000")) ≡ none
+no_text : only_from (parse 5 (hex "42005301 00000020 42005508 00000004 70756D70 00000000 42005405 00000004 00000001 00000000")) ≡ None
 unfolding opened
 no_text = refl
 
 -- two names
-twice : last_from (parse 5 (hex "42005301 00000020 42005507 00000004 70756D70 00000000 42005405 00000004 00000001 00000000 42005301 00000020 42005507 00000004 70756D70 00000000 42005405 00000004 00000001 00000000")) ≡ none
+twice : last_from (parse 5 (hex "42005301 00000020 42005507 00000004 70756D70 00000000 42005405 00000004 00000001 00000000 42005301 00000020 42005507 00000004 70756D70 00000000 42005405 00000004 00000001 00000000")) ≡ None
 unfolding opened
 twice = refl
 
 -- a date behind the name, and one in its place
-more_behind : last_from (parse 5 (hex "42005301 00000020 42005507 00000004 70756D70 00000000 42005405 00000004 00000001 00000000 42000109 00000008 00000000 00000005")) ≡ none
+more_behind : last_from (parse 5 (hex "42005301 00000020 42005507 00000004 70756D70 00000000 42005405 00000004 00000001 00000000 42000109 00000008 00000000 00000005")) ≡ None
 unfolding opened
 more_behind = refl
 
-something_else : last_from (parse 5 (hex "42000109 00000008 00000000 00000005")) ≡ none
+something_else : last_from (parse 5 (hex "42000109 00000008 00000000 00000005")) ≡ None
 unfolding opened
 something_else = refl

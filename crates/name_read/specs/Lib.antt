@@ -1,5 +1,4 @@
 -- Names, read from items.
 -- Assumes nothing.
 pub mod Name
-pub mod Readers
 pub mod Reasons

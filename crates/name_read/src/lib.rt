@@ -1,78 +1,49 @@
 // A Name read from items: the name of a new key, if Create gives one, and the name that Locate asks
-// for. It knows TTLV by its items alone. A function that asks for a run of items is given one by
-// the readers of payloads, which cut it out of a payload that is a run.
+// for. It knows TTLV by its items alone.
 #![tactic(auto)]
 
-ghost use Rattle.std.specs.Prelude.{◌≡◌, true};
-ghost use Rattle.ttlv.specs.Tree.{is_run, tree_of};
+ghost use Rattle.std.specs.Prelude.{◌≡◌};
+ghost use Rattle.ttlv.specs.Tree.{tree_of};
 ghost use Rattle.name_read.specs.Name.{name_body, only_name_in, last_name_in};
-ghost use Rattle.name_read.specs.Readers.{name_read};
 
-use fields::{BodyField, BytesField, NumberField};
 use names::Name;
+use runs::Run;
 
 // The one Name Type: uninterpreted text.
 const UNINTERPRETED_TEXT: u64 = 1;
 
-// A name, or something that is none by the rules.
-#[derive(Clone, Copy)]
-pub enum NameRead {
-    Named { name: Name },
-    InvalidField,
-}
-
 // The items of Name.
-fn read_body(s: &[u8]) -> NameRead
-    requires { is_run s.now ≡ true }
-    ensures { result ≡ name_read (name_body (tree_of s.now)) }
+fn read_body(run: Run<'_>) -> Option<Name>
+    ensures { result ≡ name_body (tree_of run.entry.bytes.now) }
 {
-    let BytesField::Span { len, next } = fields::bytes_field(
-        s,
-        tags::NAME_VALUE,
-        ttlv_types::TEXT_STRING,
-    ) else {
-        return NameRead::InvalidField;
-    };
-    let stop = 8 + len;
-    let text = &s[8..stop];
+    let (text, rest) = run.bytes(tags::NAME_VALUE, ttlv_types::TEXT_STRING)?;
     if !names::name_ok(text) {
-        return NameRead::InvalidField;
+        return None;
     }
-    let NumberField::Number {
-        value: kind,
-        next: _,
-    } = last_field::only_number(&s[next..], tags::NAME_TYPE, ttlv_types::ENUMERATION)
-    else {
-        return NameRead::InvalidField;
-    };
+    let (kind, rest) = rest.number(tags::NAME_TYPE, ttlv_types::ENUMERATION)?;
     if kind != UNINTERPRETED_TEXT {
-        return NameRead::InvalidField;
+        return None;
     }
-    NameRead::Named {
-        name: names::name_of(text),
-    }
+    rest.end()?;
+    Some(names::name_of(text))
 }
 
 // A Name, with nothing behind it.
-pub fn read_only_name(s: &[u8]) -> NameRead
-    requires { is_run s.now ≡ true }
-    ensures { result ≡ name_read (only_name_in (tree_of s.now)) }
+pub fn read_only_name(run: Run<'_>) -> Option<Name>
+    ensures { result ≡ only_name_in (tree_of run.entry.bytes.now) }
 {
-    let BodyField::Body { next: end } = last_field::only_body(s, tags::NAME) else {
-        return NameRead::InvalidField;
-    };
-    read_body(&s[8..end])
+    let (body, rest) = run.body(tags::NAME)?;
+    let name = read_body(body)?;
+    rest.end()?;
+    Some(name)
 }
 
 // A Name, if one is given, with nothing behind it; no name where nothing is left.
-pub fn read_last_name(s: &[u8]) -> NameRead
-    requires { is_run s.now ≡ true }
-    ensures { result ≡ name_read (last_name_in (tree_of s.now)) }
+pub fn read_last_name(run: Run<'_>) -> Option<Name>
+    ensures { result ≡ last_name_in (tree_of run.entry.bytes.now) }
 {
-    if s.len() == 0 {
-        return NameRead::Named {
-            name: names::no_name(),
-        };
+    if run.is_empty() {
+        return Some(names::no_name());
     }
-    read_only_name(s)
+    read_only_name(run)
 }

@@ -8,7 +8,8 @@ ghost use Rattle.search.specs.Search.{first};
 ghost use Rattle.name_search.specs.Names.{has_name, find_name, is_taken};
 
 use names::Name;
-use search::Found;
+
+// A table's bytes and its place count stay two parameters, as in `table`.
 
 // Whether place i has this name. Most other names differ in their first bytes, so those are looked at
 // first. The caller shows that i is a place.
@@ -24,27 +25,20 @@ fn has_name(t: &[u8], n: usize, i: usize, name: Name) -> bool
 }
 
 // The lowest place that has this name.
-fn place_named(t: &[u8], n: usize, name: Name) -> Found
+fn place_named(t: &[u8], n: usize, name: Name) -> Option<usize>
     requires { Table n t.now }
     ensures { result ≡ first n (has_name n t.now name) }
 {
-    let mut i: usize = 0;
-    while i < n {
-        if has_name(t, n, i, name) {
-            return Found::At(i);
-        }
-        i += 1;
-    }
-    Found::Nothing
+    search::first_place(n, |i| has_name(t, n, i, name))
 }
 
 // The place of the record with this name; no name is no record's.
-pub fn find_name(t: &[u8], n: usize, name: Name) -> Found
+pub fn find_name(t: &[u8], n: usize, name: Name) -> Option<usize>
     requires { Table n t.now }
     ensures { result ≡ find_name n t.now name }
 {
     if name.len == 0 {
-        return Found::Nothing;
+        return None;
     }
     place_named(t, n, name)
 }
@@ -54,8 +48,5 @@ pub fn is_taken(t: &[u8], n: usize, name: Name) -> bool
     requires { Table n t.now }
     ensures { result ≡ is_taken n t.now name }
 {
-    match find_name(t, n, name) {
-        Found::At(_) => true,
-        Found::Nothing => false,
-    }
+    find_name(t, n, name).is_some()
 }

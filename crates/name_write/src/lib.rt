@@ -14,6 +14,7 @@ ghost use Rattle.answer.specs.Respond.{word, name_items};
 ghost use Rattle.named_write.specs.Puts.{Puts};
 
 use names::Name;
+use ttlv_numbers::Enumeration;
 
 // The one type of names.
 const UNINTERPRETED_TEXT: u32 = 1;
@@ -35,7 +36,11 @@ fn write_name_body(out: &mut [u8], name: Name) -> usize
     ensures { Puts 56 (value name_value text_string (name_text name) (word name_type enumeration uninterpreted_text nil)) out.old out.new result }
 {
     let n = write_name_value(out, name);
-    ttlv_numbers::write_enumeration(&mut out[n..], tags::NAME_TYPE, UNINTERPRETED_TEXT);
+    ttlv_numbers::write_number(
+        &mut out[n..],
+        tags::NAME_TYPE,
+        Enumeration(UNINTERPRETED_TEXT),
+    );
     n + 16
 }
 
@@ -47,7 +52,5 @@ pub fn write_name(out: &mut [u8], name: Name) -> usize
     if name.len == 0 {
         return 0;
     }
-    let n = write_name_body(&mut out[8..], name);
-    ttlv_put::write_structure(out, tags::NAME, n);
-    8 + n
+    ttlv_put::write_around(out, tags::NAME, |room| write_name_body(room, name))
 }

@@ -17,10 +17,13 @@ use Rattle.tags.specs.Tags.{tag_ok}
 use Rattle.ttlv_types.specs.Types.{structure, padded, length_ok}
 use Rattle.ttlv.specs.Items.{Items, nil, value, group, head, encode}
 use Rattle.ttlv.proofs.Back.{eights}
+use Rattle.std.specs.Fn.{FnOnceReturnsAtMut}
 use Rattle.ttlv_put.specs.Write.{join, spellable, fits, Wrote, WroteValue, WroteHead, Holds}
+use Rattle.ttlv_put.specs.Around.{Body, behind_head, WroteAround}
 use Rattle.ttlv.proofs.Sizes.{length_head}
 use Rattle.ttlv_put.proofs.Sizes.{length_value, encode_nil}
 use Rattle.ttlv_put.proofs.Holds.{wrote_size, holds_none, holds_wrote, holds_value, holds_then, holds_front, holds_join, holds_group, holds_length, holds_left}
+use Rattle.ttlv_put.proofs.Around.{room_behind, room_back}
 use Rattle.answer.specs.Respond.{word, long}
 use Rattle.named_write.specs.Puts.{Puts}
 
@@ -104,7 +107,7 @@ holds_structure tag n {room} t w e s l =
     rw (wrote_size ok w) at (holds_wrote ok (sym (length_head tag structure n)) l w)
 
 -- the body was written eight bytes on, and then its head in front of it
-pub puts_group : (tag : ℕ) → tag_ok tag ≡ true → (room : List ℕ) {t : Items} {a n r : ℕ} {ys after : List ℕ} → Puts a t (mid_of 8 (length room - 8) room) ys n
+puts_group : (tag : ℕ) → tag_ok tag ≡ true → (room : List ℕ) {t : Items} {a n r : ℕ} {ys after : List ℕ} → Puts a t (mid_of 8 (length room - 8) room) ys n
     → WroteHead tag n (put_mid 8 (length room - 8) room ys) after r → 8 ≤ length room → a < 256 ^ 4 → Puts (8 + a) (group tag t nil) room after (8 + n)
 puts_group tag h room {t = t} {n = n} {ys = ys} p w l s =
     let e = lent_length 8 room ys (holds_length p.holds) in
@@ -113,3 +116,12 @@ puts_group tag h room {t = t} {n = n} {ys = ys} p w l s =
       few = omega (arith, p.few);
       holds = holds_group tag n t p.holds.size (holds_front 8 l (length_head tag structure n) p.holds g);
     }
+
+-- the same of a structure around what a body writes, of which each outcome is told
+pub puts_around : (a : ℕ) {tag : ℕ} → tag_ok tag ≡ true → {F : Type 0} {g : Body F} {body : F} {room after : List ℕ} {r : ℕ} {t : Items}
+    → ((n : ℕ) (left : List ℕ) → FnOnceReturnsAtMut g body (behind_head room) n left → Puts a t (behind_head room) left n)
+    → WroteAround g body tag room after r → 8 ≤ length room → a < 256 ^ 4 → Puts (8 + a) (group tag t nil) room after r
+puts_around a {tag} h {room = room} p w l s =
+    let body = rw (← room_behind room) at (p w.size w.left w.ran) in
+    let head = rw (← room_back room w.left) at w.headed in
+    rw w.answer (puts_group tag h room body head l s)

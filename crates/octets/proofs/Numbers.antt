@@ -1,7 +1,7 @@
 -- Laws of big-endian numbers: `be` and `from_be` undo each other, at every width.
 -- Assumes nothing.
 use mathlib.Core.Path.{◌≡◌, refl, sym, ap, ◌∙◌}
-use Prim.Native.Nat.{ℕ, zero, suc, ◌+◌, ◌-◌, ◌*◌, ◌/◌, ◌%◌, ◌^◌, ◌≤◌, ◌<◌}
+use Prim.Native.Nat.{ℕ, zero, suc, ◌+◌, ◌*◌, ◌/◌, ◌%◌, ◌^◌, ◌≤◌, ◌<◌}
 use native.Mathlib.Nat.{add-zero, add_assoc, add-mul, pow-suc, pow-zero, div-add-mod', mul-one, one-mul, mul_assoc, mul-pos, zero-mul, mul-mod_left, pow-le-pow_right, pow-succ', zero-add}
 use native.Mathlib.Omega.{arith}
 use native.Mathlib.Numerals.{add-one}

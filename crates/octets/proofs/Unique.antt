@@ -1,7 +1,9 @@
 -- No second outcome: what two calls with the same inputs ensure is the same. Stated on the contracts as the checker reads them.
 -- Assumes nothing.
+use Rattle.std.specs.Prelude.{◌≡◌, ℕ, ◌<◌, Bool, List}
 use mathlib.Core.Path.{sym, ◌∙◌}
 use Rattle.outcomes.specs.Outcomes.{OneAnswer, OneLeft}
+use Rattle.octets.specs.Octets.{all}
 use Rattle.octets.proofs.fewer.Reads as fewer
 use Rattle.octets.proofs.number.Reads as number
 use Rattle.octets.proofs.number_at.Reads as number_at
@@ -26,3 +28,11 @@ put_all_unique κs a r r' s s' p q = p ∙ sym q
 
 pub all_zero_unique : OneAnswer all_zero.Post
 all_zero_unique κs a r r' s s' p q = p ∙ sym q
+
+-- what `every` promises of its answer, where `gives` is what its test may answer at a byte
+abbrev Promised : (ℕ → Bool → Type 0) → List ℕ → Bool → Type 0
+Promised gives s r = (p : ℕ → Bool) → ((x : ℕ) → (b : Bool) → x < 256 → gives x b → b ≡ p x) → r ≡ all p s
+
+-- of a test that has one answer at each byte
+pub every_unique : (gives : ℕ → Bool → Type 0) (s : List ℕ) (p : ℕ → Bool) → ((x : ℕ) → (b : Bool) → x < 256 → gives x b → b ≡ p x) → (r r' : Bool) → Promised gives s r → Promised gives s r' → r ≡ r'
+every_unique gives s p one r r' f g = f p one ∙ sym (g p one)

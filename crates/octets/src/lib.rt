@@ -2,24 +2,15 @@
 // It knows nothing of TTLV, tables or keys. Where a function asks for room, every caller shows it.
 #![tactic(auto)]
 
-ghost use Rattle.std.specs.Prelude.{◌≡◌, ◌+◌, ◌^◌, ◌≤◌, ◌<◌, min, length, take};
+ghost use Rattle.std.specs.Prelude.{ℕ, Bool, ◌≡◌, ◌+◌, ◌^◌, ◌≤◌, ◌<◌, min, length, take};
 ghost use Rattle.std.proofs.lemmas.List.Edits.{sets};
 ghost use Rattle.octets.specs.Octets.{be, from_be, part, all, is_zero};
-
-fn wide(x: u8) -> u32
-    ensures { (result ≡ x) × (result < 256) }
-{
-    x as u32
-}
 
 // The lower of two numbers.
 pub fn fewer(a: usize, b: usize) -> usize
     ensures { result ≡ min a b }
 {
-    if a <= b {
-        return a;
-    }
-    b
+    a.min(b)
 }
 
 // The number that at most four bytes spell. `number` shows that there are no more.
@@ -28,10 +19,8 @@ fn word(s: &[u8]) -> u32
     ensures { (result ≡ from_be s.now) × (result < 256 ^ length s.now) }
 {
     let mut n: u32 = 0;
-    let mut i: usize = 0;
-    while i < s.len() {
-        n = n * 256 + wide(s[i]);
-        i += 1;
+    for b in s {
+        n = n * 256 + u32::from(*b);
     }
     n
 }
@@ -66,11 +55,9 @@ pub fn put(t: &mut [u8], at: usize, width: usize, v: u64)
     ensures { t.new ≡ sets t.old at (be width v) }
 {
     let mut rest = v;
-    let mut k: usize = width;
-    while 0 < k {
-        k -= 1;
+    for k in (0..width).rev() {
         t[at + k] = (rest % 256) as u8;
-        rest = rest / 256;
+        rest /= 256;
     }
 }
 
@@ -79,23 +66,25 @@ pub fn put_all(t: &mut [u8], at: usize, s: &[u8])
     requires { at + length s.now ≤ length t.old }
     ensures { t.new ≡ sets t.old at s.now }
 {
-    let mut k: usize = 0;
-    while k < s.len() {
-        t[at + k] = s[k];
-        k += 1;
-    }
+    t[at..at + s.len()].copy_from_slice(s);
 }
 
-// Whether s holds nothing but zeros. It looks at every byte, with no way out between them, so that
+// Whether every byte passes a test. It looks at all of them, with no way out between them, so that
 // a compiler can take many at once.
+pub fn every<F: Fn(u8) -> bool>(s: &[u8], test: F) -> bool
+    requires { F.IsAlwaysCallable test }
+    ensures { (p : ℕ → Bool) → ((x : ℕ) → (r : Bool) → x < 256 → F.post test x r → r ≡ p x) → result ≡ all p s.now }
+{
+    let mut clear = true;
+    for b in s {
+        clear = clear & test(*b);
+    }
+    clear
+}
+
+// Whether s holds nothing but zeros.
 pub fn all_zero(s: &[u8]) -> bool
     ensures { result ≡ all is_zero s.now }
 {
-    let mut clear = true;
-    let mut k: usize = 0;
-    while k < s.len() {
-        clear = clear & (s[k] == 0);
-        k += 1;
-    }
-    clear
+    every(s, |b| b == 0)
 }

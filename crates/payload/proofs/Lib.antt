@@ -1,9 +1,6 @@
 -- Laws of the payload readers, what their answers say, that no second outcome satisfies a contract, and worked cases.
 -- Assumes nothing.
-pub mod Targets
 pub mod Offsets
-pub mod Create
-pub mod Locate
 pub mod Commands
 pub mod Reasons
 pub mod Unique

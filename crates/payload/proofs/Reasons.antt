@@ -3,7 +3,7 @@
 use Prim.Native.Nat.{ℕ}
 use mathlib.Core.Path.{◌≡◌, refl, sym, ap, ◌∙◌}
 use mathlib.Core.Bool.{true}
-use mathlib.Core.Option.{Option, none, some}
+use Rattle.std.specs.Prelude.{Option, None, Some}
 use native.Mathlib.Omega.{arith}
 use lib.Dec.{eqb}
 use borrow.Author.Tests.{eqb-true}
@@ -19,7 +19,7 @@ use Rattle.payload.specs.declared.Command.TheVariants.{Activate, Destroy, GetAtt
 
 -- what was read is of the operation
 Of : ℕ → Option Command → Type 0
-Of operation o = (c : Command) → o ≡ some c → operation_of c ≡ some operation
+Of operation o = (c : Command) → o ≡ Some c → operation_of c ≡ Some operation
 
 create_of : (t : Items) → Of create (create_in t)
 unfolding Of create_in operation_of
@@ -31,7 +31,7 @@ rekey_of : (t : Items) → Of rekey (rekey_in t)
 unfolding Of rekey_in operation_of
 rekey_of t c h = on_bind h λ a e1 h1. on_bind h1 λ b e2 h2. on_test h2 λ end h3. ap operation_of (sym (some_is h3))
 
-alone_of_lem : {operation : ℕ} (make : Target → Command) → ((target : Target) → operation_of (make target) ≡ some operation) → (t : Items) → Of operation (alone_in make t)
+alone_of_lem : {operation : ℕ} (make : Target → Command) → ((target : Target) → operation_of (make target) ≡ Some operation) → (t : Items) → Of operation (alone_in make t)
 unfolding Of alone_in
 alone_of_lem make f t c h = on_bind h λ a e1 h1. on_test h1 λ end h2. ap operation_of (sym (some_is h2)) ∙ f a.0
 
@@ -52,14 +52,14 @@ locate_of t c h = on_bind h λ a e1 h1. on_test h1 λ end h2. on_bind h2 λ name
 
 -- a command is of the operation that asked for it, unless it fails by itself
 Asked : ℕ → Command → Type 0
-Asked operation c = reason_of c ≡ none → operation_of c ≡ some operation
+Asked operation c = reason_of c ≡ None → operation_of c ≡ Some operation
 
 asked : (operation n : ℕ) (o : Option Command) → eqb operation n ≡ true → Of n o → Asked operation (or_invalid o)
 unfolding Asked Of or_invalid reason_of
-asked operation n none e f h = let z : ◌≡◌ {A = ℕ} 0 1 = cc in absurd (omega arith)
-asked operation n (some c) e f h = f c refl ∙ ap (λ (x : ℕ). some x) (sym (eqb-true operation n e))
+asked operation n None e f h = let z : ◌≡◌ {A = ℕ} 0 1 = cc in absurd (omega arith)
+asked operation n (Some c) e f h = f c refl ∙ ap (λ (x : ℕ). Some x) (sym (eqb-true operation n e))
 
-pub command_operation : (operation : ℕ) (t : Items) → reason_of (command operation t) ≡ none → operation_of (command operation t) ≡ some operation
+pub command_operation : (operation : ℕ) (t : Items) → reason_of (command operation t) ≡ None → operation_of (command operation t) ≡ Some operation
 unfolding Asked command reason_of operation_of
 command_operation operation t =
     on_if (Asked operation) (λ e. asked operation create _ e (create_of t))

@@ -1,7 +1,7 @@
 -- 01, "Operations", and 02, L4 and L6: each payload's shape and allowed values. "A payload holds what its line names, in that order, and nothing else."
 -- Assumes nothing. "One of wrong shape or with a value not allowed here fails with Invalid Field."
 use Rattle.std.specs.Prelude.{ℕ, eqb}
-use Rattle.std.proofs.Math.Option.{Option, none, some}
+use Rattle.std.specs.Prelude.{Option, None, Some}
 use Rattle.octets.specs.If.{ifb}
 use Rattle.octets.specs.Maybe.{◌>>=◌, ◌>>◌}
 use Rattle.ttlv_types.specs.Types.{long_integer, enumeration, interval}
@@ -13,8 +13,6 @@ use Rattle.name_read.specs.Name.{only_name_in}
 use Rattle.values.specs.Values.{above_zero}
 use Rattle.rules.specs.Numbers.{create, rekey, locate, get, get_attributes, get_usage_allocation, activate, revoke, destroy}
 use Rattle.rules.specs.States.{code_ok}
-use Rattle.rules.specs.declared.Offset.{Offset}
-use Rattle.rules.specs.declared.Offset.TheVariants.{NoOffset, Seconds}
 use Rattle.target_read.specs.declared.Target.{Target}
 use Rattle.target_read.specs.Target.{target_in}
 use Rattle.payload.specs.declared.Command.{Command}
@@ -34,13 +32,9 @@ create_in t = do
   (body, s) ← body_of attributes r
   ended s
   wanted ← attributes_in body
-  some (Create wanted)
+  Some (Create wanted)
 
 -- ---- the target operations
-
-unfoldable pub offset_of : Option ℕ → Offset
-offset_of none = NoOffset
-offset_of (some seconds) = Seconds seconds
 
 -- 02, L4: "Add the optional Offset (Interval, unsigned seconds)"
 unfoldable pub rekey_in : Items → Option Command
@@ -48,14 +42,14 @@ rekey_in t = do
   (target, r) ← target_in t
   (given, s) ← optional offset (number_of offset interval) r
   ended s
-  some (Rekey target (offset_of given))
+  Some (Rekey target given)
 
 -- Activate, Destroy, Get Attributes, Get: nothing more in the request
 unfoldable pub alone_in : (Target → Command) → Items → Option Command
 alone_in command t = do
   (target, r) ← target_in t
   ended r
-  some (command target)
+  Some (command target)
 
 -- "Usage Limits Count, Long Integer above 0": a Long Integer is signed
 unfoldable pub allocation_in : Items → Option Command
@@ -64,7 +58,7 @@ allocation_in t = do
   (amount, s) ← number_of usage_limits_count long_integer r
   above_zero amount
   ended s
-  some (GetUsageAllocation target amount)
+  Some (GetUsageAllocation target amount)
 
 -- "Revocation Reason { Code 1 to 7 }"
 unfoldable pub revoke_in : Items → Option Command
@@ -75,7 +69,7 @@ revoke_in t = do
   (code, u) ← number_of revocation_reason_code enumeration body
   code_ok code
   ended u
-  some (Revoke target code)
+  Some (Revoke target code)
 
 -- ---- Locate
 
@@ -85,13 +79,13 @@ locate_in t = do
   (body, r) ← body_of attributes t
   ended r
   name ← only_name_in body
-  some (Locate name)
+  Some (Locate name)
 
 -- ---- all of them
 
 unfoldable pub or_invalid : Option Command → Command
-or_invalid none = Invalid
-or_invalid (some command) = command
+or_invalid None = Invalid
+or_invalid (Some command) = command
 
 -- what an item with this operation and this payload asks for
 unfoldable pub command : ℕ → Items → Command

@@ -1,20 +1,21 @@
 // Payloads: what an item asks for, as a command, or that it is not allowed or not supported.
-// It knows TTLV by its items alone, and looks at no table. A function that asks for a run of items
-// is given one by the frame's reader, whose items are runs.
+// It knows TTLV by its items alone, and looks at no table.
 #![tactic(auto)]
 
-ghost use Rattle.std.specs.Prelude.{◌≡◌, true};
-ghost use Rattle.ttlv.specs.Tree.{is_run, tree_of};
+ghost use Rattle.std.specs.Prelude.{◌≡◌, option_map};
+ghost use Rattle.ttlv.specs.Tree.{tree_of};
+ghost use Rattle.runs.specs.Runs.{behind};
 ghost use Rattle.rules.specs.States.{code_ok};
+ghost use Rattle.target_read.specs.Target.{target_in};
 ghost use Rattle.payload.specs.Payload.{create_in, rekey_in, alone_in, allocation_in, revoke_in, locate_in, or_invalid, command};
 ghost use Rattle.payload.specs.Readers.{alone_of};
 
-use attributes_read::AttributesRead;
-use fields::{BodyField, NumberField};
-use name_read::NameRead;
 use names::Name;
-use rules::{Attributes, Offset};
-use target_read::{Target, TargetRead};
+use rules::Attributes;
+use runs::Run;
+use target_read::Target;
+
+// An operation stays a number: `read_command` answers for any.
 
 // The operations.
 const CREATE: u32 = 0x01;
@@ -40,7 +41,7 @@ pub enum Command {
     // a payload of wrong shape or with a value not allowed
     Invalid,
     Create { wanted: Attributes },
-    Rekey { target: Target, offset: Offset },
+    Rekey { target: Target, offset: Option<u32> },
     GetUsageAllocation { target: Target, amount: u64 },
     Activate { target: Target },
     Revoke { target: Target, code: u32 },
@@ -50,59 +51,46 @@ pub enum Command {
     Locate { name: Name },
 }
 
-// The payload of Create.
-fn read_create(s: &[u8]) -> Command
-    requires { is_run s.now ≡ true }
-    ensures { result ≡ or_invalid (create_in (tree_of s.now)) }
+// The target at the front, and the run behind it.
+fn read_target<'a>(run: Run<'a>) -> Option<(Target, Run<'a>)>
+    ensures { option_map behind result ≡ target_in (tree_of run.entry.bytes.now) }
 {
-    let NumberField::Number { value: kind, next } = fields::number_field(
-        s,
-        tags::OBJECT_TYPE,
-        ttlv_types::ENUMERATION,
-    ) else {
-        return Command::Invalid;
-    };
+    let (target, next) = target_read::read_target(run.bytes)?;
+    let bytes = &run.bytes[next..];
+    Some((target, Run { bytes }))
+}
+
+// The payload of Create.
+fn read_create(run: Run<'_>) -> Option<Command>
+    ensures { result ≡ create_in (tree_of run.entry.bytes.now) }
+{
+    let (kind, rest) = run.number(tags::OBJECT_TYPE, ttlv_types::ENUMERATION)?;
     if kind != SYMMETRIC_KEY {
-        return Command::Invalid;
+        return None;
     }
-    let t = &s[next..];
-    let BodyField::Body { next: end } = last_field::only_body(t, tags::ATTRIBUTES) else {
-        return Command::Invalid;
-    };
-    let AttributesRead::Wanted { wanted } = attributes_read::read_attributes(&t[8..end]) else {
-        return Command::Invalid;
-    };
-    Command::Create { wanted }
+    let (body, rest) = rest.body(tags::ATTRIBUTES)?;
+    rest.end()?;
+    let wanted = attributes_read::read_attributes(body)?;
+    Some(Command::Create { wanted })
 }
 
 // The payload of Re-key: its Offset, if it is given, is the last item.
-fn read_rekey(s: &[u8]) -> Command
-    requires { is_run s.now ≡ true }
-    ensures { result ≡ or_invalid (rekey_in (tree_of s.now)) }
+fn read_rekey(run: Run<'_>) -> Option<Command>
+    ensures { result ≡ rekey_in (tree_of run.entry.bytes.now) }
 {
-    let TargetRead::Is { target, next } = target_read::read_target(s) else {
-        return Command::Invalid;
-    };
-    let t = &s[next..];
-    if t.len() == 0 {
-        return Command::Rekey {
+    let (target, rest) = read_target(run)?;
+    if rest.is_empty() {
+        return Some(Command::Rekey {
             target,
-            offset: Offset::NoOffset,
-        };
+            offset: None,
+        });
     }
-    let NumberField::Number {
-        value: seconds,
-        next: _,
-    } = last_field::only_number(t, tags::OFFSET, ttlv_types::INTERVAL)
-    else {
-        return Command::Invalid;
-    };
-    Command::Rekey {
+    let (seconds, rest) = rest.word(tags::OFFSET, ttlv_types::INTERVAL)?;
+    rest.end()?;
+    Some(Command::Rekey {
         target,
-        offset: Offset::Seconds {
-            seconds: seconds as u32,
-        },
-    }
+        offset: Some(seconds),
+    })
 }
 
 // The command of an operation that asks for nothing but its target.
@@ -122,46 +110,25 @@ fn alone(operation: u32, target: Target) -> Command
 }
 
 // The payload of Activate, Destroy, Get or Get Attributes.
-fn read_alone(operation: u32, s: &[u8]) -> Command
-    requires { is_run s.now ≡ true }
-    ensures { result ≡ or_invalid (alone_in (alone_of operation) (tree_of s.now)) }
+fn read_alone(operation: u32, run: Run<'_>) -> Option<Command>
+    ensures { result ≡ alone_in (alone_of operation) (tree_of run.entry.bytes.now) }
 {
-    let TargetRead::Is {
-        target,
-        next: after,
-    } = target_read::read_target(s)
-    else {
-        return Command::Invalid;
-    };
-    if after != s.len() {
-        return Command::Invalid;
-    }
-    alone(operation, target)
+    let (target, rest) = read_target(run)?;
+    rest.end()?;
+    Some(alone(operation, target))
 }
 
 // The payload of Get Usage Allocation.
-fn read_allocation(s: &[u8]) -> Command
-    requires { is_run s.now ≡ true }
-    ensures { result ≡ or_invalid (allocation_in (tree_of s.now)) }
+fn read_allocation(run: Run<'_>) -> Option<Command>
+    ensures { result ≡ allocation_in (tree_of run.entry.bytes.now) }
 {
-    let TargetRead::Is { target, next } = target_read::read_target(s) else {
-        return Command::Invalid;
-    };
-    let NumberField::Number {
-        value: amount,
-        next: _,
-    } = last_field::only_number(
-        &s[next..],
-        tags::USAGE_LIMITS_COUNT,
-        ttlv_types::LONG_INTEGER,
-    )
-    else {
-        return Command::Invalid;
-    };
+    let (target, rest) = read_target(run)?;
+    let (amount, rest) = rest.number(tags::USAGE_LIMITS_COUNT, ttlv_types::LONG_INTEGER)?;
     if !values::above_zero(amount) {
-        return Command::Invalid;
+        return None;
     }
-    Command::GetUsageAllocation { target, amount }
+    rest.end()?;
+    Some(Command::GetUsageAllocation { target, amount })
 }
 
 // Whether there is a revocation code of this number.
@@ -172,83 +139,54 @@ fn code_ok(code: u64) -> bool
 }
 
 // The payload of Revoke.
-fn read_revoke(s: &[u8]) -> Command
-    requires { is_run s.now ≡ true }
-    ensures { result ≡ or_invalid (revoke_in (tree_of s.now)) }
+fn read_revoke(run: Run<'_>) -> Option<Command>
+    ensures { result ≡ revoke_in (tree_of run.entry.bytes.now) }
 {
-    let TargetRead::Is { target, next } = target_read::read_target(s) else {
-        return Command::Invalid;
-    };
-    let t = &s[next..];
-    let BodyField::Body { next: end } = last_field::only_body(t, tags::REVOCATION_REASON) else {
-        return Command::Invalid;
-    };
-    let NumberField::Number {
-        value: code,
-        next: _,
-    } = last_field::only_number(
-        &t[8..end],
-        tags::REVOCATION_REASON_CODE,
-        ttlv_types::ENUMERATION,
-    )
-    else {
-        return Command::Invalid;
-    };
+    let (target, rest) = read_target(run)?;
+    let (body, rest) = rest.body(tags::REVOCATION_REASON)?;
+    rest.end()?;
+    let (code, inner) = body.number(tags::REVOCATION_REASON_CODE, ttlv_types::ENUMERATION)?;
     if !code_ok(code) {
-        return Command::Invalid;
+        return None;
     }
-    Command::Revoke {
+    inner.end()?;
+    Some(Command::Revoke {
         target,
         code: code as u32,
-    }
+    })
 }
 
 // The payload of Locate.
-fn read_locate(s: &[u8]) -> Command
-    requires { is_run s.now ≡ true }
-    ensures { result ≡ or_invalid (locate_in (tree_of s.now)) }
+fn read_locate(run: Run<'_>) -> Option<Command>
+    ensures { result ≡ locate_in (tree_of run.entry.bytes.now) }
 {
-    let BodyField::Body { next: end } = last_field::only_body(s, tags::ATTRIBUTES) else {
-        return Command::Invalid;
-    };
-    let NameRead::Named { name } = name_read::read_only_name(&s[8..end]) else {
-        return Command::Invalid;
-    };
-    Command::Locate { name }
+    let (body, rest) = run.body(tags::ATTRIBUTES)?;
+    rest.end()?;
+    let name = name_read::read_only_name(body)?;
+    Some(Command::Locate { name })
 }
 
-// What an item with this operation and this payload asks for. The frame's reader shows that a
-// payload is a run of items.
-pub fn read_command(operation: u32, s: &[u8]) -> Command
-    requires { is_run s.now ≡ true }
-    ensures { result ≡ command operation (tree_of s.now) }
+// What an item with this operation and this payload asks for, if its payload is allowed.
+fn read_payload(operation: u32, run: Run<'_>) -> Option<Command>
+    ensures { or_invalid result ≡ command operation (tree_of run.entry.bytes.now) }
 {
-    if operation == CREATE {
-        return read_create(s);
+    match operation {
+        CREATE => read_create(run),
+        REKEY => read_rekey(run),
+        GET_USAGE_ALLOCATION => read_allocation(run),
+        rules::REVOKE => read_revoke(run),
+        LOCATE => read_locate(run),
+        rules::ACTIVATE => read_alone(operation, run),
+        rules::DESTROY => read_alone(operation, run),
+        GET_ATTRIBUTES => read_alone(operation, run),
+        GET => read_alone(operation, run),
+        _ => Some(Command::Unsupported),
     }
-    if operation == REKEY {
-        return read_rekey(s);
-    }
-    if operation == GET_USAGE_ALLOCATION {
-        return read_allocation(s);
-    }
-    if operation == rules::ACTIVATE {
-        return read_alone(operation, s);
-    }
-    if operation == rules::REVOKE {
-        return read_revoke(s);
-    }
-    if operation == rules::DESTROY {
-        return read_alone(operation, s);
-    }
-    if operation == GET_ATTRIBUTES {
-        return read_alone(operation, s);
-    }
-    if operation == GET {
-        return read_alone(operation, s);
-    }
-    if operation == LOCATE {
-        return read_locate(s);
-    }
-    Command::Unsupported
+}
+
+// What an item with this operation and this payload asks for.
+pub fn read_command(operation: u32, run: Run<'_>) -> Command
+    ensures { result ≡ command operation (tree_of run.entry.bytes.now) }
+{
+    read_payload(operation, run).unwrap_or(Command::Invalid)
 }

@@ -1,5 +1,6 @@
 -- Laws of plans: a condition at a time, a failure, and where a Re-key's Offset is tested.
 -- Assumes nothing.
+use Rattle.std.specs.Prelude.{Option}
 use mathlib.Core.Path.{◌≡◌, refl, ap, ◌∙◌}
 use Prim.Native.Nat.{ℕ}
 use mathlib.Core.Bool.{true, false, not}
@@ -10,12 +11,13 @@ use Rattle.table.specs.Records.{latest_clock}
 use Rattle.search.specs.Search.{is_destroyed}
 use Rattle.rules.specs.declared.Reason.{Reason}
 use Rattle.rules.specs.declared.Reason.TheVariants.{InvalidField}
-use Rattle.rules.specs.declared.Offset.{Offset}
 use Rattle.rules.specs.Tests.{Test, ◌⇒◌, due}
 use Rattle.rules.proofs.Tests.{due_first, due_later, due_end}
 use Rattle.heirs.specs.Heirs.{offset_wrong}
+use Rattle.plans.specs.declared.Outcome.{Outcome}
+use Rattle.plans.specs.declared.Outcome.TheVariants.{Failed, Created, Done, Showed, Got, Located, Undone}
 use Rattle.plans.specs.declared.Performed.{Performed}
-use Rattle.plans.specs.Plans.{Env, Did, failing, refusal, carried, carried_out, leaves, failed, rekey_plan}
+use Rattle.plans.specs.Plans.{Env, Did, failing, refusal, carried, carried_out, leaves, failed, is_failed, rekey_plan}
 
 -- ---- a test at a time
 
@@ -48,7 +50,19 @@ left_one e = (ap (λ (did : Did). record { outcome = did.outcome; holder = did.h
 -- ---- Re-key
 
 -- a wrong Offset is told behind Permission Denied, be the table full or not
-pub wrong_told : (env : Env) (holder : ℕ) (t : List ℕ) (offset : Offset) (i : ℕ) (r : Record) → is_destroyed r.state ≡ false → not (eqb r.replacement 0) ≡ false
+pub wrong_told : (env : Env) (holder : ℕ) (t : List ℕ) (offset : Option ℕ) (i : ℕ) (r : Record) → is_destroyed r.state ≡ false → not (eqb r.replacement 0) ≡ false
     → offset_wrong (latest_clock t) offset r ≡ true → carried_out t (rekey_plan env holder t offset i r) ≡ failing t InvalidField
 unfolding rekey_plan
 wrong_told env holder t offset i r live unreplaced wrong = goes_further t _ _ _ live ∙ goes_further t _ _ _ unreplaced ∙ fails_first t _ _ _ wrong
+
+-- ---- whether an item failed
+
+pub not_failed : (o : Outcome) → ((reason : Reason) → o ≡ Failed reason → ⊥) → false ≡ is_failed o
+unfolding is_failed
+not_failed (Failed reason) h = absurd (h reason refl)
+not_failed (Created serial) h = refl
+not_failed (Done serial) h = refl
+not_failed (Showed shown) h = refl
+not_failed (Got key) h = refl
+not_failed (Located serial) h = refl
+not_failed Undone h = refl

@@ -1,20 +1,17 @@
 -- 01, "Operations": for each operation the ordered conditions with their reasons, and what success does and answers, on the record that it is about.
 -- Assumes nothing. There is no byte of output in it.
 use Rattle.std.specs.Prelude.{ℕ, ◌-◌, ◌*◌, Bool, true, false, not, List, [], ◌∷◌, eqb}
-use Rattle.std.proofs.Math.Option.{Option, none, some}
+use Rattle.std.specs.Prelude.{Option, None, Some}
 use Rattle.octets.specs.Octets.{part}
 use Rattle.table.specs.declared.Record.{Record}
 use Rattle.table.specs.Layout.{material_size}
 use Rattle.table.specs.Records.{with_place, serial_at, latest_clock}
-use Rattle.search.specs.declared.Found.{Found}
-use Rattle.search.specs.declared.Found.TheVariants.{At, Nothing}
 use Rattle.search.specs.Search.{is_destroyed}
 use Rattle.names.specs.declared.Name.{Name}
 use Rattle.name_search.specs.Names.{find_name, is_taken}
 use Rattle.rules.specs.declared.Reason.{Reason}
 use Rattle.rules.specs.declared.Reason.TheVariants.{InvalidField, ObjectDestroyed, PermissionDenied, ServerLimitExceeded, WrongKeyLifecycleState, NonUniqueName}
 use Rattle.rules.specs.declared.Attributes.{Attributes}
-use Rattle.rules.specs.declared.Offset.{Offset}
 use Rattle.rules.specs.Numbers.{activate, revoke, destroy}
 use Rattle.rules.specs.Tests.{Test, ◌⇒◌, due}
 use Rattle.rules.specs.States.{activate_tests, revoke_tests, destroy_tests, grant_tests, moved_state}
@@ -71,8 +68,8 @@ refusal t reason = record { tests = true ⇒ reason ∷ []; did = failing t reas
 
 -- the reason that is due, or what is done
 unfoldable pub carried : List ℕ → Did → Option Reason → Did
-carried t did none = did
-carried t did (some reason) = failing t reason
+carried t did None = did
+carried t did (Some reason) = failing t reason
 
 abbrev pub carried_out : List ℕ → Plan → Did
 carried_out t p = carried t p.did (due p.tests)
@@ -119,9 +116,9 @@ unfoldable pub key_of : Record → Key
 key_of r = record { serial = r.serial; bits = r.bits; material = words_of r.material }
 
 -- the serial at the place that was found, 0 where none was
-unfoldable pub serial_found : List ℕ → Found → ℕ
-serial_found t (At i) = serial_at t i
-serial_found t Nothing = empty_holder
+unfoldable pub serial_found : List ℕ → Option ℕ → ℕ
+serial_found t (Some i) = serial_at t i
+serial_found t None = empty_holder
 
 module _ (env : Env) (holder : ℕ) (t : List ℕ) where
   -- 02, L6: a name that is taken "fails with the reason 000 gives for a name that isn't unique, tested after Invalid Field"; "Server Limit Exceeded"; a new record from the
@@ -138,7 +135,7 @@ module _ (env : Env) (holder : ℕ) (t : List ℕ) where
 
   -- "destroyed: Object Destroyed. Has a replacement serial: Permission Denied. Then as Create .. Answers the new identifier"; 02, L4: a wrong Offset "is Invalid Field,
   -- given after Permission Denied and before Server Limit Exceeded". The clock that counts is the latest, stored before the first item
-  unfoldable pub rekey_plan : Offset → ℕ → Record → Plan
+  unfoldable pub rekey_plan : Option ℕ → ℕ → Record → Plan
   rekey_plan offset i r = record {
     tests =
         is_destroyed r.state ⇒ ObjectDestroyed

@@ -60,18 +60,11 @@ pub struct Performed {
 }
 
 // Whether an item failed.
+#[tactic(auto, using(crate::proofs::Plans::not_failed), unfolding(crate::specs::Plans::is_failed))]
 pub fn is_failed(outcome: Outcome) -> bool
     ensures { result ≡ is_failed outcome }
 {
-    match outcome {
-        Outcome::Failed { reason: _ } => true,
-        Outcome::Created { serial: _ } => false,
-        Outcome::Done { serial: _ } => false,
-        Outcome::Showed { shown: _ } => false,
-        Outcome::Got { key: _ } => false,
-        Outcome::Located { serial: _ } => false,
-        Outcome::Undone => false,
-    }
+    matches!(outcome, Outcome::Failed { .. })
 }
 
 // A failure empties the placeholder.

@@ -13,8 +13,8 @@ pub fn byte(rt: &impl Print, b: u8) -> io::Result<()> {
 
 // Bytes as hex without blanks.
 pub fn bytes(rt: &impl Print, s: &[u8]) -> io::Result<()> {
-    for i in 0..s.len() {
-        byte(rt, s[i])?;
+    for b in s {
+        byte(rt, *b)?;
     }
     Ok(())
 }

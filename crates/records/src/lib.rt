@@ -10,6 +10,8 @@ ghost use Rattle.records.specs.Links.{link_at, LinkIn};
 
 use table::{Layout, Record};
 
+// A table's bytes and its place count stay two parameters, as in `table`.
+
 // The material that stands from `at` on; its caller shows that it lies in the table.
 fn material_at(t: &[u8], at: usize) -> [u8; 32]
     requires { at + material_size ≤ length t.now }

@@ -11,6 +11,10 @@ ghost use Rattle.table.specs.Records.{line, body, with_place};
 use names::Name;
 use table::{Layout, Record};
 
+// A table's bytes and its place count stay two parameters, as in `table`.
+
+// State and unit stay the bytes that a table stores, which may be any.
+
 // Writes a line from `at` on; its caller shows that it lies in the table.
 fn put_line(
     t: &mut [u8],

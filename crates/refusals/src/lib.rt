@@ -3,7 +3,10 @@
 #![tactic(auto)]
 
 ghost use Rattle.std.specs.Prelude.{◌≡◌};
+ghost use Rattle.refusal.specs.Numbers.{refused_with};
 ghost use Rattle.refusals.specs.Refusals.{early_refusal, late_refusal};
+
+use refusal::Refusal;
 
 // The sizes that a caller keeps to; the table's are those of `table::Layout`.
 pub const ROOM_LEAST: usize = 6360;
@@ -12,41 +15,41 @@ pub const STRIP_SIZE: usize = 512;
 
 pub const REQUEST_MOST: usize = 4096;
 
-// The lowest of refusals 1 to 5 that applies, or 0: sizes, the table, and TTLV. Nothing is written.
-pub fn early_refusal(request: &[u8], table: &[u8], fresh: &[u8], room: usize) -> u32
-    ensures { result ≡ early_refusal request.now table.now fresh.now room }
+// The lowest of refusals 1 to 5, if one applies: sizes, the table, and TTLV. Nothing is written.
+pub fn early_refusal(request: &[u8], table: &[u8], fresh: &[u8], room: usize) -> Result<(), Refusal>
+    ensures { refused_with result ≡ early_refusal request.now table.now fresh.now room }
 {
     if room < ROOM_LEAST {
-        return 1;
+        return Err(Refusal::Room);
     }
     if fresh.len() != STRIP_SIZE {
-        return 2;
+        return Err(Refusal::Strip);
     }
     if !place_counts::table_right(table) {
-        return 3;
+        return Err(Refusal::Table);
     }
     if request.len() == 0 {
-        return 4;
+        return Err(Refusal::Length);
     }
     if REQUEST_MOST < request.len() {
-        return 4;
+        return Err(Refusal::Length);
     }
     if !ttlv::is_message(request) {
-        return 5;
+        return Err(Refusal::Message);
     }
-    0
+    Ok(())
 }
 
 // Refusals 10 and 11, which come last: a clock below 1, a second buffer of another size than the
-// table's. 0 where neither applies.
-pub fn late_refusal(clock: u64, size: usize, lent: usize) -> u32
-    ensures { result ≡ late_refusal clock size lent }
+// table's.
+pub fn late_refusal(clock: u64, size: usize, lent: usize) -> Result<(), Refusal>
+    ensures { refused_with result ≡ late_refusal clock size lent }
 {
     if !values::above_zero(clock) {
-        return 10;
+        return Err(Refusal::Clock);
     }
     if lent != size {
-        return 11;
+        return Err(Refusal::Buffer);
     }
-    0
+    Ok(())
 }

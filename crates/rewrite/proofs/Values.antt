@@ -15,19 +15,13 @@ use Rattle.octets.specs.Octets.{be, from_be, Bytes}
 use Rattle.octets.proofs.If.{ifb_true, ifb_false, on_bool}
 use Rattle.octets.proofs.Numbers.{be_from_be}
 use Rattle.tags.specs.Tags.{tag_ok}
-use Rattle.ttlv_types.specs.Types.{structure, integer, long_integer, big_integer, enumeration, boolean, text_string, byte_string, date_time, interval, date_time_extended, padded, is_word, is_long, length_ok, value_ok}
+use Rattle.ttlv_types.specs.Types.{structure, big_integer, boolean, text_string, byte_string, padded, is_word, is_long, length_ok, value_ok}
 use Rattle.utf8.specs.Text.{text}
 use Rattle.ttlv.specs.Items.{encode}
 use Rattle.ttlv_put.specs.Write.{item, spellable, fits, Wrote, WroteNumber, WroteValue}
 use Rattle.ttlv_numbers.specs.Bit.{bit}
 
--- ---- what is left when the others are ruled out
-
-pub is_interval : (kind : ℕ) → is_word kind ≡ true → (kind ≡ integer → ⊥) → (kind ≡ enumeration → ⊥) → kind ≡ interval
-is_interval kind h a b = eqb-true kind interval (rw (ne_eqb kind integer a, ne_eqb kind enumeration b) at h)
-
-pub is_extended : (kind : ℕ) → is_long kind ≡ true → (kind ≡ boolean → ⊥) → (kind ≡ long_integer → ⊥) → (kind ≡ date_time → ⊥) → kind ≡ date_time_extended
-is_extended kind h a b c = eqb-true kind date_time_extended (rw (ne_eqb kind long_integer b, ne_eqb kind boolean a, ne_eqb kind date_time c) at h)
+-- ---- the numbers among the types
 
 module _ (kind n : ℕ) (h : length_ok kind n ≡ true) (s : kind ≡ structure → ⊥) (t : kind ≡ text_string → ⊥) (b : kind ≡ byte_string → ⊥) (g : kind ≡ big_integer → ⊥) where
   is_number : ((is_word kind ≡ true) × (n ≡ 4)) ⊎ ((is_long kind ≡ true) × (n ≡ 8))

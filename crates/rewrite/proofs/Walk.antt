@@ -2,7 +2,7 @@
 -- Assumes nothing.
 use mathlib.Core.Path.{◌≡◌, refl, sym, ap, ◌∙◌}
 use mathlib.Core.Bool.{Bool, true, false≢true}
-use mathlib.Core.Option.{Option, none, some}
+use Rattle.std.specs.Prelude.{Option, None, Some}
 use Prim.Native.Nat.{ℕ, ◌+◌, ◌-◌, ◌≤◌}
 use native.Mathlib.Omega.{arith}
 use mathlib.Core.List.{List, ◌++◌}
@@ -26,8 +26,8 @@ unfolding is_some
 message_run s h = go (message s) refl h
   where
     go : (o : Option Items) → message s ≡ o → is_some o ≡ true → is_run s ≡ true
-    go none e g = absurd (false≢true g)
-    go (some t) e g = (message_tree s t e).0
+    go None e g = absurd (false≢true g)
+    go (Some t) e g = (message_tree s t e).0
 
 -- `at` bytes of s stand over the front of the room, and t is the rest of s
 pub record Mid (s room out : List ℕ) (at : ℕ) (t : List ℕ) : Type 0 where

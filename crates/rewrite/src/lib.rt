@@ -9,19 +9,22 @@ ghost use Rattle.ttlv_put.specs.Write.{WroteNumber, WroteValue};
 ghost use Rattle.rewrite.specs.Again.{Again, Rewrote};
 
 use ttlv::First;
+use ttlv_numbers::{
+    Boolean, DateTime, DateTimeExtended, Enumeration, Integer, Interval, LongInteger,
+};
+
+// A type stays the number that `ttlv::read_first` answers, as the writers take it.
 
 // A number of four bytes by the writer of its type. `rewrite_value` shows that the type has four.
 fn rewrite_word(out: &mut [u8], tag: u32, kind: u8, bits: u32) -> usize
     requires { is_word kind ≡ true }
     ensures { WroteNumber 4 tag kind bits out.old out.new result }
 {
-    if kind == ttlv_types::INTEGER {
-        return ttlv_numbers::write_integer(out, tag, bits);
+    match kind {
+        ttlv_types::INTEGER => ttlv_numbers::write_number(out, tag, Integer(bits)),
+        ttlv_types::ENUMERATION => ttlv_numbers::write_number(out, tag, Enumeration(bits)),
+        _ => ttlv_numbers::write_number(out, tag, Interval(bits)),
     }
-    if kind == ttlv_types::ENUMERATION {
-        return ttlv_numbers::write_enumeration(out, tag, bits);
-    }
-    ttlv_numbers::write_interval(out, tag, bits)
 }
 
 // A number of eight bytes by the writer of its type. `rewrite_value` shows that the type has eight,
@@ -30,16 +33,12 @@ fn rewrite_long(out: &mut [u8], tag: u32, kind: u8, bits: u64) -> usize
     requires { (is_long kind ≡ true) × (kind ≡ boolean → bits ≤ 1) }
     ensures { WroteNumber 8 tag kind bits out.old out.new result }
 {
-    if kind == ttlv_types::BOOLEAN {
-        return ttlv_numbers::write_boolean(out, tag, bits == 1);
+    match kind {
+        ttlv_types::BOOLEAN => ttlv_numbers::write_number(out, tag, Boolean(bits == 1)),
+        ttlv_types::LONG_INTEGER => ttlv_numbers::write_number(out, tag, LongInteger(bits)),
+        ttlv_types::DATE_TIME => ttlv_numbers::write_number(out, tag, DateTime(bits)),
+        _ => ttlv_numbers::write_number(out, tag, DateTimeExtended(bits)),
     }
-    if kind == ttlv_types::LONG_INTEGER {
-        return ttlv_numbers::write_long(out, tag, bits);
-    }
-    if kind == ttlv_types::DATE_TIME {
-        return ttlv_numbers::write_date_time(out, tag, bits);
-    }
-    ttlv_numbers::write_date_time_extended(out, tag, bits)
 }
 
 // A value by the writer of its type. `rewrite_first` shows that the type allows it.
@@ -47,19 +46,13 @@ fn rewrite_value(out: &mut [u8], tag: u32, kind: u8, v: &[u8]) -> usize
     requires { (kind ≡ structure → ⊥) × (length_ok kind (length v.now) ≡ true) × (value_ok kind v.now ≡ true) }
     ensures { WroteValue true tag kind v.now out.old out.new result }
 {
-    if kind == ttlv_types::TEXT_STRING {
-        return ttlv_write::write_text(out, tag, v);
+    match kind {
+        ttlv_types::TEXT_STRING => ttlv_write::write_text(out, tag, v),
+        ttlv_types::BYTE_STRING => ttlv_write::write_bytes(out, tag, v),
+        ttlv_types::BIG_INTEGER => ttlv_write::write_big_integer(out, tag, v),
+        _ if v.len() == 4 => rewrite_word(out, tag, kind, octets::number(v) as u32),
+        _ => rewrite_long(out, tag, kind, octets::number(v)),
     }
-    if kind == ttlv_types::BYTE_STRING {
-        return ttlv_write::write_bytes(out, tag, v);
-    }
-    if kind == ttlv_types::BIG_INTEGER {
-        return ttlv_write::write_big_integer(out, tag, v);
-    }
-    if v.len() == 4 {
-        return rewrite_word(out, tag, kind, octets::number(v) as u32);
-    }
-    rewrite_long(out, tag, kind, octets::number(v))
 }
 
 // The item at the front of t again over the front of out; of a structure, its head. `rewrite` shows
@@ -71,16 +64,11 @@ fn rewrite_first(out: &mut [u8], t: &[u8]) -> usize
     match ttlv::read_first(t) {
         First::End => 0,
         First::Bad => 0,
-        First::Value {
-            tag,
-            kind,
-            len,
-            next: _,
-        } => {
+        First::Value { tag, kind, len, .. } => {
             let stop = 8 + len;
             rewrite_value(out, tag, kind, &t[8..stop])
         }
-        First::Group { tag, next } => { ttlv_put::write_structure(out, tag, next - 8) }
+        First::Group { tag, next } => ttlv_put::write_structure(out, tag, next - 8),
     }
 }
 

@@ -1,5 +1,6 @@
 -- The transitions as a list of cases: an operation moves a record exactly by one of them.
 -- Assumes nothing.
+use Rattle.std.specs.Prelude.{Result, Ok, Err}
 use mathlib.Core.Path.{◌≡◌, sym, ap, ◌∙◌}
 use Prim.Native.Nat.{ℕ, ◌≤◌}
 use native.Mathlib.Omega.{arith}
@@ -11,8 +12,6 @@ use borrow.Author.Tests.{eqb-true, eqb-false}
 use Rattle.octets.proofs.If.{on_bool}
 use Rattle.search.specs.Search.{is_destroyed}
 use Rattle.rules.specs.declared.Reason.{Reason}
-use Rattle.rules.specs.declared.Next.{Next}
-use Rattle.rules.specs.declared.Next.TheVariants.{To, Fails}
 use Rattle.rules.specs.Numbers.{activate, revoke, destroy, pre_active, active, deactivated, compromised, destroyed, destroyed_compromised}
 use Rattle.rules.specs.States.{is_compromise, next_state}
 use Rattle.rules.proofs.States as states
@@ -26,27 +25,27 @@ pub data Move (operation code state next : ℕ) : Type 0 where
   destroys_compromised : operation ≡ destroy → state ≡ compromised → next ≡ destroyed_compromised → Move operation code state next
 
 -- each of them is a transition
-pub moves : {operation code state next : ℕ} → Move operation code state next → next_state operation code state ≡ To next
-moves {operation} {code} {state} (activates o s n) = states.activates operation code state o s ∙ ap To (sym n)
-moves {operation} {code} {state} (compromises o c h k n) = states.compromises operation code state o c h k ∙ ap To (sym n)
-moves {operation} {code} {state} (compromises_destroyed o c s n) = states.compromises_destroyed operation code state o c s ∙ ap To (sym n)
-moves {operation} {code} {state} (deactivates o c s n) = states.deactivates operation code state o c s ∙ ap To (sym n)
-moves {operation} {code} {state} (destroys o s n) = states.destroys operation code state o s ∙ ap To (sym n)
-moves {operation} {code} {state} (destroys_compromised o s n) = states.destroys_compromised operation code state o s ∙ ap To (sym n)
+pub moves : {operation code state next : ℕ} → Move operation code state next → next_state operation code state ≡ Ok next
+moves {operation} {code} {state} (activates o s n) = states.activates operation code state o s ∙ ap Ok (sym n)
+moves {operation} {code} {state} (compromises o c h k n) = states.compromises operation code state o c h k ∙ ap Ok (sym n)
+moves {operation} {code} {state} (compromises_destroyed o c s n) = states.compromises_destroyed operation code state o c s ∙ ap Ok (sym n)
+moves {operation} {code} {state} (deactivates o c s n) = states.deactivates operation code state o c s ∙ ap Ok (sym n)
+moves {operation} {code} {state} (destroys o s n) = states.destroys operation code state o s ∙ ap Ok (sym n)
+moves {operation} {code} {state} (destroys_compromised o s n) = states.destroys_compromised operation code state o s ∙ ap Ok (sym n)
 
 -- ---- and there is no other
 
-pub not_both : {A : Type 0} {f : Next} {next : ℕ} {reason : Reason} → f ≡ To next → f ≡ Fails reason → A
+pub not_both : {A : Type 0} {f : Result ℕ Reason} {next : ℕ} {reason : Reason} → f ≡ Ok next → f ≡ Err reason → A
 not_both p q = let z : ◌≡◌ {A = ℕ} 0 1 = cc in absurd (omega arith)
 
-pub same_next : {f : Next} {a b : ℕ} → f ≡ To a → f ≡ To b → b ≡ a
+pub same_next : {f : Result ℕ Reason} {a b : ℕ} → f ≡ Ok a → f ≡ Ok b → b ≡ a
 same_next p q = cc
 
 -- a number is one of these, or none of them
 by_number : {A : Type 0} (x k : ℕ) → (x ≡ k → A) → ((x ≡ k → ⊥) → A) → A
 by_number x k f g = on_bool (eqb x k) (λ e. f (eqb-true x k e)) (λ e. g (eqb-false x k e))
 
-module _ (operation code state next : ℕ) (is : next_state operation code state ≡ To next) where
+module _ (operation code state next : ℕ) (is : next_state operation code state ≡ Ok next) where
   when_activate : operation ≡ activate → Move operation code state next
   when_activate o =
       by_number state pre_active

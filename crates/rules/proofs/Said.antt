@@ -2,7 +2,7 @@
 -- Assumes nothing.
 use mathlib.Core.Path.{◌≡◌, refl}
 use Prim.Native.Nat.{ℕ, ◌-◌}
-use mathlib.Core.Option.{Option, none, some}
+use Rattle.std.specs.Prelude.{Option, None, Some}
 use mathlib.Core.List.{List, [], ◌∷◌}
 use Rattle.octets.specs.If.{ifb}
 use Rattle.rules.specs.declared.Reason.{Reason}
@@ -16,16 +16,16 @@ unfolding next_state next_unless next_says says_unless
 next_says_lem operation code state = go (due (move_tests operation code state))
   where
     go : (reason : Option Reason) → next_says (next_unless (moved_state operation code state) reason) ≡ says_unless (moved_state operation code state) reason
-    go none = refl
-    go (some reason) = refl
+    go None = refl
+    go (Some reason) = refl
 
 pub grant_says_lem : (state unit count amount : ℕ) → grant_says (granting state unit count amount) ≡ says_unless (count - amount) (due (grant_tests state unit count amount))
 unfolding granting left_unless grant_says says_unless
 grant_says_lem state unit count amount = go (due (grant_tests state unit count amount))
   where
     go : (reason : Option Reason) → grant_says (left_unless (count - amount) reason) ≡ says_unless (count - amount) reason
-    go none = refl
-    go (some reason) = refl
+    go None = refl
+    go (Some reason) = refl
 
 -- ---- worked, with the numbers of the papers
 

@@ -2,7 +2,7 @@
 -- Assumes nothing.
 use mathlib.Core.Path.{◌≡◌, refl, sym, ap, ◌∙◌}
 use mathlib.Core.Bool.{Bool, true, false, not, false≢true}
-use mathlib.Core.Option.{none, some}
+use Rattle.std.specs.Prelude.{None, Some}
 use mathlib.Core.List.{List, [], ◌∷◌}
 use Prim.Native.Nat.{ℕ}
 use native.Mathlib.Omega.{arith}
@@ -12,16 +12,16 @@ use Rattle.rules.specs.declared.Reason.{Reason}
 use Rattle.rules.specs.Tests.{Test, due}
 
 -- its condition holds: the first test decides
-pub due_first : (test : Test) (tests : List Test) → test.holds ≡ true → due (test ∷ tests) ≡ some test.reason
+pub due_first : (test : Test) (tests : List Test) → test.holds ≡ true → due (test ∷ tests) ≡ Some test.reason
 unfolding due
-due_first test tests e = ifb_true test.holds (some test.reason) (due tests) e
+due_first test tests e = ifb_true test.holds (Some test.reason) (due tests) e
 
 -- its condition does not hold: the later ones decide
 pub due_later : (test : Test) (tests : List Test) → test.holds ≡ false → due (test ∷ tests) ≡ due tests
 unfolding due
-due_later test tests e = ifb_false test.holds (some test.reason) (due tests) e
+due_later test tests e = ifb_false test.holds (Some test.reason) (due tests) e
 
-pub due_end : due [] ≡ none
+pub due_end : due [] ≡ None
 unfolding due
 due_end = refl
 
@@ -38,7 +38,7 @@ pub data FirstOf (reason : Reason) : List Test → Type 0 where
 
 -- none is due exactly where no condition holds
 
-pub none_due : (tests : List Test) → all passes tests ≡ true → due tests ≡ none
+pub none_due : (tests : List Test) → all passes tests ≡ true → due tests ≡ None
 unfolding all
 none_due [] e = due_end
 none_due (test ∷ tests) e =
@@ -46,7 +46,7 @@ none_due (test ∷ tests) e =
     (λ p. absurd (false≢true (rw p at e)))
     (λ p. due_later test tests p ∙ none_due tests (rw p at e))
 
-pub due_none : (tests : List Test) → due tests ≡ none → all passes tests ≡ true
+pub due_none : (tests : List Test) → due tests ≡ None → all passes tests ≡ true
 unfolding all
 due_none [] e = refl
 due_none (test ∷ tests) e =
@@ -56,11 +56,11 @@ due_none (test ∷ tests) e =
 
 -- a reason is due exactly where it is that of the first condition that holds
 
-pub some_due : {reason : Reason} {tests : List Test} → FirstOf reason tests → due tests ≡ some reason
-some_due (here h r) = due_first _ _ h ∙ ap some r
+pub some_due : {reason : Reason} {tests : List Test} → FirstOf reason tests → due tests ≡ Some reason
+some_due (here h r) = due_first _ _ h ∙ ap Some r
 some_due (later h f) = due_later _ _ h ∙ some_due f
 
-pub due_some : (reason : Reason) (tests : List Test) → due tests ≡ some reason → FirstOf reason tests
+pub due_some : (reason : Reason) (tests : List Test) → due tests ≡ Some reason → FirstOf reason tests
 due_some reason [] e = let q = due_end in let z : ◌≡◌ {A = ℕ} 0 1 = cc in absurd (omega arith)
 due_some reason (test ∷ tests) e =
     on_bool test.holds

@@ -1,15 +1,13 @@
 -- 01, "Operations": the transitions of Activate, Revoke and Destroy, and what a grant leaves.
 -- Assumes nothing.
+use Rattle.std.specs.Prelude.{Result}
+use Rattle.std.specs.Prelude.{Ok, Err}
 use Rattle.std.specs.Prelude.{ℕ, ◌-◌, Bool, true, not, ◌&&◌, ◌||◌, List, [], ◌∷◌, leb, ltb, eqb}
-use Rattle.std.proofs.Math.Option.{Option, none, some}
+use Rattle.std.specs.Prelude.{Option, None, Some}
 use Rattle.octets.specs.If.{ifb}
 use Rattle.search.specs.Search.{is_destroyed}
 use Rattle.rules.specs.declared.Reason.{Reason}
 use Rattle.rules.specs.declared.Reason.TheVariants.{InvalidField, ObjectDestroyed, WrongKeyLifecycleState, UsageLimitExceeded}
-use Rattle.rules.specs.declared.Next.{Next}
-use Rattle.rules.specs.declared.Next.TheVariants.{To, Fails}
-use Rattle.rules.specs.declared.Granted.{Granted}
-use Rattle.rules.specs.declared.Granted.TheVariants.{Left, Denied}
 use Rattle.rules.specs.Numbers.{activate, revoke, destroy, pre_active, active, deactivated, compromised, destroyed, destroyed_compromised}
 use Rattle.rules.specs.Tests.{Test, ◌⇒◌, due}
 
@@ -71,12 +69,12 @@ moved_state operation code state =
 -- ---- both in one answer
 
 -- the next state, unless a reason is due
-unfoldable pub next_unless : ℕ → Option Reason → Next
-next_unless state none = To state
-next_unless state (some reason) = Fails reason
+unfoldable pub next_unless : ℕ → Option Reason → Result ℕ Reason
+next_unless state None = Ok state
+next_unless state (Some reason) = Err reason
 
 -- what an operation with a revocation code makes of a state
-unfoldable pub next_state : ℕ → ℕ → ℕ → Next
+unfoldable pub next_state : ℕ → ℕ → ℕ → Result ℕ Reason
 next_state operation code state = next_unless (moved_state operation code state) (due (move_tests operation code state))
 
 -- ---- grants
@@ -90,10 +88,10 @@ grant_tests state unit count amount =
     ∷ []
 
 -- what is left, unless a reason is due
-unfoldable pub left_unless : ℕ → Option Reason → Granted
-left_unless count none = Left count
-left_unless count (some reason) = Denied reason
+unfoldable pub left_unless : ℕ → Option Reason → Result ℕ Reason
+left_unless count None = Ok count
+left_unless count (Some reason) = Err reason
 
 -- "Takes it off": what a grant of an amount makes of a count
-unfoldable pub granting : ℕ → ℕ → ℕ → ℕ → Granted
+unfoldable pub granting : ℕ → ℕ → ℕ → ℕ → Result ℕ Reason
 granting state unit count amount = left_unless (count - amount) (due (grant_tests state unit count amount))

@@ -9,32 +9,21 @@ ghost use Rattle.rules.specs.States.{next_state, granting};
 
 use names::Name;
 
-// Why an item fails. `reason_number` gives each its number.
-#[derive(Clone, Copy)]
+// Operation, code, state and unit stay numbers: `next_state` and `grant` answer for any, since a
+// request or a stored table may have any.
+
+// Why an item fails, each with its Result Reason number.
+#[derive(Clone, Copy, PartialEq, Eq, Debug)]
 pub enum Reason {
-    OperationNotSupported,
-    InvalidField,
-    ObjectNotFound,
-    ObjectDestroyed,
-    PermissionDenied,
-    WrongKeyLifecycleState,
-    UsageLimitExceeded,
-    ServerLimitExceeded,
-    NonUniqueName,
-}
-
-// What an operation makes of a state: the next state, or the failure.
-#[derive(Clone, Copy)]
-pub enum Next {
-    To(u8),
-    Fails(Reason),
-}
-
-// What a grant makes of a count: what is left, or the failure.
-#[derive(Clone, Copy)]
-pub enum Granted {
-    Left(u64),
-    Denied(Reason),
+    OperationNotSupported = 0x05,
+    InvalidField = 0x07,
+    ObjectNotFound = 0x37,
+    ObjectDestroyed = 0x36,
+    PermissionDenied = 0x0C,
+    WrongKeyLifecycleState = 0x43,
+    UsageLimitExceeded = 0x1A,
+    ServerLimitExceeded = 0x3A,
+    NonUniqueName = 0x35,
 }
 
 // The attributes that Create gives to a key; unit 0 and total 0 mean no usage limit, a date of 0 is
@@ -48,14 +37,6 @@ pub struct Attributes {
     pub activation: u64,
     pub deactivation: u64,
     pub name: Name,
-}
-
-// The Offset that a Re-key asks for, if it does: the seconds from the clock to the activation date
-// of the replacement.
-#[derive(Clone, Copy)]
-pub enum Offset {
-    NoOffset,
-    Seconds { seconds: u32 },
 }
 
 // The operations that move a state, as `Numbers` has them.
@@ -82,62 +63,52 @@ const DESTROYED_COMPROMISED: u8 = 6;
 pub fn reason_number(reason: Reason) -> u32
     ensures { result ≡ reason_number reason }
 {
-    match reason {
-        Reason::OperationNotSupported => 0x05,
-        Reason::InvalidField => 0x07,
-        Reason::PermissionDenied => 0x0C,
-        Reason::UsageLimitExceeded => 0x1A,
-        Reason::ObjectDestroyed => 0x36,
-        Reason::ObjectNotFound => 0x37,
-        Reason::ServerLimitExceeded => 0x3A,
-        Reason::WrongKeyLifecycleState => 0x43,
-        Reason::NonUniqueName => 0x35,
-    }
+    reason as u32
 }
 
 // What an operation with a revocation code makes of a state: the next one, or the failure.
-pub fn next_state(operation: u32, code: u32, state: u8) -> Next
+pub fn next_state(operation: u32, code: u32, state: u8) -> Result<u8, Reason>
     ensures { result ≡ next_state operation code state }
 {
     match operation {
         ACTIVATE => match state {
-            PRE_ACTIVE => Next::To(ACTIVE),
-            _ => Next::Fails(Reason::WrongKeyLifecycleState),
+            PRE_ACTIVE => Ok(ACTIVE),
+            _ => Err(Reason::WrongKeyLifecycleState),
         },
         REVOKE => match code {
             2..=3 => match state {
-                PRE_ACTIVE..=DEACTIVATED => Next::To(COMPROMISED),
-                DESTROYED => Next::To(DESTROYED_COMPROMISED),
-                _ => Next::Fails(Reason::WrongKeyLifecycleState),
+                PRE_ACTIVE..=DEACTIVATED => Ok(COMPROMISED),
+                DESTROYED => Ok(DESTROYED_COMPROMISED),
+                _ => Err(Reason::WrongKeyLifecycleState),
             },
             _ => match state {
-                ACTIVE => Next::To(DEACTIVATED),
-                _ => Next::Fails(Reason::WrongKeyLifecycleState),
+                ACTIVE => Ok(DEACTIVATED),
+                _ => Err(Reason::WrongKeyLifecycleState),
             },
         },
         DESTROY => match state {
-            PRE_ACTIVE => Next::To(DESTROYED),
-            DEACTIVATED => Next::To(DESTROYED),
-            COMPROMISED => Next::To(DESTROYED_COMPROMISED),
-            DESTROYED..=DESTROYED_COMPROMISED => Next::Fails(Reason::ObjectDestroyed),
-            _ => Next::Fails(Reason::WrongKeyLifecycleState),
+            PRE_ACTIVE => Ok(DESTROYED),
+            DEACTIVATED => Ok(DESTROYED),
+            COMPROMISED => Ok(DESTROYED_COMPROMISED),
+            DESTROYED..=DESTROYED_COMPROMISED => Err(Reason::ObjectDestroyed),
+            _ => Err(Reason::WrongKeyLifecycleState),
         },
-        _ => Next::Fails(Reason::WrongKeyLifecycleState),
+        _ => Err(Reason::WrongKeyLifecycleState),
     }
 }
 
 // What a grant of an amount makes of a count: state first, then limit, then amount.
-pub fn grant(state: u8, unit: u8, count: u64, amount: u64) -> Granted
+pub fn grant(state: u8, unit: u8, count: u64, amount: u64) -> Result<u64, Reason>
     ensures { result ≡ granting state unit count amount }
 {
     if state != ACTIVE {
-        return Granted::Denied(Reason::WrongKeyLifecycleState);
+        return Err(Reason::WrongKeyLifecycleState);
     }
     if unit == 0 {
-        return Granted::Denied(Reason::InvalidField);
+        return Err(Reason::InvalidField);
     }
     if count < amount {
-        return Granted::Denied(Reason::UsageLimitExceeded);
+        return Err(Reason::UsageLimitExceeded);
     }
-    Granted::Left(count - amount)
+    Ok(count - amount)
 }

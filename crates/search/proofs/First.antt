@@ -1,65 +1,40 @@
--- Laws of the search for the lowest place that passes a test: what a loop goes by, and what the answer says.
+-- Laws of the search for the lowest place that passes a test: what the answer says, and that a search by a test gives it.
 -- Assumes nothing; over any test and any number n of places.
+use Rattle.std.specs.Prelude.{Option, None, Some}
 use mathlib.Core.Path.{◌≡◌, refl, sym, ap, ◌∙◌}
 use mathlib.Core.Logic.{⊎_elim}
-use Prim.Native.Nat.{ℕ, zero, suc, ◌+◌, ◌-◌, ◌≤◌, ◌<◌}
+use Prim.Native.Nat.{ℕ, zero, suc, ◌+◌, ◌≤◌, ◌<◌}
 use native.Mathlib.Omega.{arith}
 use native.Mathlib.Nat.{eq-or-lt_of_le}
 use mathlib.Core.Bool.{Bool, true, false, false≢true}
 use Rattle.octets.proofs.If.{ifb_true, ifb_false, on_bool}
-use Rattle.search.specs.declared.Found.{Found}
-use Rattle.search.specs.declared.Found.TheVariants.{At, Nothing}
-use Rattle.search.specs.Search.{first_from, first, is_nothing}
+use Rattle.search.specs.Search.{first_from, first, IsFirst, is_nothing}
 
 -- ---- the two answers
 
-pub At-same : {i j : ℕ} → At i ≡ At j → i ≡ j
+pub At-same : {i j : ℕ} → Some i ≡ Some j → i ≡ j
 At-same e = cc
 
-pub At-not {ℓ} : {P : Type ℓ} {i : ℕ} → At i ≡ Nothing → P
+pub At-not {ℓ} : {P : Type ℓ} {i : ℕ} → Some i ≡ None → P
 At-not e = absurd (let z : ◌≡◌ {A = ℕ} 0 1 = cc in omega arith)
 
 -- by cases on an answer
-pub on_found_lem {ℓ} : {P : Type ℓ} (f : Found) → ((i : ℕ) → f ≡ At i → P) → (f ≡ Nothing → P) → P
-on_found_lem (At i) at nothing = at i refl
-on_found_lem Nothing at nothing = nothing refl
+pub on_found_lem {ℓ} : {P : Type ℓ} (f : Option ℕ) → ((i : ℕ) → f ≡ Some i → P) → (f ≡ None → P) → P
+on_found_lem (Some i) at nothing = at i refl
+on_found_lem None at nothing = nothing refl
 
-pub is_nothing_is : (f : Found) → is_nothing f ≡ true → f ≡ Nothing
+pub is_nothing_is : (f : Option ℕ) → is_nothing f ≡ true → f ≡ None
 unfolding is_nothing
-is_nothing_is (At i) e = absurd (false≢true e)
-is_nothing_is Nothing e = refl
+is_nothing_is (Some i) e = absurd (false≢true e)
+is_nothing_is None e = refl
 
-pub is_nothing_at : (f : Found) (i : ℕ) → f ≡ At i → is_nothing f ≡ false
+pub is_nothing_at : (f : Option ℕ) (i : ℕ) → f ≡ Some i → is_nothing f ≡ false
 unfolding is_nothing
 is_nothing_at f i e = ap is_nothing e
 
-pub is_nothing_none : (f : Found) → f ≡ Nothing → is_nothing f ≡ true
+pub is_nothing_none : (f : Option ℕ) → f ≡ None → is_nothing f ≡ true
 unfolding is_nothing
 is_nothing_none f e = ap is_nothing e
-
--- ---- what is left of a search that has come to i
-
-abbrev pub left : ℕ → (ℕ → Bool) → ℕ → Found
-left n test i = first_from test i (n - i)
-
-module _ (n : ℕ) (test : ℕ → Bool) where
-  pub left_start : left n test 0 ≡ first n test
-  left_start = let e : n - 0 ≡ n = omega arith in rw e
-
-  pub left_end : (i : ℕ) → n ≤ i → left n test i ≡ Nothing
-  unfolding first_from
-  left_end i h = let e : n - i ≡ 0 = omega arith in rw e
-
-  pub left_yes : (i : ℕ) → i < n → test i ≡ true → left n test i ≡ At i
-  unfolding first_from
-  left_yes i h e = let m : n - i ≡ suc (n - suc i) = omega arith in rw m (ifb_true (test i) _ _ e)
-
-  pub left_no : (i : ℕ) → i < n → test i ≡ false → left n test (i + 1) ≡ left n test i
-  unfolding first_from
-  left_no i h e =
-      let m : n - i ≡ suc (n - (i + 1)) = omega arith in
-      let f : i + 1 ≡ suc i = omega arith in
-      sym (ap (first_from test i) m ∙ ifb_false (test i) _ _ e ∙ ap (λ (k : ℕ). first_from test k (n - (i + 1))) (sym f))
 
 -- ---- what is found
 
@@ -77,7 +52,7 @@ lowest_later test i k j e l = record {
   fails = λ m a b. ⊎_elim (λ z. ap test (sym z) ∙ e) (λ z. l.fails m z b) (eq-or-lt_of_le a);
 }
 
-found_from : (test : ℕ → Bool) (i k j : ℕ) → first_from test i k ≡ At j → Lowest test i k j
+found_from : (test : ℕ → Bool) (i k j : ℕ) → first_from test i k ≡ Some j → Lowest test i k j
 unfolding first_from
 found_from test i zero j e = At-not (sym e)
 found_from test i (suc k) j e =
@@ -87,12 +62,12 @@ found_from test i (suc k) j e =
     record { from = omega arith; below = omega arith; passes = ap test (sym z) ∙ y; fails = λ m a b. absurd (omega arith) })
     (λ y. lowest_later test i k j y (found_from test (suc i) k j (sym (ifb_false (test i) _ _ y) ∙ e)))
 
-lowest_found : (test : ℕ → Bool) (i k j : ℕ) → Lowest test i k j → first_from test i k ≡ At j
+lowest_found : (test : ℕ → Bool) (i k j : ℕ) → Lowest test i k j → first_from test i k ≡ Some j
 unfolding first_from
 lowest_found test i zero j l = absurd (let a : i ≤ j = l.from in let b : j < i + 0 = l.below in omega arith)
 lowest_found test i (suc k) j l =
     ⊎_elim
-    (λ z. ifb_true (test i) _ _ (ap test z ∙ l.passes) ∙ ap At z)
+    (λ z. ifb_true (test i) _ _ (ap test z ∙ l.passes) ∙ ap Some z)
     (λ z.
     ifb_false (test i) _ _ (l.fails i (omega arith) z)
     ∙ lowest_found test (suc i) k j (record {
@@ -103,7 +78,7 @@ lowest_found test i (suc k) j l =
     }))
     (eq-or-lt_of_le l.from)
 
-none_from : (test : ℕ → Bool) (i k : ℕ) → first_from test i k ≡ Nothing → (m : ℕ) → i ≤ m → m < i + k → test m ≡ false
+none_from : (test : ℕ → Bool) (i k : ℕ) → first_from test i k ≡ None → (m : ℕ) → i ≤ m → m < i + k → test m ≡ false
 unfolding first_from
 none_from test i zero e m a b = absurd (omega arith)
 none_from test i (suc k) e m a b =
@@ -111,7 +86,7 @@ none_from test i (suc k) e m a b =
     (λ y. At-not (sym (ifb_true (test i) _ _ y) ∙ e))
     (λ y. ⊎_elim (λ z. ap test (sym z) ∙ y) (λ z. none_from test (suc i) k (sym (ifb_false (test i) _ _ y) ∙ e) m z (omega arith)) (eq-or-lt_of_le a))
 
-from_none : (test : ℕ → Bool) (i k : ℕ) → ((m : ℕ) → i ≤ m → m < i + k → test m ≡ false) → first_from test i k ≡ Nothing
+from_none : (test : ℕ → Bool) (i k : ℕ) → ((m : ℕ) → i ≤ m → m < i + k → test m ≡ false) → first_from test i k ≡ None
 unfolding first_from
 from_none test i zero h = refl
 from_none test i (suc k) h = ifb_false (test i) _ _ (h i (omega arith) (omega arith)) ∙ from_none test (suc i) k (λ m a b. h m (omega arith) (omega arith))
@@ -125,7 +100,7 @@ from_cong f g i (suc k) h =
     rw (e, r)
 
 module _ (n : ℕ) (test : ℕ → Bool) where
-  module _ (i : ℕ) (e : first n test ≡ At i) where
+  module _ (i : ℕ) (e : first n test ≡ Some i) where
     lowest : Lowest test 0 n i
     lowest = found_from test 0 n i e
 
@@ -139,16 +114,22 @@ module _ (n : ℕ) (test : ℕ → Bool) where
     found_lowest j h = lowest.fails j (omega arith) h
 
   -- the lowest that passes is found
-  pub found_is : (i : ℕ) → i < n → test i ≡ true → ((j : ℕ) → j < i → test j ≡ false) → first n test ≡ At i
+  pub found_is : (i : ℕ) → i < n → test i ≡ true → ((j : ℕ) → j < i → test j ≡ false) → first n test ≡ Some i
   found_is i lo y low = lowest_found test 0 n i (record { from = omega arith; below = omega arith; passes = y; fails = λ j a b. low j b })
 
   -- nothing found: none passes, and the other way round
-  pub none_fails : first n test ≡ Nothing → (j : ℕ) → j < n → test j ≡ false
+  pub none_fails : first n test ≡ None → (j : ℕ) → j < n → test j ≡ false
   none_fails e j lo = none_from test 0 n e j (omega arith) (omega arith)
 
-  pub fails_none : ((j : ℕ) → j < n → test j ≡ false) → first n test ≡ Nothing
+  pub fails_none : ((j : ℕ) → j < n → test j ≡ false) → first n test ≡ None
   fails_none h = from_none test 0 n (λ j a b. h j (omega arith))
 
 -- tests that agree find alike
 pub first_cong : (n : ℕ) (f g : ℕ → Bool) → ((k : ℕ) → k < n → f k ≡ g k) → first n f ≡ first n g
 first_cong n f g h = from_cong f g 0 n (λ k l. h k (omega arith))
+
+-- what a search finds by a test that may give one answer only is the lowest place that passes
+pub first_is : {n : ℕ} {gives : ℕ → Bool → Type 0} {found : Option ℕ} → IsFirst n gives found → (test : ℕ → Bool) → ((i : ℕ) (b : Bool) → i < n → gives i b → b ≡ test i) → found ≡ first n test
+unfolding IsFirst
+first_is {n = n} {found = Some i} h test one = sym (found_is n test i h.0 (sym (one i true h.0 h.1)) (λ j l. sym (one j false (omega arith) (h.2 j l))))
+first_is {n = n} {found = None} h test one = sym (fails_none n test (λ j l. sym (one j false l (h j l))))

@@ -2,19 +2,16 @@
 // It knows nothing of TTLV and nothing of what may happen to a key.
 #![tactic(auto)]
 
-ghost use Rattle.std.specs.Prelude.{◌≡◌};
+ghost use Rattle.std.specs.Prelude.{◌≡◌, ℕ, ◌<◌};
 ghost use Rattle.table.specs.Layout.{HasLine, Table};
 ghost use Rattle.table.specs.Records.{state_at};
-ghost use Rattle.search.specs.Search.{first, has_serial, is_nothing, find, is_destroyed, free_place, destroyed_place, new_place};
+ghost use Rattle.search.specs.Search.{first, IsFirst, has_serial, find, is_destroyed, free_place, destroyed_place, new_place};
 
 use table::Layout;
 
-// Where a search ended: the lowest place that passed its test, or nowhere.
-#[derive(Clone, Copy)]
-pub enum Found {
-    At(usize),
-    Nothing,
-}
+// A table's bytes and its place count stay two parameters, as in `table`.
+
+// A state stays the byte that a table stores: any may stand there.
 
 // The state of place i, read by itself.
 fn state_at(t: &[u8], i: usize) -> u8
@@ -32,34 +29,41 @@ pub fn is_destroyed(state: u8) -> bool
     (state == 5) | (state == 6)
 }
 
+// The lowest of n places that passes a test.
+#[tactic(auto, unfolding(crate::specs::Search::IsFirst))]
+pub fn first_place<F: Fn(usize) -> bool>(n: usize, test: F) -> Option<usize>
+    requires { (i : ℕ) → i < n → F.pre test i }
+    ensures { IsFirst n (F.post test) result }
+{
+    for place in 0..n {
+        if test(place) {
+            return Some(place);
+        }
+    }
+    None
+}
+
 // The lowest place whose serial is this one; zero finds a free place.
-fn place_with(t: &[u8], n: usize, serial: u32) -> Found
+fn place_with(t: &[u8], n: usize, serial: u32) -> Option<usize>
     requires { Table n t.now }
     ensures { result ≡ first n (has_serial t.now serial) }
 {
-    let mut i: usize = 0;
-    while i < n {
-        if table::serial_at(t, i) == serial {
-            return Found::At(i);
-        }
-        i += 1;
-    }
-    Found::Nothing
+    first_place(n, |i| table::serial_at(t, i) == serial)
 }
 
 // The place of the record with this serial; zero is no record's serial.
-pub fn find(t: &[u8], n: usize, serial: u32) -> Found
+pub fn find(t: &[u8], n: usize, serial: u32) -> Option<usize>
     requires { Table n t.now }
     ensures { result ≡ find n t.now serial }
 {
     if serial == 0 {
-        return Found::Nothing;
+        return None;
     }
     place_with(t, n, serial)
 }
 
 // The lowest free place.
-fn free_place(t: &[u8], n: usize) -> Found
+fn free_place(t: &[u8], n: usize) -> Option<usize>
     requires { Table n t.now }
     ensures { result ≡ free_place n t.now }
 {
@@ -67,37 +71,17 @@ fn free_place(t: &[u8], n: usize) -> Found
 }
 
 // The lowest place in state 5 or 6.
-fn destroyed_place(t: &[u8], n: usize) -> Found
+fn destroyed_place(t: &[u8], n: usize) -> Option<usize>
     requires { Table n t.now }
     ensures { result ≡ destroyed_place n t.now }
 {
-    let mut place: usize = 0;
-    while place < n {
-        if is_destroyed(state_at(t, place)) {
-            return Found::At(place);
-        }
-        place += 1;
-    }
-    Found::Nothing
-}
-
-fn is_nothing(found: Found) -> bool
-    ensures { result ≡ is_nothing found }
-{
-    match found {
-        Found::At(_) => false,
-        Found::Nothing => true,
-    }
+    first_place(n, |i| is_destroyed(state_at(t, i)))
 }
 
 // Where a new key goes: the lowest free place, or if none is free the lowest place in state 5 or 6.
-pub fn new_place(t: &[u8], n: usize) -> Found
+pub fn new_place(t: &[u8], n: usize) -> Option<usize>
     requires { Table n t.now }
     ensures { result ≡ new_place n t.now }
 {
-    let free = free_place(t, n);
-    if !is_nothing(free) {
-        return free;
-    }
-    destroyed_place(t, n)
+    free_place(t, n).or_else(|| destroyed_place(t, n))
 }

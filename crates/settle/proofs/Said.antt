@@ -1,5 +1,6 @@
 -- What the answers of `failure_of` and `try_items` say in the papers' numbers is what becomes of the items.
 -- Assumes nothing.
+use Rattle.std.specs.Prelude.{Option, None, Some}
 use mathlib.Core.Path.{◌≡◌, refl, sym, ◌∙◌}
 use mathlib.Core.Bool.{false, true≢false}
 use Prim.Native.Nat.{ℕ}
@@ -12,9 +13,6 @@ use Rattle.plans.specs.declared.Outcome.{Outcome}
 use Rattle.plans.specs.declared.Outcome.TheVariants.{Failed}
 use Rattle.plans.specs.Plans.{is_failed}
 use Rattle.answer.specs.Respond.{Answer}
-use Rattle.settle.specs.declared.Failure.{Failure}
-use Rattle.settle.specs.declared.Trial.{Trial}
-use Rattle.settle.specs.declared.Trial.TheVariants.{Passes, FailsAt}
 use Rattle.settle.specs.Undo.{any_failed}
 use Rattle.settle.specs.Trials.{failure_of, first_failure}
 use Rattle.settle.specs.Said.{failure_says, trial_says}
@@ -30,7 +28,7 @@ pub success_says : (o : Outcome) → is_failed o ≡ false → failure_says (fai
 unfolding failure_says
 success_says o h = go (fails o)
   where
-    go : {f : Failure} → Fails o f → failure_says f ≡ record { status = success; number = 0 }
+    go : {f : Option Reason} → Fails o f → failure_says f ≡ record { status = success; number = 0 }
     go (failed reason e b) = absurd (true≢false (sym b ∙ h))
     go (fine b) = refl
 
@@ -39,6 +37,6 @@ pub trial_says_lem : (i : ℕ) (answers : List Answer) → trial_says (first_fai
 unfolding trial_says
 trial_says_lem i answers = go (first_failure i answers) refl
   where
-    go : (x : Trial) → first_failure i answers ≡ x → trial_says x ≡ ifb (any_failed answers) operation_undone success
-    go Passes e = sym (ifb_false (any_failed answers) _ _ (passes_none i answers e))
-    go (FailsAt k reason) e = sym (ifb_true (any_failed answers) _ _ (fails_any i answers e))
+    go : (x : Option (ℕ × Reason)) → first_failure i answers ≡ x → trial_says x ≡ ifb (any_failed answers) operation_undone success
+    go None e = sym (ifb_false (any_failed answers) _ _ (passes_none i answers e))
+    go (Some (k, reason)) e = sym (ifb_true (any_failed answers) _ _ (fails_any i answers e))

@@ -1,5 +1,6 @@
 -- The loop that tries a batch: what holds between two items, how it begins, goes on and ends.
 -- Assumes nothing.
+use Rattle.std.specs.Prelude.{Option, None, Some}
 use Prim.Native.Nat.{ℕ, ◌+◌, ◌-◌, ◌*◌}
 use mathlib.Core.Path.{◌≡◌, refl, sym, ap, subst, ◌∙◌}
 use mathlib.Core.Bool.{true, false}
@@ -9,7 +10,6 @@ use Rattle.octets.specs.If.{ifb}
 use Rattle.octets.specs.Octets.{part}
 use Rattle.octets.proofs.If.{ifb_true, ifb_false}
 use Rattle.fields.specs.Found.{body_at}
-use Rattle.fields.specs.declared.BodyField.TheVariants.{NoBody}
 use Rattle.table.specs.Layout.{Table, material_size}
 use Rattle.tags.specs.Tags.{batch_item}
 use Rattle.rules.specs.declared.Reason.{Reason}
@@ -23,10 +23,7 @@ use Rattle.calls.specs.Effects.{strip_size}
 use Rattle.batch.specs.Runs.{asked_in, asked_from, doing, CarriesOne, CarriedIs, Carries, ran_over}
 use Rattle.batch.proofs.Left.{Left, Next, all_left, no_more, rest_left}
 use Rattle.batch.proofs.Turns.{lent_part, own_part, batch_turn}
-use Rattle.settle.specs.declared.Failure.{Failure}
-use Rattle.settle.specs.declared.Failure.TheVariants.{Because, NoFailure}
-use Rattle.settle.specs.declared.Trial.TheVariants.{Passes, FailsAt}
-use Rattle.settle.specs.Trials.{failure_of, fails_or, first_failure, TriedIs}
+use Rattle.settle.specs.Trials.{fails_at, failure_of, fails_or, first_failure, TriedIs}
 use Rattle.settle.proofs.Undo.{Fails, failed, fine, fails, ends_undo}
 
 -- between two items none has failed, and the rest of the batch from here decides
@@ -44,7 +41,7 @@ begins {n} {items} h = record { later = asked_from items; items = all_left h.rea
 
 module _ {n : ℕ} {whole : Ran} {fresh t left : List ℕ} {i holder : ℕ} (m : Trying n whole fresh t left i holder) where
   -- no item is left, and none failed
-  pub ended : body_at left batch_item ≡ NoBody → TriedIs whole Passes t
+  pub ended : body_at left batch_item ≡ None → TriedIs whole None t
   unfolding batch first_failure
   ended e =
       let l : m.later ≡ [] = no_more m.items e in
@@ -76,7 +73,7 @@ module _ {n : ℕ} {whole : Ran} {fresh t left : List ℕ} {i holder : ℕ} (m :
       now_is = ap (batch n fresh undo i holder t) x.split ∙ batch_turn n fresh undo i holder t x.asked x.rest
 
       -- by whether it failed, as the code was told
-      module _ {f : Failure} (told : f ≡ failure_of r.performed.outcome) where
+      module _ {f : Option Reason} (told : f ≡ failure_of r.performed.outcome) where
         told_is : failure_of did.outcome ≡ f
         told_is = sym (told ∙ ap (λ (d : Did). failure_of d.outcome) is.did)
 
@@ -84,20 +81,20 @@ module _ {n : ℕ} {whole : Ran} {fresh t left : List ℕ} {i holder : ℕ} (m :
         failed_as = subst (Fails did.outcome) told_is (fails did.outcome)
 
         -- it is the first that failed
-        pub stopped : (reason : Reason) → f ≡ Because reason → TriedIs whole (FailsAt i reason) t'
+        pub stopped : (reason : Reason) → f ≡ Some reason → TriedIs whole (fails_at i reason) t'
         unfolding first_failure fails_or
         stopped reason e =
             let q : batch n fresh undo i holder t m.later ≡ lastly answer did.table = now_is ∙ ifb_true _ _ _ (ends_undo did ∙ go (subst (Fails did.outcome) e failed_as)) in
             record {
-              trial = sym (ap (λ (y : Failure). fails_or i Passes y) (told_is ∙ e)) ∙ ap (λ (y : Ran). first_failure i y.answers) (sym q) ∙ m.trial;
+              trial = sym (ap (λ (y : Option Reason). fails_or i None y) (told_is ∙ e)) ∙ ap (λ (y : Ran). first_failure i y.answers) (sym q) ∙ m.trial;
               table = ap (λ (d : Did). d.table) is.did ∙ ap (λ (y : Ran). y.table) (sym q) ∙ m.tables;
             }
           where
-            go : {reason : Reason} → Fails did.outcome (Because reason) → is_failed did.outcome ≡ true
+            go : {reason : Reason} → Fails did.outcome (Some reason) → is_failed did.outcome ≡ true
             go (failed reason o b) = b
 
         -- the next item
-        pub again : f ≡ NoFailure → length t' ≡ length t → Trying n whole fresh t' (take (length left - next) (drop next left)) (i + 1) r.performed.holder
+        pub again : f ≡ None → length t' ≡ length t → Trying n whole fresh t' (take (length left - next) (drop next left)) (i + 1) r.performed.holder
         unfolding first_failure fails_or
         again e lt =
             let q : batch n fresh undo i holder t m.later ≡ firstly answer (batch n fresh undo (i + 1) did.holder did.table x.rest) =
@@ -111,10 +108,10 @@ module _ {n : ℕ} {whole : Ran} {fresh t left : List ℕ} {i holder : ℕ} (m :
               strip = m.strip;
               trial =
                   ap (λ (y : Ran). first_failure (i + 1) y.answers) same_from
-                  ∙ sym (ap (λ (y : Failure). fails_or i (first_failure (i + 1) (batch n fresh undo (i + 1) did.holder did.table x.rest).answers) y) (told_is ∙ e))
+                  ∙ sym (ap (λ (y : Option Reason). fails_or i (first_failure (i + 1) (batch n fresh undo (i + 1) did.holder did.table x.rest).answers) y) (told_is ∙ e))
                   ∙ ap (λ (y : Ran). first_failure i y.answers) (sym q) ∙ m.trial;
               tables = ap (λ (y : Ran). y.table) same_from ∙ ap (λ (y : Ran). y.table) (sym q) ∙ m.tables;
             }
           where
-            go : Fails did.outcome NoFailure → is_failed did.outcome ≡ false
+            go : Fails did.outcome None → is_failed did.outcome ≡ false
             go (fine b) = b

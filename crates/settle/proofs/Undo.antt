@@ -1,5 +1,6 @@
 -- A batch under Undo: where it fails first, and that the answers which are written from the request alone are those of what is left of it.
 -- Assumes nothing.
+use Rattle.std.specs.Prelude.{Option, None, Some}
 use Prim.Native.Nat.{ℕ, suc, ◌+◌, ◌≤◌}
 use native.Mathlib.Omega.{arith}
 use mathlib.Core.Path.{◌≡◌, refl, sym, ap, ap₂, subst, ◌∙◌}
@@ -19,21 +20,17 @@ use Rattle.plans.specs.Plans.{Did, env_at, is_failed}
 use Rattle.act.specs.Act.{step}
 use Rattle.answer.specs.Respond.{Answer}
 use Rattle.batch.specs.Batch.{Ran, answer_with, answer_to, lastly, firstly, ends_batch, batch}
-use Rattle.settle.specs.declared.Failure.{Failure}
-use Rattle.settle.specs.declared.Failure.TheVariants.{Because, NoFailure}
-use Rattle.settle.specs.declared.Trial.{Trial}
-use Rattle.settle.specs.declared.Trial.TheVariants.{Passes, FailsAt}
 use Rattle.undone_answers.specs.Undone.{or_undone, undone_to, said_of, undone_from}
 use Rattle.undone_answers.proofs.Undone.{said_failed, said_undone}
 use Rattle.settle.specs.Undo.{any_failed, settled, kept_in}
-use Rattle.settle.specs.Trials.{failure_of, fails_or, first_failure}
+use Rattle.settle.specs.Trials.{fails_at, failure_of, fails_or, first_failure}
 
 -- ---- one outcome
 
 -- a failure, or none
-pub data Fails (o : Outcome) : Failure → Type 0 where
-  failed : (reason : Reason) → o ≡ Failed reason → is_failed o ≡ true → Fails o (Because reason)
-  fine : is_failed o ≡ false → Fails o NoFailure
+pub data Fails (o : Outcome) : Option Reason → Type 0 where
+  failed : (reason : Reason) → o ≡ Failed reason → is_failed o ≡ true → Fails o (Some reason)
+  fine : is_failed o ≡ false → Fails o None
 
 pub fails : (o : Outcome) → Fails o (failure_of o)
 unfolding failure_of is_failed
@@ -57,45 +54,45 @@ ends_undo did = go (is_failed did.outcome)
 -- ---- the first failure
 
 -- a trial's item, and its reason, where it has them
-abbrev index_in : ℕ → Trial → ℕ
-index_in other Passes = other
-index_in other (FailsAt k reason) = k
+abbrev index_in : ℕ → Option (ℕ × Reason) → ℕ
+index_in other None = other
+index_in other (Some (k, reason)) = k
 
-abbrev reason_in : Reason → Trial → Reason
-reason_in other Passes = other
-reason_in other (FailsAt k reason) = reason
+abbrev reason_in : Reason → Option (ℕ × Reason) → Reason
+reason_in other None = other
+reason_in other (Some (k, reason)) = reason
 
-not_both : {k : ℕ} {reason : Reason} → Passes ≡ FailsAt k reason → ⊥
+not_both : {k : ℕ} {reason : Reason} → None ≡ fails_at k reason → ⊥
 not_both {k} e = let z : ◌≡◌ {A = ℕ} (suc k) k = ap (index_in (suc k)) e in omega arith
 
 -- it is one of those that were looked at
-fails_from : (i : ℕ) (answers : List Answer) {k : ℕ} {reason : Reason} → first_failure i answers ≡ FailsAt k reason → i ≤ k
+fails_from : (i : ℕ) (answers : List Answer) {k : ℕ} {reason : Reason} → first_failure i answers ≡ fails_at k reason → i ≤ k
 unfolding first_failure fails_or
 fails_from i [] e = absurd (not_both e)
 fails_from i (a ∷ answers) {k} {reason} e = go (fails_from (i + 1) answers) (failure_of a.outcome) e
   where
-    go : (first_failure (i + 1) answers ≡ FailsAt k reason → i + 1 ≤ k) → (f : Failure) → fails_or i (first_failure (i + 1) answers) f ≡ FailsAt k reason → i ≤ k
-    go later (Because r) q = let z : i ≡ k = ap (index_in 0) q in omega arith
-    go later NoFailure q = let l = later q in omega arith
+    go : (first_failure (i + 1) answers ≡ fails_at k reason → i + 1 ≤ k) → (f : Option Reason) → fails_or i (first_failure (i + 1) answers) f ≡ fails_at k reason → i ≤ k
+    go later (Some r) q = let z : i ≡ k = ap (index_in 0) q in omega arith
+    go later None q = let l = later q in omega arith
 
 -- whether there is one
-pub fails_any : (i : ℕ) (answers : List Answer) {k : ℕ} {reason : Reason} → first_failure i answers ≡ FailsAt k reason → any_failed answers ≡ true
+pub fails_any : (i : ℕ) (answers : List Answer) {k : ℕ} {reason : Reason} → first_failure i answers ≡ fails_at k reason → any_failed answers ≡ true
 unfolding first_failure fails_or any_failed
 fails_any i [] e = absurd (not_both e)
 fails_any i (a ∷ answers) {k} {reason} e = go (fails_any (i + 1) answers) (fails a.outcome) e
   where
-    go : (first_failure (i + 1) answers ≡ FailsAt k reason → any_failed answers ≡ true) → {f : Failure} → Fails a.outcome f
-        → fails_or i (first_failure (i + 1) answers) f ≡ FailsAt k reason → (is_failed a.outcome || any_failed answers) ≡ true
+    go : (first_failure (i + 1) answers ≡ fails_at k reason → any_failed answers ≡ true) → {f : Option Reason} → Fails a.outcome f
+        → fails_or i (first_failure (i + 1) answers) f ≡ fails_at k reason → (is_failed a.outcome || any_failed answers) ≡ true
     go later (failed r o b) q = or_l (is_failed a.outcome) (any_failed answers) b
     go later (fine b) q = or_r (is_failed a.outcome) (any_failed answers) (later q)
 
-pub passes_none : (i : ℕ) (answers : List Answer) → first_failure i answers ≡ Passes → any_failed answers ≡ false
+pub passes_none : (i : ℕ) (answers : List Answer) → first_failure i answers ≡ None → any_failed answers ≡ false
 unfolding first_failure fails_or any_failed
 passes_none i [] e = refl
 passes_none i (a ∷ answers) e = go (passes_none (i + 1) answers) (fails a.outcome) e
   where
-    go : (first_failure (i + 1) answers ≡ Passes → any_failed answers ≡ false) → {f : Failure} → Fails a.outcome f
-        → fails_or i (first_failure (i + 1) answers) f ≡ Passes → (is_failed a.outcome || any_failed answers) ≡ false
+    go : (first_failure (i + 1) answers ≡ None → any_failed answers ≡ false) → {f : Option Reason} → Fails a.outcome f
+        → fails_or i (first_failure (i + 1) answers) f ≡ None → (is_failed a.outcome || any_failed answers) ≡ false
     go later (failed r o b) q = absurd (not_both (sym q))
     go later (fine b) q = ap₂ (λ (x y : Bool). x || y) b (later q)
 
@@ -104,23 +101,23 @@ passes_none i (a ∷ answers) e = go (passes_none (i + 1) answers) (fails a.outc
 module _ (n : ℕ) (fresh : List ℕ) (k : ℕ) (reason : Reason) where
   -- where it failed so, its answers are these
   abbrev pub Told : ℕ → List Asked → Ran → Type 0
-  Told i items ran = first_failure i ran.answers ≡ FailsAt k reason → map undone_to ran.answers ≡ undone_from i k reason items
+  Told i items ran = first_failure i ran.answers ≡ fails_at k reason → map undone_to ran.answers ≡ undone_from i k reason items
 
   -- by its first item: one that failed
   told_last : (i : ℕ) (asked : Asked) (later : List Asked) (did : Did) (r : Reason) → did.outcome ≡ Failed r → Told i (asked ∷ later) (lastly (answer_to asked did) did.table)
   unfolding first_failure fails_or failure_of undone_from
   told_last i asked later did r o q =
-      let s : FailsAt i r ≡ FailsAt k reason = sym (ap (λ (y : Outcome). fails_or i Passes (failure_of y)) o) ∙ q in
+      let s : fails_at i r ≡ fails_at k reason = sym (ap (λ (y : Outcome). fails_or i None (failure_of y)) o) ∙ q in
       let here : eqb i k ≡ true = eq-eqb i k (ap (index_in 0) s) in
       let said : or_undone did.outcome ≡ said_of (eqb i k) reason = said_failed did.outcome (eqb i k) reason (o ∙ ap Failed (ap (reason_in r) s)) here in
       ap (λ (y : Outcome). answer_with asked y ∷ []) said ∙ sym (ifb_true (eqb i k) _ _ here)
 
   -- or one that did not
-  told_later : (i : ℕ) (asked : Asked) (later : List Asked) (did : Did) (rest : Ran) → failure_of did.outcome ≡ NoFailure → is_failed did.outcome ≡ false → Told (i + 1) later rest
+  told_later : (i : ℕ) (asked : Asked) (later : List Asked) (did : Did) (rest : Ran) → failure_of did.outcome ≡ None → is_failed did.outcome ≡ false → Told (i + 1) later rest
       → Told i (asked ∷ later) (firstly (answer_to asked did) rest)
   unfolding first_failure fails_or undone_from
   told_later i asked later did rest e b hyp q =
-      let s : first_failure (i + 1) rest.answers ≡ FailsAt k reason = sym (ap (fails_or i (first_failure (i + 1) rest.answers)) e) ∙ q in
+      let s : first_failure (i + 1) rest.answers ≡ fails_at k reason = sym (ap (fails_or i (first_failure (i + 1) rest.answers)) e) ∙ q in
       let past : eqb i k ≡ false = ne_eqb i k (λ z. let l = fails_from (i + 1) rest.answers s in omega arith) in
       let said : or_undone did.outcome ≡ said_of (eqb i k) reason = said_undone did.outcome (eqb i k) reason b past in
       ap₂ (λ (y : Outcome) (z : List Answer). answer_with asked y ∷ z) said (hyp s) ∙ sym (ifb_false (eqb i k) _ _ past)
@@ -129,7 +126,7 @@ module _ (n : ℕ) (fresh : List ℕ) (k : ℕ) (reason : Reason) where
       → Told i (asked ∷ later) (ifb (ends_batch undo did) (lastly (answer_to asked did) did.table) (firstly (answer_to asked did) rest))
   told_first i asked later did rest hyp = go refl (fails did.outcome)
     where
-      go : {f : Failure} → failure_of did.outcome ≡ f → Fails did.outcome f
+      go : {f : Option Reason} → failure_of did.outcome ≡ f → Fails did.outcome f
           → Told i (asked ∷ later) (ifb (ends_batch undo did) (lastly (answer_to asked did) did.table) (firstly (answer_to asked did) rest))
       go e (failed r o b) = subst (Told i (asked ∷ later)) (sym (ifb_true (ends_batch undo did) _ _ (ends_undo did ∙ b))) (told_last i asked later did r o)
       go e (fine b) = subst (Told i (asked ∷ later)) (sym (ifb_false (ends_batch undo did) _ _ (ends_undo did ∙ b))) (told_later i asked later did rest e b hyp)

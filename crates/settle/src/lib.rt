@@ -9,67 +9,51 @@ ghost use Rattle.batch.specs.Runs.{Carries, ran_over};
 ghost use Rattle.settle.specs.Trials.{failure_of, TriedIs, Settles, SettledIs};
 
 use batch::BatchDone;
-use fields::BodyField;
 use plans::Outcome;
 use rules::Reason;
 use table::Layout;
 
+// A table's bytes and its place count stay two parameters, as in `table`.
+
+// An option stays a number: `run_batch` answers for any.
+
 const UNDO: u32 = 3;
 
 // Why an item failed, if it did.
-#[derive(Clone, Copy)]
-enum Failure {
-    Because { reason: Reason },
-    NoFailure,
-}
-
-// What comes of trying a batch: no item fails, or this one is the first.
-#[derive(Clone, Copy)]
-enum Trial {
-    Passes,
-    FailsAt { index: usize, reason: Reason },
-}
-
-fn failure_of(outcome: Outcome) -> Failure
+fn failure_of(outcome: Outcome) -> Option<Reason>
     ensures { result ≡ failure_of outcome }
 {
     match outcome {
-        Outcome::Failed { reason } => Failure::Because { reason },
-        Outcome::Created { serial: _ } => Failure::NoFailure,
-        Outcome::Done { serial: _ } => Failure::NoFailure,
-        Outcome::Showed { shown: _ } => Failure::NoFailure,
-        Outcome::Got { key: _ } => Failure::NoFailure,
-        Outcome::Located { serial: _ } => Failure::NoFailure,
-        Outcome::Undone => Failure::NoFailure,
+        Outcome::Failed { reason } => Some(reason),
+        _ => None,
     }
 }
 
-// The batch carried out on a table up to its first failed item. Nothing is answered. `run_batch`
-// shows what it asks.
-fn try_items(items: &[u8], table: &mut [u8], n: usize, fresh: &[u8]) -> Trial
+// The batch carried out on a table up to its first failed item: which that is, and why, if one
+// fails. Nothing is answered. `run_batch` shows what it asks.
+fn try_items(items: &[u8], table: &mut [u8], n: usize, fresh: &[u8]) -> Option<(usize, Reason)>
     requires { Carries n items.now table.old fresh.now }
     ensures { TriedIs (ran_over n items.now fresh.now undo table.old) result table.new }
 {
     let mut left = items;
     let mut i: usize = 0;
     let mut holder: u32 = 0;
+    // i is counted by hand: the loop ends with the items, and i picks the part of the strip
     loop {
-        let BodyField::Body { next } = fields::body_field(left, tags::BATCH_ITEM) else {
-            return Trial::Passes;
+        let Some(next) = fields::body_field(left, tags::BATCH_ITEM) else {
+            return None;
         };
         let from = Layout::MATERIAL * i;
         let to = from + Layout::MATERIAL;
         let carried = batch::carry_item(&left[8..next], table, n, &fresh[from..to], holder);
         let performed = carried.performed;
         let outcome = performed.outcome;
-        match failure_of(outcome) {
-            Failure::Because { reason } => return Trial::FailsAt { index: i, reason },
-            Failure::NoFailure => {
-                i += 1;
-                holder = performed.holder;
-                left = &left[next..];
-            }
+        if let Some(reason) = failure_of(outcome) {
+            return Some((i, reason));
         }
+        i += 1;
+        holder = performed.holder;
+        left = &left[next..];
     }
 }
 
@@ -92,12 +76,10 @@ pub fn run_batch(
         return batch::run_items(items, table, n, fresh, option, out);
     }
     octets::put_all(undo, 0, table);
-    let trial = try_items(items, undo, n, fresh);
+    let failure = try_items(items, undo, n, fresh);
     octets::put_all(undo, 0, table);
-    match trial {
-        Trial::Passes => batch::run_items(items, table, n, fresh, option, out),
-        Trial::FailsAt { index, reason } => {
-            undone_answers::tell_undone(items, index, reason, out)
-        }
+    match failure {
+        None => batch::run_items(items, table, n, fresh, option, out),
+        Some((index, reason)) => undone_answers::tell_undone(items, index, reason, out),
     }
 }

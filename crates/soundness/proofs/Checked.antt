@@ -1,5 +1,6 @@
 -- The check that goes place by place agrees with the rules one after the other.
 -- Assumes nothing.
+use Rattle.std.specs.Prelude.{Option, None, Some}
 use mathlib.Core.Path.{◌≡◌, refl, sym, ap, ◌∙◌}
 use mathlib.Core.Logic.{⊎_elim}
 use Prim.Native.Nat.{ℕ, ◌+◌, ◌^◌, ◌≤◌, ◌<◌, max}
@@ -14,8 +15,6 @@ use borrow.Author.Tests.{eq-eqb, ne_eqb, lt-ltb, eqb-true}
 use Rattle.octets.specs.Octets.{part, all_zero}
 use Rattle.octets.proofs.If.{ifb_true, ifb_false}
 use Rattle.table.specs.declared.Record.{Record}
-use Rattle.search.specs.declared.Found.{Found}
-use Rattle.search.specs.declared.Found.TheVariants.{At, Nothing}
 use Rattle.table.specs.Layout.{line_start, line_size, size_of, Table, replaced_in, replacement_in}
 use Rattle.table.specs.Records.{place_at, serial_at, last_serial, places_said, latest_clock}
 use Rattle.search.specs.Search.{find}
@@ -37,7 +36,7 @@ record Asked (n : ℕ) (t : List ℕ) (i : ℕ) (r : Record) : Type 0 where
   right : Right (last_serial t) r
   timely : Timely (latest_clock t) r
   issued : r.serial ≤ last_serial t
-  own : find n t r.serial ≡ At i
+  own : find n t r.serial ≡ Some i
   links : links_right n t r ≡ true
   name : own_name n t i r.name ≡ true
 
@@ -161,10 +160,10 @@ module _ (n : ℕ) (t : List ℕ) where
   passed_more i h e k l = ⊎_elim (λ z. ap (place_right n t) z ∙ e) (λ z. h k z) (eq-or-lt_of_le (let m : k ≤ i = omega arith in m))
 
 -- two tests that agree at every place agree on what a search found
-stands_same : {f g : ℕ → Bool} → ((j : ℕ) → f j ≡ g j) → (x : Found) → if_stands f x ≡ if_stands g x
+stands_same : {f g : ℕ → Bool} → ((j : ℕ) → f j ≡ g j) → (x : Option ℕ) → if_stands f x ≡ if_stands g x
 unfolding if_stands
-stands_same e (At j) = e j
-stands_same e Nothing = refl
+stands_same e (Some j) = e j
+stands_same e None = refl
 
 -- the halves of rule 15 as the check asks them
 links_parts : (n : ℕ) (t : List ℕ) (r : Record)

@@ -3,7 +3,7 @@
 use mathlib.Core.Path.{◌≡◌, refl, sym, ap, ◌∙◌, subst}
 use Prim.Native.Nat.{ℕ, suc, ◌<◌}
 use mathlib.Core.Bool.{Bool, true, false}
-use mathlib.Core.Option.{none, some}
+use Rattle.std.specs.Prelude.{None, Some}
 use mathlib.Core.List.{List, [], ◌∷◌}
 use Rattle.octets.proofs.If.{ifb_true, ifb_false, on_bool}
 use Rattle.octets.proofs.Maybe.{not_some, some_is}
@@ -31,7 +31,7 @@ module _ (n : ℕ) (t : List ℕ) where
     past_places : {k : ℕ} {broken : ℕ → List ℕ → ℕ → Bool} {later : List Rule} {fault : Fault} → Nowhere broken → First (suc k) later fault → First k (of_places broken ∷ later) fault
 
 module _ (n : ℕ) (t : List ℕ) where
-  kept_from : (k : ℕ) (later : List Rule) → fault_from k later n t ≡ none → Kept n t later
+  kept_from : (k : ℕ) (later : List Rule) → fault_from k later n t ≡ None → Kept n t later
   unfolding fault_from or_later
   kept_from k [] e = end
   kept_from k (of_table rule ∷ later) e =
@@ -43,13 +43,13 @@ module _ (n : ℕ) (t : List ℕ) where
       (λ i f. absurd (not_some (sym e ∙ ap (or_later k _) f)))
       (λ f. nowhere (none_fails n (broken n t) f) (kept_from (suc k) later (sym (ap (or_later k _) f) ∙ e)))
 
-  from_kept : (k : ℕ) (later : List Rule) → Kept n t later → fault_from k later n t ≡ none
+  from_kept : (k : ℕ) (later : List Rule) → Kept n t later → fault_from k later n t ≡ None
   unfolding fault_from or_later
   from_kept k [] end = refl
   from_kept k (of_table rule ∷ later) (holds h r) = ifb_true _ _ _ h ∙ from_kept (suc k) later r
   from_kept k (of_places broken ∷ later) (nowhere h r) = ap (or_later k _) (fails_none n (broken n t) h) ∙ from_kept (suc k) later r
 
-  first_from_lem : (k : ℕ) (later : List Rule) (fault : Fault) → fault_from k later n t ≡ some fault → First n t k later fault
+  first_from_lem : (k : ℕ) (later : List Rule) (fault : Fault) → fault_from k later n t ≡ Some fault → First n t k later fault
   unfolding fault_from or_later
   first_from_lem k [] fault e = absurd (not_some e)
   first_from_lem k (of_table rule ∷ later) fault e =
@@ -62,7 +62,7 @@ module _ (n : ℕ) (t : List ℕ) where
       (broken_at i (found_below n (broken n t) i f) (found_test n (broken n t) i f) (found_lowest n (broken n t) i f)))
       (λ f. past_places (none_fails n (broken n t) f) (first_from_lem (suc k) later fault (sym (ap (or_later k _) f) ∙ e)))
 
-  from_first : (k : ℕ) (later : List Rule) (fault : Fault) → First n t k later fault → fault_from k later n t ≡ some fault
+  from_first : (k : ℕ) (later : List Rule) (fault : Fault) → First n t k later fault → fault_from k later n t ≡ Some fault
   unfolding fault_from or_later
   from_first k [] fault h = elim h [ ]
   from_first k (of_table rule ∷ later) _ (broken_whole h) = ifb_false _ _ _ h
@@ -72,18 +72,18 @@ module _ (n : ℕ) (t : List ℕ) where
 
   -- ---- the list of all rules
 
-  pub fault_none : first_fault n t ≡ none → Kept n t rules
+  pub fault_none : first_fault n t ≡ None → Kept n t rules
   unfolding first_fault
   fault_none e = kept_from 1 rules e
 
-  pub none_fault : Kept n t rules → first_fault n t ≡ none
+  pub none_fault : Kept n t rules → first_fault n t ≡ None
   unfolding first_fault
   none_fault h = from_kept 1 rules h
 
-  pub fault_first : (fault : Fault) → first_fault n t ≡ some fault → First n t 1 rules fault
+  pub fault_first : (fault : Fault) → first_fault n t ≡ Some fault → First n t 1 rules fault
   unfolding first_fault
   fault_first fault e = first_from_lem 1 rules fault e
 
-  pub first_fault_lem : (fault : Fault) → First n t 1 rules fault → first_fault n t ≡ some fault
+  pub first_fault_lem : (fault : Fault) → First n t 1 rules fault → first_fault n t ≡ Some fault
   unfolding first_fault
   first_fault_lem fault h = from_first 1 rules fault h

@@ -5,15 +5,13 @@ use Prim.Native.Nat.{ℕ, ◌+◌, ◌^◌, ◌≤◌, ◌<◌}
 use native.Mathlib.Omega.{arith}
 use native.Mathlib.Decide.{ℕ_discrete}
 use mathlib.Core.Bool.{Bool, true, false, not, false≢true, true≢false}
-use mathlib.Core.Option.{Option, none, some}
+use Rattle.std.specs.Prelude.{Option, None, Some}
 use mathlib.Core.List.{List}
 use lib.ListN.{length}
 use borrow.Author.Tests.{eq-eqb, ne_eqb, le-leb, lt-ltb, eqb-true, eqb-false, leb-true, ltb-true, not-true}
 use Rattle.octets.specs.Maybe.{is_some}
 use Rattle.octets.specs.Octets.{part, all_zero}
 use Rattle.table.specs.declared.Record.{Record}
-use Rattle.search.specs.declared.Found.{Found}
-use Rattle.search.specs.declared.Found.TheVariants.{At, Nothing}
 use Rattle.names.specs.declared.Name.{Name}
 use Rattle.names.specs.Names.{is_named, no_name}
 use Rattle.table.specs.Layout.{line_size, body_size, line_start, body_start, size_of, Table, zeros_in}
@@ -64,15 +62,15 @@ module _ (n : ℕ) (t : List ℕ) (i : ℕ) (size : Table n t) (low : i < n) whe
 
 -- ---- the rules of links
 
-stands_is : (test : ℕ → Bool) (f : Found) (j : ℕ) → if_stands test f ≡ true → f ≡ At j → test j ≡ true
+stands_is : (test : ℕ → Bool) (f : Option ℕ) (j : ℕ) → if_stands test f ≡ true → f ≡ Some j → test j ≡ true
 unfolding if_stands
-stands_is test (At i) j e q = let z : i ≡ j = cc in ap test (sym z) ∙ e
-stands_is test Nothing j e q = let z : ◌≡◌ {A = ℕ} 0 1 = cc in absurd (omega arith)
+stands_is test (Some i) j e q = let z : i ≡ j = cc in ap test (sym z) ∙ e
+stands_is test None j e q = let z : ◌≡◌ {A = ℕ} 0 1 = cc in absurd (omega arith)
 
-stands_of : (test : ℕ → Bool) (f : Found) → ((j : ℕ) → f ≡ At j → test j ≡ true) → if_stands test f ≡ true
+stands_of : (test : ℕ → Bool) (f : Option ℕ) → ((j : ℕ) → f ≡ Some j → test j ≡ true) → if_stands test f ≡ true
 unfolding if_stands
-stands_of test (At i) h = h i refl
-stands_of test Nothing h = refl
+stands_of test (Some i) h = h i refl
+stands_of test None h = refl
 
 module _ (n : ℕ) (t : List ℕ) where
   -- the links of one record
@@ -91,7 +89,7 @@ module _ (n : ℕ) (t : List ℕ) where
       }
 
   -- a place found by a serial that a link names
-  linked_at_lem : {P : Type 0} (serial j : ℕ) → find n t serial ≡ At j → (j < n → Stands t j → serial ≡ serial_at t j → P) → P
+  linked_at_lem : {P : Type 0} (serial j : ℕ) → find n t serial ≡ Some j → (j < n → Stands t j → serial ≡ serial_at t j → P) → P
   linked_at_lem serial j e f = f (find_below n t serial j e) (λ z. find_nonzero n t serial j e (sym (find_serial n t serial j e) ∙ z)) (sym (find_serial n t serial j e))
 
   pub links_of : (r : Record) → Linked r → links_right n t r ≡ true
@@ -125,10 +123,10 @@ module _ (n : ℕ) (t : List ℕ) (i : ℕ) where
       no_unless _ (λ e. not_both (rule n t i) (h (eqb-false (serial_at t i) 0 (not-true (is_free t i) (and_l (not (is_free t i)) (not (rule n t i)) e))))
       (not-true (rule n t i) (and_r (not (is_free t i)) (not (rule n t i)) e)))
 
-no_fault : (f : Option Fault) → not (is_some f) ≡ true → f ≡ none
+no_fault : (f : Option Fault) → not (is_some f) ≡ true → f ≡ None
 unfolding is_some
-no_fault none e = refl
-no_fault (some f) e = absurd (false≢true e)
+no_fault None e = refl
+no_fault (Some f) e = absurd (false≢true e)
 
 module _ (n : ℕ) (t : List ℕ) where
   -- a rule that no standing place breaks holds at each of them

@@ -1,13 +1,11 @@
 -- 01, "Sound", and 02, L3 and L6: an ordered, numbered list of rules, each of the whole table or of its places. A table is sound if none is broken.
 -- Assumes nothing. A free place answers to the free-place rule alone.
 use Rattle.std.specs.Prelude.{ℕ, suc, ◌+◌, Bool, true, not, ◌&&◌, List, [], ◌∷◌, length, leb, eqb}
-use Rattle.std.proofs.Math.Option.{Option, none, some}
+use Rattle.std.specs.Prelude.{Option, None, Some}
 use Rattle.octets.specs.If.{ifb}
 use Rattle.octets.specs.Maybe.{is_some}
 use Rattle.octets.specs.Octets.{part, all_zero}
 use Rattle.table.specs.declared.Record.{Record}
-use Rattle.search.specs.declared.Found.{Found}
-use Rattle.search.specs.declared.Found.TheVariants.{At, Nothing}
 use Rattle.table.specs.Layout.{line_size, body_size, line_start, body_start, size_of, zeros_in}
 use Rattle.table.specs.Records.{place_at, serial_at, is_free, last_serial, places_said, latest_clock}
 use Rattle.search.specs.Search.{first, find}
@@ -48,9 +46,9 @@ issued_right n t i = leb (serial_at t i) (last_serial t)
 -- rules 7 to 14, 16 and 18 to 21 are of the record by itself and stand in record_rules (specs/Rules.antt): `state_right` to `replacement_right`, in this order in the list below, and `dates_right`, `order_right`, `started_right`, `name_right`, `name_text_right`
 
 -- what a record that stands has to pass; where none stands there is nothing to pass
-unfoldable pub if_stands : (ℕ → Bool) → Found → Bool
-if_stands test (At j) = test j
-if_stands test Nothing = true
+unfoldable pub if_stands : (ℕ → Bool) → Option ℕ → Bool
+if_stands test (Some j) = test j
+if_stands test None = true
 
 -- the record at place j names this serial as its replacement
 abbrev pub names_replacement : ℕ → List ℕ → ℕ → ℕ → Bool
@@ -124,14 +122,14 @@ pub data Fault : Type 0 where
   at_place : ℕ → ℕ → Fault
 
 -- rule k, if some place breaks it; else what the later rules say
-unfoldable pub or_later : ℕ → Option Fault → Found → Option Fault
-or_later k later (At i) = some (at_place k i)
-or_later k later Nothing = later
+unfoldable pub or_later : ℕ → Option Fault → Option ℕ → Option Fault
+or_later k later (Some i) = Some (at_place k i)
+or_later k later None = later
 
 -- the first of these rules, numbered from k on, that is broken
 unfoldable pub fault_from : ℕ → List Rule → ℕ → List ℕ → Option Fault
-fault_from k [] n t = none
-fault_from k (of_table rule ∷ rules) n t = let later = fault_from (suc k) rules n t in ifb (rule n t) later (some (whole k))
+fault_from k [] n t = None
+fault_from k (of_table rule ∷ rules) n t = let later = fault_from (suc k) rules n t in ifb (rule n t) later (Some (whole k))
 fault_from k (of_places broken ∷ rules) n t = or_later k (fault_from (suc k) rules n t) (first n (broken n t))
 
 -- the first broken rule of a table of n places, and the lowest place that breaks it

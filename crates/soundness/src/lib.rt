@@ -3,15 +3,16 @@
 // It writes nothing, and takes a table of any size and any content.
 #![tactic(auto)]
 
-ghost use Rattle.std.specs.Prelude.{◌≡◌, max, eqb};
+ghost use Rattle.std.specs.Prelude.{◌≡◌, eqb};
 ghost use Rattle.table.specs.Layout.{size_of, Place};
 ghost use Rattle.search.specs.Search.{find};
 ghost use Rattle.record_rules.specs.Checked.{material_right};
 ghost use Rattle.soundness.specs.Sound.{free_right, zeros_right, if_stands, sound};
 ghost use Rattle.soundness.specs.Checked.{whole_right, standing_right, place_right, has_link, LinkAsked, RecordAt, Reached, ReachedRecord};
 
-use search::Found;
 use table::{Layout, Record};
+
+// A table's bytes and its place count stay two parameters, as in `table`.
 
 // ---- the rules of the whole table
 
@@ -85,8 +86,8 @@ fn end_right(t: &[u8], n: usize, serial: u32, other: u32, from: usize) -> bool
     ensures { result ≡ if_stands (has_link t.now serial from) (find n t.now other) }
 {
     match search::find(t, n, other) {
-        Found::At(j) => { records::link_at(t, n, j, from) == serial }
-        Found::Nothing => true,
+        Some(j) => { records::link_at(t, n, j, from) == serial }
+        None => true,
     }
 }
 
@@ -120,16 +121,6 @@ fn place_right(t: &[u8], n: usize, i: usize, last: u32, latest: u64, top: u32) -
     standing_right(t, n, i, last, latest, top, p)
 }
 
-// The higher of two serials.
-fn higher(a: u32, b: u32) -> u32
-    ensures { result ≡ max a b }
-{
-    if a < b {
-        return b;
-    }
-    a
-}
-
 // ---- the check
 
 // Whether t is a sound table of n places. Any bytes and any number get an answer.
@@ -142,13 +133,11 @@ pub fn is_sound(t: &[u8], n: usize) -> bool
     let last = table::last_serial(t);
     let latest = table::latest_clock(t);
     let mut top: u32 = 0;
-    let mut i: usize = 0;
-    while i < n {
+    for i in 0..n {
         if !place_right(t, n, i, last, latest, top) {
             return false;
         }
-        top = higher(top, table::serial_at(t, i));
-        i += 1;
+        top = top.max(table::serial_at(t, i));
     }
     true
 }

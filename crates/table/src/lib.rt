@@ -9,6 +9,9 @@ ghost use Rattle.table.specs.Records.{serial_at, name_at, last_serial, with_last
 
 use names::Name;
 
+// A table's bytes and its place count stay two parameters: a struct that holds the bytes by
+// `&mut` was tried, and each function that takes it has to promise the same reference again.
+
 // The layout of a table of so many places: constants for sizes and for where each field stands, and
 // the offsets of a place's line and body.
 #[derive(Clone, Copy)]

@@ -1,7 +1,7 @@
 -- Worked targets, computed: the items at the front of a payload read to the record that they name.
 -- Assumes nothing. The bytes were worked out from the papers.
 use mathlib.Core.Path.{◌≡◌, refl}
-use mathlib.Core.Option.{Option, none, some}
+use Rattle.std.specs.Prelude.{Option, None, Some}
 use mathlib.Core.List.{[]}
 use Rattle.hex_digits.specs.Texts.{hex}
 use Rattle.octets.specs.If.{ifb}
@@ -19,23 +19,23 @@ use Rattle.target_read.specs.declared.Target.TheVariants.{Placeholder, Serial}
 
 -- the target that the bytes spell, and what stands behind it; none where they are no items
 target_from : Option Items → Option (Target × Items)
-target_from none = none
-target_from (some t) = target_in t
+target_from None = None
+target_from (Some t) = target_in t
 
 -- the definitions that the cases compute with: who opens this opens them all
 opened : Unit {0}
 unfolding target_from ifb ◌>>=◌ ◌>>◌ is_some be from_be_after from_be all same length_ok text value_ok encode item_ok well_formed headed first_of put_value put_group more walk parse is_one message starts_with bytes_of optional digits identifier from_digits_after serial_of target_of target_in
 opened = tt
 
-named : target_from (parse 6 (hex "42009407 00000008 30303030 30303041")) ≡ some (Serial 10, nil)
+named : target_from (parse 6 (hex "42009407 00000008 30303030 30303041")) ≡ Some (Serial 10, nil)
 unfolding opened
 named = refl
 
-held : target_from (parse 6 []) ≡ some (Placeholder, nil)
+held : target_from (parse 6 []) ≡ Some (Placeholder, nil)
 unfolding opened
 held = refl
 
 -- an Integer
-no_text : target_from (parse 6 (hex "42009402 00000004 00000001 00000000")) ≡ none
+no_text : target_from (parse 6 (hex "42009402 00000004 00000001 00000000")) ≡ None
 unfolding opened
 no_text = refl

@@ -17,14 +17,6 @@ pub enum Target {
     Serial { serial: u32 },
 }
 
-// The target at the front, with the rest of the run from next on. Or an identifier that is no Text
-// String stands there.
-#[derive(Clone, Copy)]
-pub enum TargetRead {
-    Is { target: Target, next: usize },
-    InvalidField,
-}
-
 // Whether an item is there and has this tag.
 fn is_tagged(item: First, tag: u32) -> bool
     ensures { result ≡ starts_in tag item }
@@ -45,17 +37,14 @@ fn is_tagged(item: First, tag: u32) -> bool
     }
 }
 
-// The target at the front, its item read once. No identifier is given where no item with its tag
-// stands there; one that is no Text String is Invalid Field.
-pub fn read_target(s: &[u8]) -> TargetRead
+// The target at the front and where the rest of the run starts, its item read once. No identifier is
+// given where no item with its tag stands there; one that is no Text String is Invalid Field.
+pub fn read_target(s: &[u8]) -> Option<(Target, usize)>
     ensures { result ≡ target_at s.now }
 {
     let item = ttlv::read_first(s);
     if !is_tagged(item, tags::UNIQUE_IDENTIFIER) {
-        return TargetRead::Is {
-            target: Target::Placeholder,
-            next: 0,
-        };
+        return Some((Target::Placeholder, 0));
     }
     let First::Value {
         tag: _,
@@ -64,16 +53,12 @@ pub fn read_target(s: &[u8]) -> TargetRead
         next,
     } = item
     else {
-        return TargetRead::InvalidField;
+        return None;
     };
     if kind != ttlv_types::TEXT_STRING {
-        return TargetRead::InvalidField;
+        return None;
     }
     let stop = 8 + len;
-    TargetRead::Is {
-        target: Target::Serial {
-            serial: identifier::serial_of(&s[8..stop]),
-        },
-        next,
-    }
+    let serial = identifier::serial_of(&s[8..stop]);
+    Some((Target::Serial { serial }, next))
 }

@@ -11,6 +11,8 @@ ghost use Rattle.treelib.specs.Escapes.{is_upper_control, is_control};
 use std::io;
 use ttlv::First;
 
+// A type stays the number that `ttlv::read_first` answers; what is printed of any is told here.
+
 fn print_tag(rt: &impl Print, tag: u32) -> io::Result<()> {
     printlib::byte(rt, (tag / 65536 % 256) as u8)?;
     printlib::byte(rt, (tag / 256 % 256) as u8)?;

@@ -4,7 +4,7 @@ use mathlib.Core.Path.{◌≡◌, refl, sym, ap, ap₂, ◌∙◌}
 use Prim.Native.Nat.{ℕ, zero, suc, ◌+◌, ◌-◌, ◌/◌, ◌%◌, ◌^◌, ◌≤◌, ◌<◌}
 use native.Mathlib.Omega.{arith}
 use mathlib.Core.Bool.{true, false≢true}
-use mathlib.Core.Option.{some}
+use Rattle.std.specs.Prelude.{Some}
 use mathlib.Core.List.{List, ◌++◌, append_assoc}
 use lib.ListN.{length, take, drop, replicate, length-append, length-replicate}
 use lib.Seq.{drop-drop, take_at, drop_at}
@@ -81,8 +81,8 @@ eights nil = refl
 eights (value tag kind v rest) = simp (length-append, length-replicate) (omega (arith, eights rest))
 eights (group tag body rest) = simp (length-append) (omega (arith, eights body, eights rest))
 
-read_value : (d tag kind : ℕ) (v r : List ℕ) (t : Items) → FineValue tag kind v → parse (suc d) r ≡ some t
-    → parse (suc d) (head tag kind (length v) ++ (v ++ (padding (length v) ++ r))) ≡ some (value tag kind v t)
+read_value : (d tag kind : ℕ) (v r : List ℕ) (t : Items) → FineValue tag kind v → parse (suc d) r ≡ Some t
+    → parse (suc d) (head tag kind (length v) ++ (v ++ (padding (length v) ++ r))) ≡ Some (value tag kind v t)
 unfolding more put_value
 read_value d tag kind v r t f e =
     let z = padding (length v) in
@@ -92,8 +92,8 @@ read_value d tag kind v r t f e =
     parse_step d s ∙ ap (more (parse d) (parse (suc d)) s) (value_back tag kind v r f)
     ∙ ap₂ (put_value tag kind) q (ap (parse (suc d)) p ∙ e)
 
-read_group : (d tag : ℕ) (b r : List ℕ) (i t : Items) → FineGroup tag (length b) → length b % 8 ≡ 0 → parse d b ≡ some i → parse (suc d) r ≡ some t
-    → parse (suc d) (head tag structure (length b) ++ (b ++ r)) ≡ some (group tag i t)
+read_group : (d tag : ℕ) (b r : List ℕ) (i t : Items) → FineGroup tag (length b) → length b % 8 ≡ 0 → parse d b ≡ Some i → parse (suc d) r ≡ Some t
+    → parse (suc d) (head tag structure (length b) ++ (b ++ r)) ≡ Some (group tag i t)
 unfolding more put_group
 read_group d tag b r i t f m eb e =
     let s = head tag structure (length b) ++ (b ++ r) in
@@ -103,7 +103,7 @@ read_group d tag b r i t f m eb e =
     ∙ ap₂ (put_group tag) (ap (parse d) q ∙ eb) (ap (parse (suc d)) p ∙ e)
 
 -- what is written is read back
-pub parse_back : (d : ℕ) (t : Items) → well_formed d t ≡ true → parse d (encode t) ≡ some t
+pub parse_back : (d : ℕ) (t : Items) → well_formed d t ≡ true → parse d (encode t) ≡ Some t
 unfolding encode well_formed
 parse_back zero nil w = unfold parse in refl
 parse_back (suc d) nil w = unfold parse walk first_of more ifb in refl

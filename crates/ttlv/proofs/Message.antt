@@ -3,7 +3,7 @@
 use mathlib.Core.Path.{◌≡◌, refl, sym, ap, ◌∙◌}
 use Prim.Native.Nat.{ℕ}
 use mathlib.Core.Bool.{Bool, true, false}
-use mathlib.Core.Option.{Option, none, some}
+use Rattle.std.specs.Prelude.{Option, None, Some}
 use mathlib.Core.List.{List}
 use Rattle.octets.specs.Maybe.{◌>>=◌, ◌>>◌, is_some}
 use Rattle.octets.specs.Octets.{Bytes}
@@ -18,39 +18,39 @@ use Rattle.ttlv.proofs.Tree.{some_is, parse_run, parse_tree}
 -- ---- a message is a run that is one item
 
 one_of : Option Items → Option Items
-one_of o = o >>= λ t. is_one t >> some t
+one_of o = o >>= λ t. is_one t >> Some t
 
-one_is : (o : Option Items) (t : Items) → one_of o ≡ some t → (o ≡ some t) × (is_one t ≡ true)
+one_is : (o : Option Items) (t : Items) → one_of o ≡ Some t → (o ≡ Some t) × (is_one t ≡ true)
 unfolding one_of ◌>>=◌
-one_is none t e = absurd (no_some e)
-one_is (some u) t e = go (is_one u) refl e
+one_is None t e = absurd (no_some e)
+one_is (Some u) t e = go (is_one u) refl e
   where
-    go : (b : Bool) → is_one u ≡ b → (b >> some u) ≡ some t → (some u ≡ some t) × (is_one t ≡ true)
+    go : (b : Bool) → is_one u ≡ b → (b >> Some u) ≡ Some t → (Some u ≡ Some t) × (is_one t ≡ true)
     go true h g = unfold ◌>>◌ in (g, ap is_one (sym (same_some g)) ∙ h)
     go false h g = unfold ◌>>◌ in absurd (no_some g)
 
-pub message_is : (s : List ℕ) (t : Items) → message s ≡ some t → (parse depth_most s ≡ some t) × (is_one t ≡ true)
+pub message_is : (s : List ℕ) (t : Items) → message s ≡ Some t → (parse depth_most s ≡ Some t) × (is_one t ≡ true)
 unfolding message one_of
 message_is s t e = one_is (parse depth_most s) t e
 
-pub is_message : (s : List ℕ) (t : Items) → parse depth_most s ≡ some t → is_one t ≡ true → message s ≡ some t
+pub is_message : (s : List ℕ) (t : Items) → parse depth_most s ≡ Some t → is_one t ≡ true → message s ≡ Some t
 unfolding message ◌>>=◌ ◌>>◌
 is_message s t e o = rw (e, o)
 
 -- what is read is written as it was
-pub message_spells : (s : List ℕ) (t : Items) → Bytes s → message s ≡ some t → encode t ≡ s
+pub message_spells : (s : List ℕ) (t : Items) → Bytes s → message s ≡ Some t → encode t ≡ s
 message_spells s t h e = parse_spells depth_most s t h (message_is s t e).0
 
 -- what is written is read back
-pub message_back : (t : Items) → well_formed depth_most t ≡ true → is_one t ≡ true → message (encode t) ≡ some t
+pub message_back : (t : Items) → well_formed depth_most t ≡ true → is_one t ≡ true → message (encode t) ≡ Some t
 message_back t w o = is_message (encode t) t (parse_back depth_most t w) o
 
 -- the item of a message is what its bytes stand for
-pub message_tree : (s : List ℕ) (t : Items) → message s ≡ some t → (is_run s ≡ true) × (tree_of s ≡ t)
+pub message_tree : (s : List ℕ) (t : Items) → message s ≡ Some t → (is_run s ≡ true) × (tree_of s ≡ t)
 message_tree s t e = (parse_run s t (message_is s t e).0, parse_tree s t (message_is s t e).0)
 
 -- bytes that are a message are read as the items that they stand for
-pub message_run : (s : List ℕ) → is_some (message s) ≡ true → message s ≡ some (tree_of s)
+pub message_run : (s : List ℕ) → is_some (message s) ≡ true → message s ≡ Some (tree_of s)
 message_run s h =
     let e = some_is (message s) h in
-    e ∙ ap some (sym (message_tree s (or_none (message s)) e).1)
+    e ∙ ap Some (sym (message_tree s (or_none (message s)) e).1)

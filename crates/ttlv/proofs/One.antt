@@ -4,7 +4,7 @@ use mathlib.Core.Path.{◌≡◌, refl, sym, ap, ◌∙◌}
 use Prim.Native.Nat.{ℕ, suc, ◌-◌, ◌≤◌}
 use native.Mathlib.Omega.{arith}
 use mathlib.Core.Bool.{Bool, false, ◌&&◌}
-use mathlib.Core.Option.{Option, none, some}
+use Rattle.std.specs.Prelude.{Option, None, Some}
 use mathlib.Core.List.{List, [], ◌∷◌}
 use lib.ListN.{length, drop, length-drop}
 use lib.Dec.{eqb}
@@ -25,11 +25,11 @@ use Rattle.ttlv.proofs.Step.{value_ends, group_ends}
 
 -- whether a run was read, and has no item
 unfoldable emptied : Option Items → Bool
-emptied none = false
-emptied (some t) = ended t
+emptied None = false
+emptied (Some t) = ended t
 
 -- a run has no item when it has no bytes
-pub parse_ended : (d : ℕ) (s : List ℕ) (t : Items) → parse (suc d) s ≡ some t → ended t ≡ eqb (length s) 0
+pub parse_ended : (d : ℕ) (s : List ℕ) (t : Items) → parse (suc d) s ≡ Some t → ended t ≡ eqb (length s) 0
 parse_ended d s t h = go t (first_of s) (reads d s t h)
   where
     go : (t : Items) (f : First) → Reads d s t f → ended t ≡ eqb (length s) 0
@@ -52,32 +52,32 @@ emptied_is d [] = unfold parse walk first_of more ifb ended in refl
 emptied_is d (x ∷ s) = go (parse (suc d) (x ∷ s)) refl
   where
     go : (o : Option Items) → parse (suc d) (x ∷ s) ≡ o → emptied o ≡ eqb (length (x ∷ s)) 0
-    go none e = sym (ne_eqb (length (x ∷ s)) 0 (λ z. omega arith))
-    go (some t) e = parse_ended d (x ∷ s) t e
+    go None e = sym (ne_eqb (length (x ∷ s)) 0 (λ z. omega arith))
+    go (Some t) e = parse_ended d (x ∷ s) t e
 
 -- ---- one item
 
 -- whether a run was read, and is one item
 unfoldable single : Option Items → Bool
-single o = is_some (o >>= λ t. is_one t >> some t)
+single o = is_some (o >>= λ t. is_one t >> Some t)
 
 single_value : (tag kind : ℕ) (v : List ℕ) (o : Option Items) → single (put_value tag kind v o) ≡ emptied o
 unfolding single emptied put_value is_one is_some ended ◌>>=◌ ◌>>◌
-single_value tag kind v none = refl
-single_value tag kind v (some nil) = refl
-single_value tag kind v (some (value tag2 kind2 v2 rest)) = refl
-single_value tag kind v (some (group tag2 body rest)) = refl
+single_value tag kind v None = refl
+single_value tag kind v (Some nil) = refl
+single_value tag kind v (Some (value tag2 kind2 v2 rest)) = refl
+single_value tag kind v (Some (group tag2 body rest)) = refl
 
 single_group : (tag : ℕ) (p o : Option Items) → single (put_group tag p o) ≡ (emptied o && is_some p)
 unfolding single emptied put_group is_one is_some ended ◌>>=◌ ◌>>◌
-single_group tag none none = refl
-single_group tag none (some nil) = refl
-single_group tag none (some (value tag2 kind2 v2 rest)) = refl
-single_group tag none (some (group tag2 body rest)) = refl
-single_group tag (some i) none = refl
-single_group tag (some i) (some nil) = refl
-single_group tag (some i) (some (value tag2 kind2 v2 rest)) = refl
-single_group tag (some i) (some (group tag2 body rest)) = refl
+single_group tag None None = refl
+single_group tag None (Some nil) = refl
+single_group tag None (Some (value tag2 kind2 v2 rest)) = refl
+single_group tag None (Some (group tag2 body rest)) = refl
+single_group tag (Some i) None = refl
+single_group tag (Some i) (Some nil) = refl
+single_group tag (Some i) (Some (value tag2 kind2 v2 rest)) = refl
+single_group tag (Some i) (Some (group tag2 body rest)) = refl
 
 -- the rest is empty when the item ends where s does
 at_end : (s : List ℕ) (next : ℕ) → next ≤ length s → eqb (length (drop next s)) 0 ≡ eqb next (length s)

@@ -4,7 +4,7 @@ use mathlib.Core.Path.{◌≡◌, refl, sym, ap, ap₂, ◌∙◌}
 use Prim.Native.Nat.{ℕ, zero, suc, ◌+◌, ◌-◌, ◌≤◌}
 use native.Mathlib.Omega.{arith}
 use mathlib.Core.Bool.{true}
-use mathlib.Core.Option.{Option, some}
+use Rattle.std.specs.Prelude.{Option, Some}
 use mathlib.Core.List.{List, [], ◌∷◌, ◌++◌}
 use lib.ListN.{length, take, drop, get_or, replicate, take-append-drop}
 use lib.Seq.{take-add, drop-drop, drop-cons}
@@ -67,10 +67,10 @@ group_whole s b r tag n h hd eb er =
 
 -- a reader whose answer is written as the bytes were
 abbrev Spells : (List ℕ → Option Items) → Type 0
-Spells f = (s : List ℕ) (t : Items) → Bytes s → f s ≡ some t → encode t ≡ s
+Spells f = (s : List ℕ) (t : Items) → Bytes s → f s ≡ Some t → encode t ≡ s
 
 more_spells : (b r : List ℕ → Option Items) → Spells b → Spells r → (s : List ℕ) (t : Items) → Bytes s
-    → (f : First) → View s f → more b r s f ≡ some t → encode t ≡ s
+    → (f : First) → View s f → more b r s f ≡ Some t → encode t ≡ s
 unfolding more encode
 more_spells b r hb hr s t h End (end e0) e = let et : t ≡ nil = cc in rw (et, e0)
 more_spells b r hb hr s t h Bad bad e = absurd (no_some e)
@@ -89,7 +89,7 @@ walk_spells b hb zero s t h e = absurd (no_some e)
 walk_spells b hb (suc k) s t h e = more_spells b (walk b k) hb (walk_spells b hb k) s t h (first_of s) (view s) e
 
 -- what is read is written as it was: two different runs of bytes are never read as the same items
-pub parse_spells : (d : ℕ) (s : List ℕ) (t : Items) → Bytes s → parse d s ≡ some t → encode t ≡ s
+pub parse_spells : (d : ℕ) (s : List ℕ) (t : Items) → Bytes s → parse d s ≡ Some t → encode t ≡ s
 unfolding parse encode
 parse_spells zero [] t h e = let et : t ≡ nil = cc in rw et
 parse_spells zero (x ∷ s) t h e = absurd (no_some e)

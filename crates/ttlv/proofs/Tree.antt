@@ -4,7 +4,7 @@ use mathlib.Core.Path.{◌≡◌, refl, sym, subst, ◌∙◌}
 use Prim.Native.Nat.{ℕ, suc, ◌+◌, ◌-◌, ◌≤◌}
 use native.Mathlib.Omega.{arith}
 use mathlib.Core.Bool.{true, false≢true}
-use mathlib.Core.Option.{Option, none, some}
+use Rattle.std.specs.Prelude.{Option, None, Some}
 use mathlib.Core.List.{List, []}
 use lib.ListN.{length, drop}
 use Rattle.octets.specs.Maybe.{is_some}
@@ -25,15 +25,15 @@ use Rattle.ttlv.proofs.Deeper.{parse_deeper}
 pub data Reads (d : ℕ) (s : List ℕ) : Items → First → Type 0 where
   r_end : s ≡ [] → Reads d s nil End
   r_value : {tag kind n next : ℕ} {r : Items} → 8 + n ≤ next → next ≤ length s → length_ok kind n ≡ true → value_ok kind (part s 8 n) ≡ true
-      → parse (suc d) (drop next s) ≡ some r → Reads d s (value tag kind (part s 8 n) r) (Value tag kind n next)
-  r_group : {tag next : ℕ} {b r : Items} → 8 ≤ next → next ≤ length s → parse d (part s 8 (next - 8)) ≡ some b → parse (suc d) (drop next s) ≡ some r
+      → parse (suc d) (drop next s) ≡ Some r → Reads d s (value tag kind (part s 8 n) r) (Value tag kind n next)
+  r_group : {tag next : ℕ} {b r : Items} → 8 ≤ next → next ≤ length s → parse d (part s 8 (next - 8)) ≡ Some b → parse (suc d) (drop next s) ≡ Some r
       → Reads d s (group tag b r) (Group tag next)
 
-pub reads : (d : ℕ) (s : List ℕ) (t : Items) → parse (suc d) s ≡ some t → Reads d s t (first_of s)
+pub reads : (d : ℕ) (s : List ℕ) (t : Items) → parse (suc d) s ≡ Some t → Reads d s t (first_of s)
 unfolding more
 reads d s t h = go (first_of s) (view s) (sym (parse_step d s) ∙ h)
   where
-    go : (f : First) → View s f → more (parse d) (parse (suc d)) s f ≡ some t → Reads d s t f
+    go : (f : First) → View s f → more (parse d) (parse (suc d)) s f ≡ Some t → Reads d s t f
     go End (end e) g = let et : t ≡ nil = cc in rw et (r_end e)
     go Bad bad g = absurd (no_some g)
     go (Value tag kind n next) (val hd k1 ok z) g =
@@ -45,22 +45,22 @@ reads d s t h = go (first_of s) (view s) (sym (parse_step d s) ∙ h)
 
 -- ---- at the depth that a request allows
 
-pub some_is : (o : Option Items) → is_some o ≡ true → o ≡ some (or_none o)
+pub some_is : (o : Option Items) → is_some o ≡ true → o ≡ Some (or_none o)
 unfolding is_some or_none
-some_is none h = absurd (false≢true h)
-some_is (some t) h = refl
+some_is None h = absurd (false≢true h)
+some_is (Some t) h = refl
 
 -- a run of items is read as its items
-pub run_parse : (s : List ℕ) → is_run s ≡ true → parse depth_most s ≡ some (tree_of s)
+pub run_parse : (s : List ℕ) → is_run s ≡ true → parse depth_most s ≡ Some (tree_of s)
 unfolding is_run tree_of
 run_parse s h = some_is (parse depth_most s) h
 
 -- what is read is a run, and its items are those read
-pub parse_run : (s : List ℕ) (t : Items) → parse depth_most s ≡ some t → is_run s ≡ true
+pub parse_run : (s : List ℕ) (t : Items) → parse depth_most s ≡ Some t → is_run s ≡ true
 unfolding is_run is_some
 parse_run s t h = rw h
 
-pub parse_tree : (s : List ℕ) (t : Items) → parse depth_most s ≡ some t → tree_of s ≡ t
+pub parse_tree : (s : List ℕ) (t : Items) → parse depth_most s ≡ Some t → tree_of s ≡ t
 unfolding tree_of or_none
 parse_tree s t h = rw h
 

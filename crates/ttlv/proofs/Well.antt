@@ -4,7 +4,7 @@ use mathlib.Core.Path.{◌≡◌, sym, ap, ◌∙◌}
 use Prim.Native.Nat.{ℕ, zero, suc, ◌+◌, ◌-◌, ◌/◌, ◌^◌, ◌≤◌, ◌<◌}
 use native.Mathlib.Omega.{arith}
 use mathlib.Core.Bool.{true}
-use mathlib.Core.Option.{Option, some}
+use Rattle.std.specs.Prelude.{Option, Some}
 use mathlib.Core.List.{List, [], ◌∷◌}
 use lib.ListN.{length, drop, get_or}
 use Rattle.octets.specs.Octets.{from_be, from_be_after, part, Bytes}
@@ -48,10 +48,10 @@ module _ (s : List ℕ) (tag kind n : ℕ) (h : Bytes s) (hd : Head s tag kind n
 
 -- a reader whose answer is well-formed at depth d
 abbrev Well : ℕ → (List ℕ → Option Items) → Type 0
-Well d f = (s : List ℕ) (t : Items) → Bytes s → f s ≡ some t → well_formed d t ≡ true
+Well d f = (s : List ℕ) (t : Items) → Bytes s → f s ≡ Some t → well_formed d t ≡ true
 
 more_well : (d : ℕ) (r : List ℕ → Option Items) → Well d (parse d) → Well (suc d) r → (s : List ℕ) (t : Items) → Bytes s
-    → (f : First) → View s f → more (parse d) r s f ≡ some t → well_formed (suc d) t ≡ true
+    → (f : First) → View s f → more (parse d) r s f ≡ Some t → well_formed (suc d) t ≡ true
 unfolding more
 more_well d r hb hr s t h End (end e0) e = unfold well_formed in let et : t ≡ nil = cc in rw et
 more_well d r hb hr s t h Bad bad e = absurd (no_some e)
@@ -84,7 +84,7 @@ unfolding walk
 walk_well d hb zero s t h e = absurd (no_some e)
 walk_well d hb (suc k) s t h e = more_well d (walk (parse d) k) hb (walk_well d hb k) s t h (first_of s) (view s) e
 
-pub parse_well : (d : ℕ) (s : List ℕ) (t : Items) → Bytes s → parse d s ≡ some t → well_formed d t ≡ true
+pub parse_well : (d : ℕ) (s : List ℕ) (t : Items) → Bytes s → parse d s ≡ Some t → well_formed d t ≡ true
 unfolding parse well_formed
 parse_well zero [] t h e = let et : t ≡ nil = cc in rw et
 parse_well zero (x ∷ s) t h e = absurd (no_some e)

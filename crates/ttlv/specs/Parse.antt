@@ -1,7 +1,7 @@
 -- 01, "TTLV": how bytes are read as items. Whatever differs from the rules is malformed: it reads as none.
 -- Assumes nothing.
 use Rattle.std.specs.Prelude.{ℕ, zero, suc, ◌+◌, ◌-◌, Bool, true, false, ◌&&◌, List, [], ◌∷◌, length, drop, get_or, leb, eqb}
-use Rattle.std.proofs.Math.Option.{Option, none, some}
+use Rattle.std.specs.Prelude.{Option, None, Some}
 use Rattle.octets.specs.If.{ifb}
 use Rattle.octets.specs.Maybe.{◌>>=◌, ◌>>◌}
 use Rattle.octets.specs.Octets.{from_be, part, all_zero}
@@ -35,30 +35,30 @@ first_of s =
 -- ---- the whole run
 
 unfoldable pub put_value : ℕ → ℕ → List ℕ → Option Items → Option Items
-put_value tag kind v none = none
-put_value tag kind v (some rest) = some (value tag kind v rest)
+put_value tag kind v None = None
+put_value tag kind v (Some rest) = Some (value tag kind v rest)
 
 unfoldable pub put_group : ℕ → Option Items → Option Items → Option Items
-put_group tag none rest = none
-put_group tag (some body) none = none
-put_group tag (some body) (some rest) = some (group tag body rest)
+put_group tag None rest = None
+put_group tag (Some body) None = None
+put_group tag (Some body) (Some rest) = Some (group tag body rest)
 
 -- the run whose first item is known, with `body` to read a structure's own run and `rest` to read what follows
 unfoldable pub more : (List ℕ → Option Items) → (List ℕ → Option Items) → List ℕ → First → Option Items
-more body rest s End = some nil
-more body rest s Bad = none
+more body rest s End = Some nil
+more body rest s Bad = None
 more body rest s (Value tag kind n next) = put_value tag kind (part s 8 n) (rest (drop next s))
 more body rest s (Group tag next) = put_group tag (body (part s 8 (next - 8))) (rest (drop next s))
 
 -- the items of s one after the other; the number counts turns, and one more than the length is enough
 unfoldable pub walk : (List ℕ → Option Items) → ℕ → List ℕ → Option Items
-walk body zero s = none
+walk body zero s = None
 walk body (suc k) s = more body (walk body k) s (first_of s)
 
 -- s read as a run of items, with structures at most d deep
 unfoldable pub parse : ℕ → List ℕ → Option Items
-parse zero [] = some nil
-parse zero (x ∷ s) = none
+parse zero [] = Some nil
+parse zero (x ∷ s) = None
 parse (suc d) s = walk (parse d) (suc (length s)) s
 
 -- "The outermost item has depth 1; an item at depth 9 is malformed"
@@ -79,4 +79,4 @@ is_one (group tag body (group tag2 body2 rest)) = false
 
 -- "The request is one item; anything after it is malformed too"
 unfoldable pub message : List ℕ → Option Items
-message s = parse depth_most s >>= λ t. is_one t >> some t
+message s = parse depth_most s >>= λ t. is_one t >> Some t

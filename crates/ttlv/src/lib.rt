@@ -7,6 +7,8 @@ ghost use Rattle.octets.specs.Maybe.{is_some};
 ghost use Rattle.octets.specs.Octets.{part, all_zero};
 ghost use Rattle.ttlv.specs.Parse.{headed, first_of, parse, message};
 
+// A type stays the byte that was read: any may stand in an item's head.
+
 // How deep an item may stand: the outermost has depth 1, and an item at depth 9 is malformed.
 pub const DEPTH_MOST: usize = 8;
 
@@ -95,6 +97,7 @@ pub fn read_first(s: &[u8]) -> First
 }
 
 // Whether s is a run of items by the rules, with structures at most `depth` deep.
+#[tactic(auto, using(crate::proofs::Step::value_ends, crate::proofs::Step::group_ends))]
 fn check(s: &[u8], depth: usize) -> bool
     ensures { result ≡ is_some (parse depth s.now) }
 {
@@ -106,15 +109,10 @@ fn check(s: &[u8], depth: usize) -> bool
         match read_first(t) {
             First::End => return true,
             First::Bad => return false,
-            First::Value {
-                tag: _,
-                kind: _,
-                len: _,
-                next,
-            } => {
+            First::Value { next, .. } => {
                 t = &t[next..];
             }
-            First::Group { tag: _, next } => {
+            First::Group { next, .. } => {
                 if !check(&t[8..next], depth - 1) {
                     return false;
                 }
@@ -125,19 +123,15 @@ fn check(s: &[u8], depth: usize) -> bool
 }
 
 // Whether s is one item by the rules and nothing behind it. Each byte is looked at once.
+#[tactic(auto, using(crate::proofs::Step::group_ends))]
 pub fn is_message(s: &[u8]) -> bool
     ensures { result ≡ is_some (message s.now) }
 {
     match read_first(s) {
         First::End => false,
         First::Bad => false,
-        First::Value {
-            tag: _,
-            kind: _,
-            len: _,
-            next,
-        } => next == s.len(),
-        First::Group { tag: _, next } => {
+        First::Value { next, .. } => next == s.len(),
+        First::Group { next, .. } => {
             if next != s.len() {
                 return false;
             }

@@ -9,6 +9,7 @@ use ttlv::First;
 
 // Where the item starts at which s first differs from the rules, with structures at most `depth`
 // deep; the length of s where it does not.
+#[tactic(auto, using(ttlv::proofs::Step::value_ends, ttlv::proofs::Step::group_ends))]
 pub fn first_fault(s: &[u8], depth: usize) -> usize
     ensures { result ≡ fault_of depth s.now }
 {
@@ -21,16 +22,11 @@ pub fn first_fault(s: &[u8], depth: usize) -> usize
         match ttlv::read_first(t) {
             First::End => return at,
             First::Bad => return at,
-            First::Value {
-                tag: _,
-                kind: _,
-                len: _,
-                next,
-            } => {
+            First::Value { next, .. } => {
                 at += next;
                 t = &t[next..];
             }
-            First::Group { tag: _, next } => {
+            First::Group { next, .. } => {
                 let inner = first_fault(&t[8..next], depth - 1);
                 if inner != next - 8 {
                     return at + 8 + inner;

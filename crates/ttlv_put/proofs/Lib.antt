@@ -1,6 +1,7 @@
--- The laws of written items: their sizes, how puts make one, and how one is written behind another.
+-- The laws of written items: their sizes, how puts make one, how one is written behind another, and the room of a body.
 -- Assumes nothing.
 pub mod Sizes
 pub mod Puts
 pub mod Holds
+pub mod Around
 pub mod Unique

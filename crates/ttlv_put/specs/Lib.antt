@@ -1,3 +1,4 @@
 -- What a writer of a TTLV item leaves in the room that it is lent.
 -- Assumes nothing.
 pub mod Write
+pub mod Around

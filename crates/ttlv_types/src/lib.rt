@@ -4,9 +4,9 @@
 
 ghost use Rattle.std.specs.Prelude.{◌≡◌, leb};
 ghost use Rattle.octets.specs.Octets.{from_be};
-ghost use Rattle.ttlv_types.specs.Types.{is_word, is_long, length_ok, value_ok};
+ghost use Rattle.ttlv_types.specs.Types.{length_ok, value_ok};
 
-// The types.
+// The types. Numbers and no enum: an item may say any number, and who looks at it takes any.
 pub const STRUCTURE: u8 = 0x01;
 
 pub const INTEGER: u8 = 0x02;
@@ -29,62 +29,36 @@ pub const INTERVAL: u8 = 0x0A;
 
 pub const DATE_TIME_EXTENDED: u8 = 0x0B;
 
-// Whether values of a type have 4 bytes.
-fn is_word(kind: u8) -> bool
-    ensures { result ≡ is_word kind }
-{
-    kind == INTEGER || kind == ENUMERATION || kind == INTERVAL
-}
-
-// Whether values of a type have 8 bytes.
-fn is_long(kind: u8) -> bool
-    ensures { result ≡ is_long kind }
-{
-    kind == LONG_INTEGER || kind == BOOLEAN || kind == DATE_TIME || kind == DATE_TIME_EXTENDED
-}
-
 // Whether a type allows a length.
 pub fn length_ok(kind: u8, n: usize) -> bool
     ensures { result ≡ length_ok kind n }
 {
-    if is_word(kind) {
-        return n == 4;
+    match kind {
+        INTEGER | ENUMERATION | INTERVAL => n == 4,
+        LONG_INTEGER | BOOLEAN | DATE_TIME | DATE_TIME_EXTENDED => n == 8,
+        STRUCTURE => n % 8 == 0,
+        BIG_INTEGER => 8 <= n && n % 8 == 0,
+        _ => kind == TEXT_STRING || kind == BYTE_STRING,
     }
-    if is_long(kind) {
-        return n == 8;
-    }
-    if kind == STRUCTURE {
-        return n % 8 == 0;
-    }
-    if kind == BIG_INTEGER {
-        return 8 <= n && n % 8 == 0;
-    }
-    kind == TEXT_STRING || kind == BYTE_STRING
 }
 
 // Whether bytes spell 0 or 1, however many they are.
 fn at_most_one(v: &[u8]) -> bool
     ensures { result ≡ leb (from_be v.now) 1 }
 {
-    if v.len() == 0 {
-        return true;
+    match v.split_last() {
+        Some((last, rest)) => octets::all_zero(rest) && *last <= 1,
+        None => true,
     }
-    let last = v.len() - 1;
-    if !octets::all_zero(&v[..last]) {
-        return false;
-    }
-    v[last] <= 1
 }
 
 // Whether a type allows a value.
 pub fn value_ok(kind: u8, v: &[u8]) -> bool
     ensures { result ≡ value_ok kind v.now }
 {
-    if kind == BOOLEAN {
-        return at_most_one(v);
+    match kind {
+        BOOLEAN => at_most_one(v),
+        TEXT_STRING => utf8::text_ok(v),
+        _ => true,
     }
-    if kind == TEXT_STRING {
-        return utf8::text_ok(v);
-    }
-    true
 }

@@ -2,7 +2,7 @@
 -- Assumes nothing.
 use mathlib.Core.Path.{◌≡◌, refl, sym, ◌∙◌}
 use mathlib.Core.Bool.{Bool, true, false, not, ◌&&◌, and_assoc, and-true}
-use mathlib.Core.Option.{some}
+use Rattle.std.specs.Prelude.{Some}
 use Prim.Native.Nat.{ℕ, suc, ◌+◌, ◌^◌, ◌≤◌, ◌<◌}
 use native.Mathlib.Omega.{arith}
 use mathlib.Core.List.{List}
@@ -93,13 +93,13 @@ module _ (tag : ℕ) (room : List ℕ) where
 -- ---- and what is written reads back
 
 pub reads_back : (t : Items) (room : List ℕ) {size r : ℕ} {after : List ℕ} → size ≡ length (encode t) → Wrote (writable t room) size (encode t) room after r → 0 < r
-    → parse 1 (take r after) ≡ some t
+    → parse 1 (take r after) ≡ Some t
 reads_back t room {size} {r} {after} e w h = on_bool (writable t room) yes no_room
   where
-    yes : writable t room ≡ true → parse 1 (take r after) ≡ some t
+    yes : writable t room ≡ true → parse 1 (take r after) ≡ Some t
     yes ok =
         let b : take r after ≡ encode t = rw (wrote_bytes ok w) (take_at (encode t) (drop (length (encode t)) room) r (sym (wrote_size ok w ∙ e))) in
         rw b (parse_back 1 t (both (well_formed 1 t) (fits room (length (encode t))) ok).0)
 
-    no_room : writable t room ≡ false → parse 1 (take r after) ≡ some t
+    no_room : writable t room ≡ false → parse 1 (take r after) ≡ Some t
     no_room bad = let z : r ≡ 0 = w.answer ∙ ifb_false (writable t room) size 0 bad in absurd (omega arith)

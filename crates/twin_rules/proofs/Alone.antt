@@ -1,5 +1,6 @@
 -- What no two places share, over any value that a place has and a test that sees whether two values are one: asked of each place against all others, and asked by a search for each place's own value. Both say the same.
 -- Assumes nothing; over the number n of places.
+use Rattle.std.specs.Prelude.{Option, Some}
 use mathlib.Core.Path.{◌≡◌, refl, sym, ap, ◌∙◌, subst}
 use Prim.Native.Nat.{ℕ, ◌<◌}
 use native.Mathlib.Omega.{arith}
@@ -8,8 +9,6 @@ use mathlib.Core.Bool.{Bool, true, false, not, ◌&&◌}
 use lib.Dec.{eqb}
 use borrow.Author.Tests.{ne_eqb, eqb-false, not-true}
 use Rattle.octets.proofs.Bools.{and_l, and_r, and_i, no_unless, not_both}
-use Rattle.search.specs.declared.Found.{Found}
-use Rattle.search.specs.declared.Found.TheVariants.{At}
 use Rattle.search.specs.Search.{first, is_nothing}
 use Rattle.search.proofs.First.{At-same, is_nothing_is, is_nothing_none, found_is, none_fails, fails_none}
 
@@ -40,13 +39,13 @@ module _ {A : Type 0} (n : ℕ) (of : ℕ → A) (same : A → A → Bool) (coun
       is_nothing_none _ (fails_none n (other i) none)
 
   -- the lowest place that has a value
-  abbrev sought : A → Found
+  abbrev sought : A → Option ℕ
   sought a = first n (λ j. same (of j) a)
 
-  pub alone_own : Alone → (i : ℕ) → i < n → counts (of i) → sought (of i) ≡ At i
+  pub alone_own : Alone → (i : ℕ) → i < n → counts (of i) → sought (of i) ≡ Some i
   alone_own alone i h c =
       found_is n (λ j. same (of j) (of i)) i h (same_of (of i) (of i) refl)
       (λ j l. no_unless (same (of j) (of i)) (λ e. let z : i ≡ j = alone i j h (omega arith) c (sym (same_is (of j) (of i) e)) in omega arith))
 
-  pub own_alone : ((i : ℕ) → i < n → counts (of i) → sought (of i) ≡ At i) → Alone
+  pub own_alone : ((i : ℕ) → i < n → counts (of i) → sought (of i) ≡ Some i) → Alone
   own_alone own i j h g c e = At-same (sym (own i h c) ∙ ap sought e ∙ own j g (subst counts e c))

@@ -1,5 +1,7 @@
 -- Serials are distinct exactly if each record is found by its own.
 -- Assumes nothing; over the number n of places.
+use Rattle.std.specs.Prelude.{Option, None, Some}
+use Rattle.std.specs.Option.{option_eq}
 use mathlib.Core.Path.{◌≡◌, refl, sym, ap, ap₂, ◌∙◌}
 use Prim.Native.Nat.{ℕ, ◌≤◌, ◌<◌}
 use native.Mathlib.Omega.{arith}
@@ -8,8 +10,6 @@ use mathlib.Core.List.{List}
 use lib.Dec.{eqb}
 use borrow.Author.Tests.{eq-eqb, eqb-true}
 use Rattle.table.specs.Records.{serial_at}
-use Rattle.search.specs.declared.Found.{Found}
-use Rattle.search.specs.declared.Found.TheVariants.{At, Nothing}
 use Rattle.search.specs.Search.{is_nothing, find}
 use Rattle.search.proofs.First.{first_cong}
 use Rattle.search.proofs.Finds.{find_first, find_is}
@@ -19,14 +19,20 @@ use Rattle.twin_rules.proofs.Alone.{alone_is, alone_of_lem, alone_own, own_alone
 
 -- ---- a search that found a place
 
-pub at_is : (i : ℕ) (f : Found) → is_at i f ≡ true → f ≡ At i
+pub at_is : (i : ℕ) (f : Option ℕ) → is_at i f ≡ true → f ≡ Some i
 unfolding is_at
-at_is i (At j) e = ap At (eqb-true j i e)
-at_is i Nothing e = absurd (false≢true e)
+at_is i (Some j) e = ap Some (eqb-true j i e)
+at_is i None e = absurd (false≢true e)
 
-pub at_of : (i : ℕ) (f : Found) → f ≡ At i → is_at i f ≡ true
+pub at_of : (i : ℕ) (f : Option ℕ) → f ≡ Some i → is_at i f ≡ true
 unfolding is_at
 at_of i f e = ap (is_at i) e ∙ eq-eqb i i refl
+
+-- the test for it by `==`
+pub at_eq : (i : ℕ) (f : Option ℕ) → option_eq eqb f (Some i) ≡ is_at i f
+unfolding is_at
+at_eq i (Some j) = refl
+at_eq i None = refl
 
 -- ---- serials
 
@@ -51,11 +57,11 @@ module _ (n : ℕ) (t : List ℕ) where
   distinct_of d = alone_of_lem n (serial_at t) eqb counts eqb-true eq-eqb d
 
   -- so each record is found by its serial
-  pub find_own : Distinct → (i : ℕ) → i < n → Stands t i → find n t (serial_at t i) ≡ At i
+  pub find_own : Distinct → (i : ℕ) → i < n → Stands t i → find n t (serial_at t i) ≡ Some i
   find_own d i h s = find_first n t (serial_at t i) s ∙ alone_own n (serial_at t) eqb counts eqb-true eq-eqb d i h s
 
   -- and where each record is found by its serial the serials are distinct
-  pub own_distinct : ((i : ℕ) → i < n → Stands t i → find n t (serial_at t i) ≡ At i) → Distinct
+  pub own_distinct : ((i : ℕ) → i < n → Stands t i → find n t (serial_at t i) ≡ Some i) → Distinct
   own_distinct own = own_alone n (serial_at t) eqb counts eqb-true eq-eqb (λ i h s. sym (find_first n t (serial_at t i) s) ∙ own i h s)
 
 -- tables with the same serials are alike in this

@@ -1,19 +1,18 @@
 -- What the check asks in place of those rules, one search a place: that a place is found by its own serial and by its own name. That this comes to the same is a law.
 -- Assumes nothing.
+use Rattle.std.specs.Prelude.{Option, None, Some}
 use Rattle.std.specs.Prelude.{◌≡◌, ℕ, ◌≤◌, ◌<◌, Bool, true, false, List, eqb}
 use Rattle.octets.specs.If.{ifb}
 use Rattle.names.specs.declared.Name.{Name}
 use Rattle.names.specs.Names.{is_named}
 use Rattle.table.specs.Layout.{Place}
 use Rattle.table.specs.Records.{serial_at}
-use Rattle.search.specs.declared.Found.{Found}
-use Rattle.search.specs.declared.Found.TheVariants.{At, Nothing}
 use Rattle.name_search.specs.Names.{find_name}
 
 -- a search found this place
-unfoldable pub is_at : ℕ → Found → Bool
-is_at i (At j) = eqb j i
-is_at i Nothing = false
+unfoldable pub is_at : ℕ → Option ℕ → Bool
+is_at i (Some j) = eqb j i
+is_at i None = false
 
 -- no name at all, or one whose search gives place i
 unfoldable pub own_name : ℕ → List ℕ → ℕ → Name → Bool

@@ -8,17 +8,8 @@ ghost use Rattle.search.specs.Search.{find};
 ghost use Rattle.twin_rules.specs.Checked.{is_at, Owns, own_name};
 
 use names::Name;
-use search::Found;
 
-// Whether a search found this place.
-fn is_at(found: Found, i: usize) -> bool
-    ensures { result ≡ is_at i found }
-{
-    match found {
-        Found::At(j) => j == i,
-        Found::Nothing => false,
-    }
-}
+// A table's bytes and its place count stay two parameters, as in `table`.
 
 // Rule 5: the search for the serial of place i gives place i. A serial above all that stand at
 // lower places needs no search: `top` is as high as any of them. The check has tested the table's
@@ -30,7 +21,7 @@ pub fn own_place(t: &[u8], n: usize, i: usize, top: u32, serial: u32) -> bool
     if top < serial {
         return true;
     }
-    is_at(search::find(t, n, serial), i)
+    search::find(t, n, serial) == Some(i)
 }
 
 // Rule 22: the search for the name of place i gives place i; where there is no name, none is made.
@@ -42,5 +33,5 @@ pub fn own_name(t: &[u8], n: usize, i: usize, name: Name) -> bool
     if name.len == 0 {
         return true;
     }
-    is_at(name_search::find_name(t, n, name), i)
+    name_search::find_name(t, n, name) == Some(i)
 }

@@ -1,5 +1,6 @@
 -- The loop that answers a batch of which an item failed, from the request alone: what holds between two items, how it begins, goes on and ends.
 -- Assumes nothing.
+use Rattle.std.specs.Prelude.{None}
 use Prim.Native.Nat.{ℕ, ◌+◌, ◌-◌}
 use native.Mathlib.Omega.{arith}
 use mathlib.Core.Path.{◌≡◌, refl, sym, ap, subst, ◌∙◌}
@@ -13,7 +14,6 @@ use Rattle.octets.specs.Octets.{part}
 use Rattle.octets.proofs.If.{ifb_true, ifb_false}
 use Rattle.ttlv.specs.Items.{nil, group}
 use Rattle.fields.specs.Found.{body_at}
-use Rattle.fields.specs.declared.BodyField.TheVariants.{NoBody}
 use Rattle.ttlv_put.specs.Write.{Holds}
 use Rattle.tags.specs.Tags.{batch_item}
 use Rattle.rules.specs.declared.Reason.{Reason}
@@ -42,7 +42,7 @@ begins {items} k reason h = record { later = asked_from items; done = []; items 
 
 module _ {whole : List Answer} {k : ℕ} {reason : Reason} {out₀ out left : List ℕ} {i at : ℕ} (m : Telling whole k reason out₀ out left i at) where
   -- no item is left
-  pub ended : body_at left batch_item ≡ NoBody → AnswersAre whole out₀ (record { count = i; used = at }) out
+  pub ended : body_at left batch_item ≡ None → AnswersAre whole out₀ (record { count = i; used = at }) out
   unfolding undone_from
   ended e =
       let l : m.later ≡ [] = no_more m.items e in

@@ -13,7 +13,6 @@ ghost use Rattle.batch.specs.Runs.{asked_in, AnswersAre};
 ghost use Rattle.undone_answers.specs.Undone.{said_of, undone_over, TellsOne, Tells};
 
 use batch::BatchDone;
-use fields::BodyField;
 use plans::Outcome;
 use rules::Reason;
 
@@ -46,8 +45,9 @@ pub fn tell_undone(items: &[u8], index: usize, reason: Reason, out: &mut [u8]) -
     let mut left = items;
     let mut i: usize = 0;
     let mut at: usize = 0;
+    // i is counted by hand: the loop ends with the items, and answers how many there were
     loop {
-        let BodyField::Body { next } = fields::body_field(left, tags::BATCH_ITEM) else {
+        let Some(next) = fields::body_field(left, tags::BATCH_ITEM) else {
             let count = i as u32;
             return BatchDone { count, used: at };
         };

@@ -2,11 +2,10 @@
 -- Assumes nothing.
 use mathlib.Core.Path.{◌≡◌, refl}
 use Prim.Native.Nat.{ℕ}
-use mathlib.Core.Bool.{Bool, true, not}
+use mathlib.Core.Bool.{true, not}
 use mathlib.Core.List.{List, [], ◌∷◌}
-use Rattle.octets.specs.If.{ifb}
 use Rattle.octets.specs.Octets.{all}
-use Rattle.utf8.specs.Text.{begun, later, is_whole, text_from, text}
+use Rattle.utf8.specs.Text.{text}
 
 -- no byte, the lowest and the highest of each form, the characters around the surrogates, two characters
 abbrev good : List (List ℕ)

@@ -16,25 +16,31 @@ pub struct ToCome {
     pub high: u8,
 }
 
-// So many bytes that continue a character; 0 between characters.
-fn tails(more: u8) -> ToCome
-    ensures { result ≡ to_come more 0x80 0xBF }
-{
-    next_from(more, 0x80, 0xBF)
-}
+impl ToCome {
+    // What nothing can follow: no byte is from 1 to 0.
+    const NOTHING: ToCome = ToCome {
+        more: 1,
+        low: 1,
+        high: 0,
+    };
 
-// So many bytes, the next of them from low to high.
-fn next_from(more: u8, low: u8, high: u8) -> ToCome
-    ensures { result ≡ to_come more low high }
-{
-    ToCome { more, low, high }
-}
+    // So many bytes that continue a character; 0 between characters.
+    fn tails(more: u8) -> ToCome
+        ensures { result ≡ to_come more 0x80 0xBF }
+    {
+        ToCome {
+            more,
+            low: 0x80,
+            high: 0xBF,
+        }
+    }
 
-// What nothing can follow: no byte is from 1 to 0.
-fn nothing() -> ToCome
-    ensures { result ≡ to_come 1 1 0 }
-{
-    next_from(1, 1, 0)
+    // So many bytes, the next of them from low to high.
+    fn next_from(more: u8, low: u8, high: u8) -> ToCome
+        ensures { result ≡ to_come more low high }
+    {
+        ToCome { more, low, high }
+    }
 }
 
 // What comes behind the first byte of a character.
@@ -42,33 +48,33 @@ fn begin(b: u8) -> ToCome
     ensures { ranges_of result ≡ begun b forms }
 {
     if b <= 0x7F {
-        return tails(0);
+        return ToCome::tails(0);
     }
     if b < 0xC2 {
-        return nothing();
+        return ToCome::NOTHING;
     }
     if b <= 0xDF {
-        return tails(1);
+        return ToCome::tails(1);
     }
     if b == 0xE0 {
-        return next_from(2, 0xA0, 0xBF);
+        return ToCome::next_from(2, 0xA0, 0xBF);
     }
     if b == 0xED {
-        return next_from(2, 0x80, 0x9F);
+        return ToCome::next_from(2, 0x80, 0x9F);
     }
     if b <= 0xEF {
-        return tails(2);
+        return ToCome::tails(2);
     }
     if b == 0xF0 {
-        return next_from(3, 0x90, 0xBF);
+        return ToCome::next_from(3, 0x90, 0xBF);
     }
     if b == 0xF4 {
-        return next_from(3, 0x80, 0x8F);
+        return ToCome::next_from(3, 0x80, 0x8F);
     }
     if b <= 0xF3 {
-        return tails(3);
+        return ToCome::tails(3);
     }
-    nothing()
+    ToCome::NOTHING
 }
 
 // What is still to come after one byte more.
@@ -79,39 +85,30 @@ fn go_on(p: ToCome, b: u8) -> ToCome
         return begin(b);
     }
     if b < p.low {
-        return nothing();
+        return ToCome::NOTHING;
     }
     if p.high < b {
-        return nothing();
+        return ToCome::NOTHING;
     }
-    tails(p.more - 1)
+    ToCome::tails(p.more - 1)
 }
 
 // Whether bytes are text, byte by byte.
 fn spelled(s: &[u8]) -> bool
     ensures { result ≡ text s.now }
 {
-    let mut p = tails(0);
-    let mut i: usize = 0;
-    while i < s.len() {
-        p = go_on(p, s[i]);
-        i += 1;
+    let mut p = ToCome::tails(0);
+    for b in s {
+        p = go_on(p, *b);
     }
     p.more == 0
 }
 
-// Whether every byte is a character by itself. It looks at all of them, with no way out between,
-// so that a compiler takes many at once.
+// Whether every byte is a character by itself.
 fn plain(s: &[u8]) -> bool
     ensures { result ≡ all is_plain s.now }
 {
-    let mut clear = true;
-    let mut i: usize = 0;
-    while i < s.len() {
-        clear = clear & (s[i] <= 0x7F);
-        i += 1;
-    }
-    clear
+    octets::every(s, |b| b <= 0x7F)
 }
 
 // Whether bytes are text. Most texts are plain, and that is seen sooner.

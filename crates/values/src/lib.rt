@@ -45,7 +45,7 @@ pub fn unit_ok(unit: u64) -> bool
 pub fn total_ok(total: u64) -> bool
     ensures { result ≡ total_ok total }
 {
-    (1 <= total) & (total <= 1_000_000_000_000)
+    (1..=1_000_000_000_000).contains(&total)
 }
 
 // The first number of 64 bits that stands for a negative one.
@@ -62,7 +62,7 @@ pub fn not_negative(bits: u64) -> bool
 pub fn above_zero(bits: u64) -> bool
     ensures { result ≡ above_zero bits }
 {
-    (1 <= bits) & (bits < NEGATIVE)
+    (1..NEGATIVE).contains(&bits)
 }
 
 // Two dates, 0 where one is not set: where both are, the deactivation is not before the activation.

@@ -3,7 +3,7 @@
 use Prim.Native.Nat.{ℕ, max}
 use native.Mathlib.Omega.{arith}
 use mathlib.Core.Path.{◌≡◌, refl, sym, ap, ◌∙◌}
-use mathlib.Core.Option.{Option, none, some}
+use Rattle.std.specs.Prelude.{Option, None, Some}
 use mathlib.Core.List.{List}
 use lib.ListN.{length, take}
 use lib.Dec.{lit<}
@@ -97,8 +97,8 @@ same_answer bytes table_of d = let z : ◌≡◌ {A = ℕ} 1 2 = sym (clock_of 1
     made c = record { number = 0; length = length bytes; table = table_of c; output = over bytes c.output; undo = kept_by c (frame_of c) }
 
     clock_in : Option Response → ℕ
-    clock_in none = 0
-    clock_in (some r) = r.clock
+    clock_in None = 0
+    clock_in (Some r) = r.clock
 
     a1 : Answered (calling life_request 1) (made (calling life_request 1))
     a1 = given made d (calling life_request 1) (lent_life 1 (lit< tt)) (life_accepted 1 refl) refl

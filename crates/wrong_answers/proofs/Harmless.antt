@@ -5,7 +5,7 @@ use native.Mathlib.Omega.{arith}
 use mathlib.Core.Path.{◌≡◌, refl, sym, ap, subst, ◌∙◌}
 use mathlib.Core.Logic.{inl}
 use mathlib.Core.Bool.{true}
-use mathlib.Core.Option.{Option, some}
+use Rattle.std.specs.Prelude.{Option, Some}
 use mathlib.Core.List.{List, [], ◌∷◌, map}
 use lib.ListN.{length, take, drop, length-map}
 use lib.Seq.{drop_at}
@@ -182,7 +182,7 @@ same_answer_1 bytes table_of short = writing_1 (λ c. bytes) table_of (λ c lent
 -- answers that a response may have
 record Fine (answers : List Answer) : Type 0 where
   pub ok : all answer_ok answers ≡ true
-  pub some : 1 ≤ length answers
+  pub Some : 1 ≤ length answers
   pub few : length answers ≤ batch_most
 
 fine_first : (answers : List Answer) → Fine answers → Fine (take 1 answers)
@@ -207,7 +207,7 @@ responding_1 answers_of table_of fine =
     writing_1 (λ c. encode (respond (record { clock = counted c; answers = answers_of c }))) table_of (λ c lent a. fine_short (counted c) (answers_of c) (counted_above c lent a) (fine c lent a))
 
 -- the frame of an accepted call
-frame_is : (c : Call) (a : Accepted c) → frame_of c ≡ some a.frame
+frame_is : (c : Call) (a : Accepted c) → frame_of c ≡ Some a.frame
 unfolding frame_of ◌>>=◌
 frame_is c a = ap (λ (m : Option Items). m >>= frame_in) a.reads ∙ a.framed
 

@@ -1,5 +1,6 @@
 -- The last item of a call: the step that it went, the table that it left, and what is seen of both.
 -- Assumes nothing.
+use Rattle.std.specs.Prelude.{Some}
 use Prim.Native.Nat.{ℕ}
 use native.Mathlib.Omega.{arith}
 use native.Mathlib.Decide.{ℕ_discrete}
@@ -11,7 +12,6 @@ use Rattle.octets.proofs.Bools.{and_no}
 use Rattle.ttlv.specs.Items.{nil}
 use Rattle.table.specs.Layout.{small_count}
 use Rattle.table.specs.Records.{place_at, serial_at}
-use Rattle.search.specs.declared.Found.TheVariants.{At}
 use Rattle.search.specs.Search.{find}
 use Rattle.search.proofs.Finds.{find_is}
 use Rattle.plans.specs.declared.Outcome.TheVariants.{Done}
@@ -106,7 +106,7 @@ module _ (ev : Event) (none : Bool) (v : List ℕ) (l : Last ev v) (s : Seen) (e
     unfolding seen_of
     met_serial = sym (l.tame.kept 0 (lit< tt) stays) ∙ ap (λ (x : Seen). x.serial) e ∙ first
 
-    pub met_found : s.named ≡ 1 → find small_count l.met (named_by ev.held (command_of ev)) ≡ At 0
+    pub met_found : s.named ≡ 1 → find small_count l.met (named_by ev.held (command_of ev)) ≡ Some 0
     unfolding seen_of
     met_found h = ap (find small_count l.met) (ap (λ (x : Seen). x.named) e ∙ h) ∙ find_is small_count l.met 1 0 (λ z. omega arith) (lit< tt) met_serial (λ j k. absurd (omega arith))
 

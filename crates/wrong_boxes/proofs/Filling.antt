@@ -1,5 +1,6 @@
 -- A table of 64 keys, reached by laws and not by computation: what one Create leaves, again and again.
 -- Assumes nothing.
+use Rattle.std.specs.Prelude.{Some}
 use Prim.Native.Nat.{ℕ, suc, ◌+◌, ◌*◌, ◌≤◌, ◌<◌}
 use native.Mathlib.Omega.{arith}
 use native.Mathlib.Decide.{ℕ_discrete}
@@ -20,7 +21,6 @@ use Rattle.table.specs.Layout.{small_count, material_size}
 use Rattle.table.specs.Records.{place_at, serial_at, state_at, is_free, last_serial, latest_clock, blank}
 use Rattle.table.proofs.Blank.{serial_blank, last_blank, latest_blank}
 use Rattle.table.proofs.Places.{serial_is}
-use Rattle.search.specs.declared.Found.TheVariants.{At}
 use Rattle.search.specs.Search.{free_place, destroyed_place, new_place, is_destroyed, is_nothing}
 use Rattle.name_search.specs.Names.{find_name, is_taken}
 use Rattle.search.proofs.First.{At-same, is_nothing_at, found_is, fails_none}
@@ -72,7 +72,7 @@ abbrev pub grown : ℕ → List ℕ → List ℕ
 grown i t = with_born small_count t (new_record (next_serial t) wanted (own i).fresh)
 
 -- there is room where a place is due and serials are left
-pub has_room : (t : List ℕ) (k : ℕ) → new_place small_count t ≡ At k → (last_serial t ≡ serial_most → ⊥) → is_full small_count t ≡ false
+pub has_room : (t : List ℕ) (k : ℕ) → new_place small_count t ≡ Some k → (last_serial t ≡ serial_most → ⊥) → is_full small_count t ≡ false
 unfolding is_full
 has_room t k due few = ap₂ (λ (a b : Bool). a || b) (is_nothing_at (new_place small_count t) k due) (ne_eqb (last_serial t) serial_most few)
 
@@ -115,7 +115,7 @@ filled_blank = record {
 
 -- one more
 module _ (k : ℕ) (t : List ℕ) (f : Filled k t) (more : k < small_count) where
-  due : new_place small_count t ≡ At k
+  due : new_place small_count t ≡ Some k
   unfolding free_place
   due =
       new_free small_count t k (found_is small_count (is_free t) k more (eq-eqb (serial_at t k) 0 (f.free k (omega arith) more))
@@ -184,7 +184,7 @@ module _ (k : ℕ) (t : List ℕ) (f : Filled k t) where
 -- ---- all places
 
 -- where no place is free and the key at place 0 is destroyed, a new object takes its place
-pub takes_first : (t : List ℕ) → ((i : ℕ) → i < small_count → serial_at t i ≡ i + 1) → is_destroyed (state_at t 0) ≡ true → new_place small_count t ≡ At 0
+pub takes_first : (t : List ℕ) → ((i : ℕ) → i < small_count → serial_at t i ≡ i + 1) → is_destroyed (state_at t 0) ≡ true → new_place small_count t ≡ Some 0
 unfolding free_place destroyed_place
 takes_first t serials dead =
     new_destroyed small_count t (fails_none small_count (is_free t) (λ j h. ne_eqb (serial_at t j) 0 (λ z. omega (arith, serials j h))))

@@ -2,7 +2,7 @@
 -- Each is shown to break the demand that is named above it; which demands it meets is said where that is shown.
 -- Assumes nothing.
 use Rattle.std.specs.Prelude.{ℕ, ◌+◌, ◌-◌, ◌≡◌, Bool, true, false, not, ◌&&◌, List, [], ◌∷◌, ◌++◌, map, length, take, replicate, leb, ltb, eqb}
-use Rattle.std.proofs.Math.Option.{Option, none, some}
+use Rattle.std.specs.Prelude.{Option, None, Some}
 use Rattle.std.proofs.lemmas.List.Edits.{sets}
 use Rattle.octets.specs.If.{ifb}
 use Rattle.octets.specs.Octets.{be, over}
@@ -10,12 +10,9 @@ use Rattle.table.specs.declared.Record.{Record}
 use Rattle.table.specs.Layout.{small_count, large_count, places_ok, places_in}
 use Rattle.table.specs.Records.{place_at, state_at, last_serial, latest_clock, with_place, with_clock}
 use Rattle.names.specs.Names.{no_name}
-use Rattle.search.specs.declared.Found.{Found}
-use Rattle.search.specs.declared.Found.TheVariants.{At, Nothing}
 use Rattle.search.specs.Search.{is_nothing, is_destroyed, find}
 use Rattle.rules.specs.declared.Reason.TheVariants.{InvalidField, ObjectDestroyed, WrongKeyLifecycleState}
 use Rattle.rules.specs.Numbers.{active, deactivated, destroyed, get_usage_allocation, reason_number}
-use Rattle.rules.specs.declared.Offset.{Offset}
 use Rattle.changes.specs.Records.{in_state, with_count}
 use Rattle.heirs.specs.Heirs.{heir_of}
 use Rattle.changes.specs.Changes.{next_serial, with_heir}
@@ -57,8 +54,8 @@ begun_by c = began (places_of c) (counted c) c.table
 
 -- what the second buffer should hold behind an accepted call
 unfoldable pub kept_by : Call → Option Frame → List ℕ
-kept_by c none = c.undo
-kept_by c (some f) = kept_in (option_of f.header.option) (begun_by c) c.undo
+kept_by c None = c.undo
+kept_by c (Some f) = kept_in (option_of f.header.option) (begun_by c) c.undo
 
 -- these answers under a Time Stamp, and this table; the second buffer as it should be
 abbrev pub stamping : ℕ → Call → List Answer → List ℕ → Effect
@@ -76,13 +73,13 @@ responding c answers t = stamping (counted c) c answers t
 
 -- the batch of a call, run under an option
 unfoldable pub ran_under : (ℕ → ℕ) → Call → Option Frame → Ran
-ran_under option c none = record { answers = []; table = begun_by c }
-ran_under option c (some f) = running (places_of c) c.strip (begun_by c) (record { option = option (option_of f.header.option); items = f.items })
+ran_under option c None = record { answers = []; table = begun_by c }
+ran_under option c (Some f) = running (places_of c) c.strip (begun_by c) (record { option = option (option_of f.header.option); items = f.items })
 
 -- what should be left of it under its own option
 unfoldable pub left_under : Call → Option Frame → Ran
-left_under c none = record { answers = []; table = begun_by c }
-left_under c (some f) = settled (option_of f.header.option) (begun_by c) (ran_under (λ option. option) c (some f))
+left_under c None = record { answers = []; table = begun_by c }
+left_under c (Some f) = settled (option_of f.header.option) (begun_by c) (ran_under (λ option. option) c (Some f))
 
 -- an outcome with another table
 unfoldable pub with_table : (List ℕ → List ℕ) → Effect → Effect
@@ -191,8 +188,8 @@ failed_answer asked = record { operation = asked.operation; id = asked.id; outco
 
 -- every item failed: all under Continue, the first alone under Stop and Undo
 unfoldable pub all_failed : Option Frame → List Answer
-all_failed none = []
-all_failed (some f) = ifb (eqb (option_of f.header.option) continue) (map failed_answer f.items) (take 1 (map failed_answer f.items))
+all_failed None = []
+all_failed (Some f) = ifb (eqb (option_of f.header.option) continue) (map failed_answer f.items) (take 1 (map failed_answer f.items))
 
 -- a box that fails every item
 abbrev pub FailsAll : Box
@@ -275,9 +272,9 @@ pub record Spent : Type 0 where
   pub table : List ℕ
   pub done : Bool
 
-unfoldable pub spent_at : ℕ → List ℕ → ℕ → Found → Spent
-spent_at n t amount Nothing = record { table = t; done = false }
-spent_at n t amount (At i) =
+unfoldable pub spent_at : ℕ → List ℕ → ℕ → Option ℕ → Spent
+spent_at n t amount None = record { table = t; done = false }
+spent_at n t amount (Some i) =
     let r = place_at n t i in
     ifb (is_destroyed r.state && leb amount r.count) (record { table = with_place n t i (with_count (r.count - amount) r); done = true }) (record { table = t; done = false })
 
@@ -438,9 +435,9 @@ abbrev pub Revives : Box
 Revives = Leaves (λ c due. ifb (eqb (state_at due 0) deactivated && ltb c.clock (place_at small_count due 0).deactivation) (woken due) due)
 
 -- the table with a replacement of the record that was found, if one was and it is destroyed
-unfoldable pub renewed_at : ℕ → List ℕ → Offset → Found → Spent
-renewed_at n t _ Nothing = record { table = t; done = false }
-renewed_at n t offset (At i) =
+unfoldable pub renewed_at : ℕ → List ℕ → Option ℕ → Option ℕ → Spent
+renewed_at n t _ None = record { table = t; done = false }
+renewed_at n t offset (Some i) =
     let r = place_at n t i in
     ifb (is_destroyed r.state) (record { table = with_heir n t i (heir_of (next_serial t) (latest_clock t) offset r []); done = true }) (record { table = t; done = false })
 

@@ -6,7 +6,7 @@ use native.Mathlib.Decide.{ℕ_discrete}
 use mathlib.Core.Path.{◌≡◌, refl, sym, ap, subst, ◌∙◌}
 use mathlib.Core.Logic.{⊎_elim}
 use mathlib.Core.Bool.{Bool, true, false, not, ◌&&◌, true≢false, false≢true}
-use mathlib.Core.Option.{Option, none, some}
+use Rattle.std.specs.Prelude.{Option, None, Some}
 use mathlib.Core.List.{List, [], ◌∷◌}
 use lib.ListN.{take}
 use lib.Dec.{ltb, eqb, lit<}
@@ -53,8 +53,8 @@ stamped = stamping 5 earlier (left_under earlier (frame_of earlier)).answers (le
 
 -- the Time Stamp of a response
 clock_in : Option Response → ℕ
-clock_in none = 0
-clock_in (some r) = r.clock
+clock_in None = 0
+clock_in (Some r) = r.clock
 
 stamped_clock : clock_in (message (take stamped.length stamped.output) >>= answers_in) ≡ 5
 unfolding dated_opened stamped left_under ran_under frame_of clock_in

@@ -5,7 +5,7 @@ use native.Mathlib.Nat.{max-eq_left}
 use native.Mathlib.Omega.{arith}
 use mathlib.Core.Path.{◌≡◌, refl, sym, ap, ap₂, ◌∙◌}
 use mathlib.Core.Bool.{Bool, true, false}
-use mathlib.Core.Option.{Option, none, some}
+use Rattle.std.specs.Prelude.{Option, None, Some}
 use mathlib.Core.List.{List, [], ◌∷◌, ◌++◌}
 use lib.ListN.{length}
 use lib.Dec.{eqb, lit<}
@@ -66,8 +66,8 @@ take_request =
 
 -- the frame that a request is
 unfoldable pub frame_or : Option Frame → Frame
-frame_or none = record { header = record { major = 0; minor = 0; option = none; count = 0 }; items = [] }
-frame_or (some f) = f
+frame_or None = record { header = record { major = 0; minor = 0; option = None; count = 0 }; items = [] }
+frame_or (Some f) = f
 
 unfoldable pub frame_from : List ℕ → Frame
 frame_from request = frame_or (message request >>= frame_in)
@@ -87,11 +87,11 @@ unfoldable pub grant_asked : Asked
 grant_asked = item_at 2 (frame_from take_request).items
 
 -- they are read so
-create_read : (message create_request >>= frame_in) ≡ some (record { header = (frame_from create_request).header; items = create_asked ∷ [] })
+create_read : (message create_request >>= frame_in) ≡ Some (record { header = (frame_from create_request).header; items = create_asked ∷ [] })
 unfolding opened create_item create_request frame_or frame_from item_at create_asked
 create_read = refl
 
-pub take_read : (message take_request >>= frame_in) ≡ some (record { header = (frame_from take_request).header; items = destroy_asked ∷ create_asked ∷ grant_asked ∷ [] })
+pub take_read : (message take_request >>= frame_in) ≡ Some (record { header = (frame_from take_request).header; items = destroy_asked ∷ create_asked ∷ grant_asked ∷ [] })
 unfolding opened create_item create_request take_request frame_or frame_from item_at create_asked destroy_asked grant_asked
 take_read = refl
 
@@ -187,7 +187,7 @@ pub create_step : (i holder : ℕ) (t : List ℕ) → is_full small_count t ≡ 
 unfolding decided plan create_plan due carried ifb
 create_step i holder t room =
     planned i holder t create_asked (Create wanted) create_command
-    ∙ ap₂ (λ (taken full : Bool). carried t (created i t) (ifb taken (some NonUniqueName) (ifb full (some ServerLimitExceeded) none))) (wanted_free t) room
+    ∙ ap₂ (λ (taken full : Bool). carried t (created i t) (ifb taken (Some NonUniqueName) (ifb full (Some ServerLimitExceeded) None))) (wanted_free t) room
 
 -- ---- the run
 

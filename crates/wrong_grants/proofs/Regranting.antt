@@ -1,6 +1,7 @@
 -- A box that grants units to an identifier whose place was taken in the same batch, and is right but for this: where 64 keys stand, one batch destroys the first,
 -- creates another, which takes its place, and asks units for the first.
 -- Assumes nothing. What is computed is the reading of one response.
+use Rattle.std.specs.Prelude.{Option, None, Some, Ok}
 use Prim.Native.Nat.{ℕ, zero, suc, ◌+◌, ◌<◌}
 use native.Mathlib.Omega.{arith}
 use native.Mathlib.Decide.{ℕ_discrete}
@@ -16,14 +17,11 @@ use Rattle.table.specs.declared.Record.{Record}
 use Rattle.table.specs.Layout.{small_count}
 use Rattle.table.specs.Records.{place_at, with_place, serial_at, state_at, last_serial, latest_clock}
 use Rattle.table.proofs.Places.{state_is}
-use Rattle.search.specs.declared.Found.{Found}
-use Rattle.search.specs.declared.Found.TheVariants.{At, Nothing}
 use Rattle.search.specs.Search.{is_nothing, find, new_place, is_destroyed}
 use Rattle.search.proofs.First.{At-same}
 use Rattle.search.proofs.Finds.{find_is, none_find}
 use Rattle.soundness.specs.Checked.{is_at}
 use Rattle.rules.specs.declared.Reason.TheVariants.{ObjectNotFound}
-use Rattle.rules.specs.declared.Next.TheVariants.{To}
 use Rattle.rules.specs.Numbers.{get_usage_allocation, destroy}
 use Rattle.rules.specs.Tests.{due}
 use Rattle.rules.specs.States.{next_state}
@@ -66,7 +64,7 @@ use Rattle.wrong_grants.proofs.Reaching.{create_item, create_request, take_reque
 abbrev dead_key : Record
 dead_key = moved_to destroy 0 1 5 first_key
 
-destroy_next : next_state destroy 0 1 ≡ To 5
+destroy_next : next_state destroy 0 1 ≡ Ok 5
 unfolding opened
 destroy_next = refl
 
@@ -76,7 +74,7 @@ module _ (t : List ℕ) (f : Filled 64 t) (now : latest_clock t ≡ 1) where
   first_is = f.first (omega arith)
 
   -- the Destroy
-  first_found : find small_count t 1 ≡ At 0
+  first_found : find small_count t 1 ≡ Some 0
   first_found = find_is small_count t 1 0 (λ z. omega arith) (lit< tt) (f.serials 0 (lit< tt)) (λ j h. absurd (omega arith))
 
   abbrev emptied : List ℕ
@@ -89,14 +87,14 @@ module _ (t : List ℕ) (f : Filled 64 t) (now : latest_clock t ≡ 1) where
   unfolding opened decided
   destroy_step =
       planned 0 0 t destroy_asked (Destroy (Serial 1)) destroy_command
-      ∙ ap (λ (found : Found). decided t (on_found (own 0) 0 t (destroy_plan (own 0) 0 t) found)) first_found
+      ∙ ap (λ (found : Option ℕ). decided t (on_found (own 0) 0 t (destroy_plan (own 0) 0 t) found)) first_found
       ∙ ap (λ (r : Record). decided t (destroy_plan (own 0) 0 t 0 r)) first_is
       ∙ ap (λ (clock : ℕ). record { outcome = Done 1; table = with_place small_count t 0 (moved_to destroy 0 clock 5 first_key); holder = 0 }) now
 
   first_stands : serial_at t 0 ≡ 0 → ⊥
   first_stands z = omega (arith, f.serials 0 (lit< tt))
 
-  first_dies : next_state destroy 0 (place_at small_count t 0).state ≡ To 5
+  first_dies : next_state destroy 0 (place_at small_count t 0).state ≡ Ok 5
   unfolding new_record
   first_dies = ap (λ (r : Record). next_state destroy 0 r.state) first_is ∙ destroy_next
 
@@ -121,7 +119,7 @@ module _ (t : List ℕ) (f : Filled 64 t) (now : latest_clock t ≡ 1) where
   emptied_last = emptied_stored.issued ∙ f.last
 
   -- the Create takes its place
-  emptied_due : new_place small_count emptied ≡ At 0
+  emptied_due : new_place small_count emptied ≡ Some 0
   unfolding new_record moved_to with_dates in_state
   emptied_due = takes_first emptied emptied_serials (ap is_destroyed (state_is small_count emptied 0 ∙ ap (λ (r : Record). r.state) emptied_stored.here))
 
@@ -148,14 +146,14 @@ module _ (t : List ℕ) (f : Filled 64 t) (now : latest_clock t ≡ 1) where
   after_last = after_born.stored.issued ∙ ap (λ (s : ℕ). s + 1) emptied_last
 
   -- so that the first key is not found
-  gone : find small_count after 1 ≡ Nothing
+  gone : find small_count after 1 ≡ None
   gone = none_find small_count after 1 after_serials
 
   grant_step : step (own 2) (next_serial emptied) after grant_asked ≡ failing after ObjectNotFound
   unfolding opened decided
   grant_step =
       planned 2 (next_serial emptied) after grant_asked (GetUsageAllocation (Serial 1) 5) grant_command
-      ∙ ap (λ (found : Found). decided after (on_found (own 2) (next_serial emptied) after (allocation_plan (own 2) (next_serial emptied) after 5) found)) gone
+      ∙ ap (λ (found : Option ℕ). decided after (on_found (own 2) (next_serial emptied) after (allocation_plan (own 2) (next_serial emptied) after 5) found)) gone
 
   -- what is due
   abbrev ran_rightly : Ran
@@ -236,7 +234,7 @@ module _ (u : List ℕ) (f : Filled 64 u) (now : latest_clock u ≡ 1) where
   unfolding asks_for_gone named_by sought is_nothing
   asks_gone =
       ap₂ (λ (o x : ℕ). eqb o get_usage_allocation && not (eqb x 0) && leb x (last_serial left) && is_nothing (find small_count left x)) grant_operation (ap (named_by 0) grant_command)
-      ∙ ap₂ (λ (last : ℕ) (found : Found). leb 1 last && is_nothing found) (after_last u f now) (gone u f now)
+      ∙ ap₂ (λ (last : ℕ) (found : Option ℕ). leb 1 last && is_nothing found) (after_last u f now) (gone u f now)
 
   -- Destroy and Create are answered as is due
   destroy_answer : ifb (asks_for_gone left destroy_asked) (Done (named_by 0 (command destroy_asked.operation destroy_asked.payload))) (Done 1) ≡ Done 1
@@ -327,7 +325,7 @@ module _ (log : List Event) (t : List ℕ) (run : Run small_count Regrants log t
       kept_serials : (i : ℕ) → i < small_count → serial_at u i ≡ i + 1
       kept_serials i l = tame.kept i l (untaken i) ∙ start_serials i l
 
-      start_found : find small_count start 1 ≡ At 0
+      start_found : find small_count start 1 ≡ Some 0
       start_found = find_is small_count start 1 0 (λ z. omega arith) (lit< tt) (start_serials 0 (lit< tt)) (λ j h. absurd (omega arith))
 
       first_named : names small_count destroy_event start 0 ≡ true
@@ -347,7 +345,7 @@ module _ (log : List Event) (t : List ℕ) (run : Run small_count Regrants log t
       takes_from = record {
         place = 0;
         stood = record { below = lit< tt; serial = kept_serials 0 (lit< tt) };
-        taken = ap₂ (λ (c : Command) (found : Found). not (eqb (issued_by c (Created 65)) 0) && is_at 0 found) create_command (takes_first u kept_serials first_dead);
+        taken = ap₂ (λ (c : Command) (found : Option ℕ). not (eqb (issued_by c (Created 65)) 0) && is_at 0 found) create_command (takes_first u kept_serials first_dead);
       }
 
   -- 5 units more

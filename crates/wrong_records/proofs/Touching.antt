@@ -1,5 +1,6 @@
 -- Boxes that demand 3 shuts out by what they touch: the table of a call that they refuse, and a record that nothing named.
 -- Assumes nothing. Each is refuted by a run that is worked out.
+use Rattle.std.specs.Prelude.{None}
 use Prim.Native.Nat.{ℕ, ◌<◌}
 use native.Mathlib.Omega.{arith}
 use mathlib.Core.Path.{◌≡◌, refl, sym, ap, subst, ◌∙◌}
@@ -16,7 +17,6 @@ use Rattle.names.specs.declared.Name.{Name}
 use Rattle.table.specs.declared.Record.{Record}
 use Rattle.table.specs.Layout.{small_count, large_count}
 use Rattle.table.specs.Records.{place_at, with_place, serial_at, places_said, blank}
-use Rattle.search.specs.declared.Found.TheVariants.{Nothing}
 use Rattle.search.specs.Search.{find}
 use Rattle.soundness.specs.Checked.{is_at}
 use Rattle.changes.specs.Records.{in_state}
@@ -134,7 +134,7 @@ name_before = refl
 -- a search for nothing finds no place
 none_there : (t : List ℕ) → is_at 0 (find small_count t 0) ≡ false
 unfolding find is_at
-none_there t = ap (is_at 0) (ifb_true (eqb 0 0) Nothing _ refl)
+none_there t = ap (is_at 0) (ifb_true (eqb 0 0) None _ refl)
 
 -- along the one item the record at place 0 stays: it is not named, and what is issued has another serial
 stayed : {log events : List Event} {t v : List ℕ} → Path small_count log t events v → is_one events ≡ true → serial_at v 0 ≡ 1 → place_at small_count v 0 ≡ place_at small_count t 0

@@ -1,5 +1,6 @@
 -- Boxes that 00 warns of and that demand 3 shuts out: they wake a destroyed key, or say that a key is destroyed and leave it Active.
 -- Assumes nothing. Each is refuted by a run that is worked out.
+use Rattle.std.specs.Prelude.{Some}
 use Prim.Native.Nat.{ℕ, ◌<◌}
 use native.Mathlib.Omega.{arith}
 use mathlib.Core.Path.{◌≡◌, refl, sym, ap, ◌∙◌}
@@ -7,7 +8,6 @@ use mathlib.Core.Bool.{Bool, true, false, ◌&&◌, ◌||◌, false≢true, true
 use mathlib.Core.List.{List, []}
 use lib.Dec.{eqb, lit<}
 use Rattle.octets.specs.If.{ifb}
-use Rattle.search.specs.declared.Found.TheVariants.{At}
 use Rattle.table.specs.Layout.{small_count}
 use Rattle.table.specs.Records.{place_at, serial_at, state_at, blank}
 use Rattle.search.specs.Search.{find}
@@ -43,7 +43,7 @@ module _ (operation code : ℕ) (never : (from : ℕ) → listed operation code 
       from : ℕ
       from = (place_at small_count l.met 0).state
 
-      found : find small_count l.met (named_by ev.held (command_of ev)) ≡ At 0
+      found : find small_count l.met (named_by ev.held (command_of ev)) ≡ Some 0
       found = met_found ev none v l _ e (untaken ev none v l _ e refl) refl refl
 
       way : listed operation code from 2 ≡ true

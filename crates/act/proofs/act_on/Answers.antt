@@ -6,8 +6,8 @@ use Rattle.act.proofs.act_on.Goals as goal
 pub act_at-requires : goal.act_at-requires
 act_at-requires c = search about_place
 
-pub returns-in-At : goal.returns-in-At
-returns-in-At c = search about_found
+pub returns-in-Some : goal.returns-in-Some
+returns-in-Some c = search about_found
 
-pub returns-in-Nothing : goal.returns-in-Nothing
-returns-in-Nothing c = search about_none
+pub returns-in-None : goal.returns-in-None
+returns-in-None c = search about_none

@@ -2,10 +2,9 @@
 -- Assumes nothing.
 use native.Mathlib.Omega.{arith}
 use mathlib.Core.Path.{refl}
-use Rattle.tags.specs.Tags.{batch_item}
-use Rattle.named_write.proofs.Compose.{puts_group}
+use Rattle.std.proofs.Common.{rules}
+use Rattle.named_write.proofs.Compose.{puts_around}
 use Rattle.answer_write.proofs.write_answer.Goals as goal
 
 pub returns : goal.returns
-returns c =
-    puts_group batch_item refl c.args.out.now c.write_answer_items-size.ensures c.write_structure.ensures (omega arith) (omega arith)
+returns c = puts_around 384 refl (λ n left ran. search rules) c.write_around.ensures (omega arith) (omega arith)

@@ -14,5 +14,5 @@ pub returns : goal.returns
 unfolding answer_items join
 returns c =
     let a = c.args in
-    let operation = puts_word operation_tag enumeration a.operation c.write_enumeration.ensures (omega arith) in
+    let operation = puts_word operation_tag enumeration a.operation c.write_number.ensures (omega arith) in
     rw (← id_join (take a.id.len a.id.bytes) (outcome_items a.outcome)) (puts_then (puts_then operation c.write_id-n.ensures) c.write_outcome-m.ensures)

@@ -15,5 +15,5 @@ pub returns : goal.returns
 unfolding join
 returns c =
     let a = c.args in
-    let typed = puts_word object_type enumeration symmetric_key c.write_enumeration.ensures (omega arith) in
+    let typed = puts_word object_type enumeration symmetric_key c.write_number.ensures (omega arith) in
     puts_then typed (puts_named unique_identifier a.serial refl c.write_named-n.ensures (omega (arith, holds_left typed.holds)))

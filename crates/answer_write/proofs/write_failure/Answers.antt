@@ -14,6 +14,6 @@ pub returns : goal.returns
 unfolding outcome_items join
 returns c =
     let a = c.args in
-    let status = puts_word result_status enumeration operation_failed c.write_enumeration.ensures (omega arith) in
+    let status = puts_word result_status enumeration operation_failed c.write_number.ensures (omega arith) in
     let number : c.reason_number.result ≡ reason_number a.reason = c.reason_number.ensures in
-    rw (← number) (then_word status result_reason enumeration c.reason_number.result c.write_enumeration-2.ensures (omega arith))
+    rw (← number) (then_word status result_reason enumeration c.reason_number.result c.write_number-2.ensures (omega arith))

@@ -1,17 +1,34 @@
--- `answer_write::write_success`. The status, and the head of the payload behind it.
+-- `answer_write::write_success`. The status, and the payload in its head behind it.
 -- Assumes nothing.
 use native.Mathlib.Omega.{arith}
-use mathlib.Core.Path.{refl}
-use Rattle.ttlv_types.specs.Types.{enumeration}
-use Rattle.tags.specs.Tags.{result_status, response_payload}
-use Rattle.ttlv_put.proofs.Holds.{holds_then, holds_left}
-use Rattle.rules.specs.Numbers.{success}
-use Rattle.named_write.proofs.Compose.{puts_word, holds_structure}
+use mathlib.Core.Path.{refl, ◌∙◌}
+use Prim.Native.Nat.{◌+◌}
+use Rattle.tags.specs.Tags.{response_payload}
+use Rattle.ttlv.specs.Items.{nil, group}
+use Rattle.ttlv_put.specs.Write.{join}
+use Rattle.named_write.specs.Puts.{Puts}
+use Rattle.named_write.proofs.Compose.{puts_then, puts_within, puts_around}
+use Rattle.answer_write.proofs.Success.{status, status_left, payload_room}
 use Rattle.answer_write.proofs.write_success.Goals as goal
 
+pub write_around-n-requires : goal.write_around-n-requires
+write_around-n-requires g c =
+    let w = c.write_number.ensures in
+    let e = payload_room w c.requires.room in
+    record {
+      room = omega (arith, status_left w c.requires.room);
+      callable = λ p q. c.requires.callable p (q ∙ e);
+      within = λ n left ran. omega (arith, status_left w c.requires.room, c.requires.within n left (rw e at ran));
+    }
+
+pub overflow_add-result : goal.overflow_add-result
+overflow_add-result g c =
+    let a = c.write_around-n.ensures in
+    omega (arith, a.answer, c.requires.within _ _ (rw (payload_room c.write_number.ensures c.requires.room) at a.ran))
+
 pub returns : goal.returns
-returns c =
-    let a = c.args in
-    let status = puts_word result_status enumeration success c.write_enumeration.ensures (omega arith) in
-    let opens = holds_structure response_payload a.n refl c.write_structure.ensures (omega arith) (omega arith) (omega (arith, holds_left status.holds)) in
-    (refl, holds_then status.holds opens)
+unfolding join
+returns g c most t p s =
+    let e = payload_room c.write_number.ensures c.requires.room in
+    let payload : Puts (8 + most) (group response_payload t nil) _ _ c.write_around-n.result = puts_around most refl (λ n left ran. rw e (p n left (rw e at ran))) c.write_around-n.ensures (omega (arith, status_left c.write_number.ensures c.requires.room)) (omega arith) in
+    puts_within (puts_then (status c.write_number.ensures c.requires.room) payload) (omega arith)

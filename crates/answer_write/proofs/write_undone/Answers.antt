@@ -10,4 +10,4 @@ use Rattle.answer_write.proofs.write_undone.Goals as goal
 
 pub returns : goal.returns
 unfolding outcome_items
-returns c = puts_word result_status enumeration operation_undone c.write_enumeration.ensures (omega arith)
+returns c = puts_word result_status enumeration operation_undone c.write_number.ensures (omega arith)

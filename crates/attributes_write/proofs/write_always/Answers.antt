@@ -12,7 +12,7 @@ pub returns : goal.returns
 unfolding join
 returns c =
     let a = c.args in
-    let algorithm = puts_word cryptographic_algorithm enumeration aes c.write_enumeration.ensures (omega arith) in
-    let bits = then_word algorithm cryptographic_length integer a.bits c.write_integer.ensures (omega arith) in
-    let mask = then_word bits cryptographic_usage_mask integer a.mask c.write_integer-2.ensures (omega arith) in
-    then_word mask state_tag enumeration a.state c.write_enumeration-2.ensures (omega arith)
+    let algorithm = puts_word cryptographic_algorithm enumeration aes c.write_number.ensures (omega arith) in
+    let bits = then_word algorithm cryptographic_length integer a.bits c.write_number-2.ensures (omega arith) in
+    let mask = then_word bits cryptographic_usage_mask integer a.mask c.write_number-3.ensures (omega arith) in
+    then_word mask state_tag enumeration a.state c.write_number-4.ensures (omega arith)

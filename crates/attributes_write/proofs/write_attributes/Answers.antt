@@ -2,10 +2,9 @@
 -- Assumes nothing.
 use native.Mathlib.Omega.{arith}
 use mathlib.Core.Path.{refl}
-use Rattle.tags.specs.Tags.{attributes}
-use Rattle.named_write.proofs.Compose.{puts_group}
+use Rattle.std.proofs.Common.{rules}
+use Rattle.named_write.proofs.Compose.{puts_around}
 use Rattle.attributes_write.proofs.write_attributes.Goals as goal
 
 pub returns : goal.returns
-returns c =
-    puts_group attributes refl c.args.out.now c.write_attribute_items-n.ensures c.write_structure.ensures (omega arith) (omega arith)
+returns c = puts_around 296 refl (λ n left ran. search rules) c.write_around.ensures (omega arith) (omega arith)

@@ -13,5 +13,5 @@ returns-then-date-eq0 c = puts_absent _ (eq-eqb c.args.date 0 c.if-date-eq0.true
 pub returns : goal.returns
 unfolding date_items
 returns c =
-    let w = rw c.requires.1 at c.write_date_time.ensures in
+    let w = rw c.requires.1 at c.write_number.ensures in
     puts_present (ne_eqb c.args.date 0 c.if-date-eq0.false) (puts_long c.args.tag date_time c.args.date w c.requires.0)

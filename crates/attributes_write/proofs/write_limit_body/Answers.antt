@@ -11,6 +11,6 @@ pub returns : goal.returns
 unfolding join
 returns c =
     let a = c.args in
-    let total = puts_long usage_limits_total long_integer a.total c.write_long.ensures (omega arith) in
-    let count = then_long total usage_limits_count long_integer a.count c.write_long-2.ensures (omega arith) in
-    then_word count usage_limits_unit enumeration a.unit c.write_enumeration.ensures (omega arith)
+    let total = puts_long usage_limits_total long_integer a.total c.write_number.ensures (omega arith) in
+    let count = then_long total usage_limits_count long_integer a.count c.write_number-2.ensures (omega arith) in
+    then_word count usage_limits_unit enumeration a.unit c.write_number-3.ensures (omega arith)

@@ -2,10 +2,10 @@
 -- Assumes nothing.
 use native.Mathlib.Omega.{arith}
 use mathlib.Core.Path.{refl}
-use Rattle.tags.specs.Tags.{usage_limits}
+use Rattle.std.proofs.Common.{rules}
 use borrow.Author.Tests.{eq-eqb, ne_eqb}
 use Rattle.answer.specs.Respond.{limit_items}
-use Rattle.named_write.proofs.Compose.{puts_absent, puts_present, puts_group}
+use Rattle.named_write.proofs.Compose.{puts_absent, puts_present, puts_around}
 use Rattle.attributes_write.proofs.write_limits.Goals as goal
 
 pub returns-then-shown-eq0 : goal.returns-then-shown-eq0
@@ -17,4 +17,4 @@ pub returns : goal.returns
 unfolding limit_items
 returns c =
     let a = c.args in
-    puts_present (ne_eqb a.shown.unit 0 c.if-shown-eq0.false) (puts_group usage_limits refl a.out.now c.write_limit_body-n.ensures c.write_structure.ensures (omega arith) (omega arith))
+    puts_present (ne_eqb a.shown.unit 0 c.if-shown-eq0.false) (puts_around 48 refl (λ n left ran. search rules) c.write_around.ensures (omega arith) (omega arith))

@@ -2,10 +2,10 @@
 -- Assumes nothing.
 use native.Mathlib.Omega.{arith}
 use mathlib.Core.Path.{refl}
-use Rattle.tags.specs.Tags.{link}
+use Rattle.std.proofs.Common.{rules}
 use borrow.Author.Tests.{eq-eqb, ne_eqb}
 use Rattle.answer.specs.Respond.{link_items}
-use Rattle.named_write.proofs.Compose.{puts_absent, puts_present, puts_group}
+use Rattle.named_write.proofs.Compose.{puts_absent, puts_present, puts_around}
 use Rattle.attributes_write.proofs.write_link.Goals as goal
 
 pub returns-then-serial-eq0 : goal.returns-then-serial-eq0
@@ -17,4 +17,4 @@ pub returns : goal.returns
 unfolding link_items
 returns c =
     let a = c.args in
-    puts_present (ne_eqb a.serial 0 c.if-serial-eq0.false) (puts_group link refl a.out.now c.write_link_body-n.ensures c.write_structure.ensures (omega arith) (omega arith))
+    puts_present (ne_eqb a.serial 0 c.if-serial-eq0.false) (puts_around 32 refl (λ n left ran. search rules) c.write_around.ensures (omega arith) (omega arith))

@@ -14,5 +14,5 @@ pub returns : goal.returns
 unfolding join
 returns c =
     let a = c.args in
-    let typed = puts_word link_type enumeration a.kind c.write_enumeration.ensures (omega arith) in
+    let typed = puts_word link_type enumeration a.kind c.write_number.ensures (omega arith) in
     puts_then typed (puts_named linked_object_identifier a.serial refl c.write_named-n.ensures (omega (arith, holds_left typed.holds)))

@@ -12,8 +12,8 @@ overflow_add-serial c = let unissued : c.last_serial-serial.result ≡ serial_mo
 pub put_born-requires : goal.put_born-requires
 put_born-requires c = search new_place_lem
 
-pub returns-in-At : goal.returns-in-At
-returns-in-At c = search creates
+pub returns-in-Some : goal.returns-in-Some
+returns-in-Some c = search creates
 
-pub returns-in-Nothing : goal.returns-in-Nothing
-returns-in-Nothing c = search create_full
+pub returns-in-None : goal.returns-in-None
+returns-in-None c = search create_full

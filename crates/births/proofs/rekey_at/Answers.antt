@@ -9,12 +9,12 @@ returns-then-is_destroyed c = search rekey_destroyed
 pub returns-then-old-ne0 : goal.returns-then-old-ne0
 returns-then-old-ne0 c = search rekey_twice
 
-pub returns-in-Dated : goal.returns-in-Dated
-returns-in-Dated c =
+pub returns-in-Some : goal.returns-in-Some
+returns-in-Some c =
     rekeys _ _ _ _ _ _ c.load-old.ensures _ c.is_destroyed.ensures c.if-is_destroyed.false c.if-old-ne0.false
-    _ c.latest_clock.ensures _ c.heir_dates.ensures _ _ c.in-Dated.is _ c.replace_at.ensures
+    _ c.latest_clock.ensures _ c.heir_dates.ensures _ c.in-Some.is _ c.replace_at.ensures
 
-pub returns-in-OffsetWrong : goal.returns-in-OffsetWrong
-returns-in-OffsetWrong c =
+pub returns-in-None : goal.returns-in-None
+returns-in-None c =
     rekey_wrong _ _ _ _ _ _ c.load-old.ensures _ c.is_destroyed.ensures c.if-is_destroyed.false c.if-old-ne0.false
-    _ c.latest_clock.ensures _ c.heir_dates.ensures c.in-OffsetWrong.is _ c.fail-in-OffsetWrong.ensures
+    _ c.latest_clock.ensures _ c.heir_dates.ensures c.in-None.is _ c.fail-in-None.ensures

@@ -12,10 +12,10 @@ overflow_add-serial c = let unissued : c.last_serial-serial.result ≡ serial_mo
 pub put_heir-requires : goal.put_heir-requires
 put_heir-requires c = search heir_place
 
-pub returns-in-At : goal.returns-in-At
-returns-in-At c =
-    replaces _ _ _ _ _ _ _ _ c.place_for_new.ensures _ c.in-At.is _ c.last_serial-serial.ensures
+pub returns-in-Some : goal.returns-in-Some
+returns-in-Some c =
+    replaces _ _ _ _ _ _ _ c.place_for_new.ensures _ c.in-Some.is _ c.last_serial-serial.ensures
     _ c.latest_clock-clock.ensures _ c.heir_of-heir.ensures _ c.put_heir.ensures
 
-pub returns-in-Nothing : goal.returns-in-Nothing
-returns-in-Nothing c = search replace_full
+pub returns-in-None : goal.returns-in-None
+returns-in-None c = search replace_full

@@ -5,9 +5,9 @@ use Rattle.hex_text.proofs.Texts.{count_within}
 use Rattle.cards_ttlv.proofs.card.Goals as goal
 
 pub slice_bounds-bytes-end : goal.slice_bounds-bytes-end
-slice_bounds-bytes-end g c = let w = count_within c.bytes_in.ensures c.in-Count.is in omega arith
+slice_bounds-bytes-end g c = let w = count_within c.bytes_in.ensures c.in-Some.is in omega arith
 
 pub slice_bounds-verdict-end : goal.slice_bounds-verdict-end
 slice_bounds-verdict-end g c =
-    let w = count_within c.bytes_in.ensures c.in-Count.is in
+    let w = count_within c.bytes_in.ensures c.in-Some.is in
     rw length-take (omega arith)

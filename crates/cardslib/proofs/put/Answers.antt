@@ -5,9 +5,9 @@ use Rattle.hex_text.proofs.Texts.{count_within}
 use Rattle.cardslib.proofs.put.Goals as goal
 
 pub slice_bounds-bytes-end : goal.slice_bounds-bytes-end
-slice_bounds-bytes-end c = let w = count_within c.bytes_in.ensures c.in-Count.is in omega arith
+slice_bounds-bytes-end c = let w = count_within c.bytes_in.ensures c.in-Some-bytes_in.is in omega arith
 
 pub slice_bounds-put_all-end : goal.slice_bounds-put_all-end
 slice_bounds-put_all-end c =
-    let w = count_within c.bytes_in.ensures c.in-Count.is in
+    let w = count_within c.bytes_in.ensures c.in-Some-bytes_in.is in
     rw length-take (omega arith)

@@ -6,4 +6,4 @@ use Rattle.dates.proofs.begin.Goals as goal
 pub returns : goal.returns
 returns c =
     let a = c.args in
-    begins a.n a.given a.t.now _ _ c.latest_clock-latest.ensures c.later-clock.ensures _ c.set_latest_clock.ensures _ c.ripen.ensures
+    begins a.n a.given a.t.now _ _ c.latest_clock-latest.ensures c.max-clock.ensures _ c.set_latest_clock.ensures _ c.ripen.ensures

@@ -17,4 +17,4 @@ loop-i-preserved c =
     (search rules, ap (left a.n a.clock _) c.ripen_at.ensures ∙ left_more a.n a.clock l.t l.i (omega arith) ∙ l.invariant.1)
 
 pub returns : goal.returns
-returns c = sym (left_end _ _ _ _ c.loop-i-test.false) ∙ c.loop-i.invariant.1
+returns c = sym (left_end c.args.n c.args.clock c.loop-i.t c.loop-i.i (omega arith)) ∙ c.loop-i.invariant.1

@@ -1,6 +1,5 @@
 -- `ripen` meets its contract: what is left of the sweep gives the whole.
 -- Assumes nothing.
-use Prim.Native.Nat.{◌-◌}
 use mathlib.Core.Path.{◌≡◌}
 use Rattle.table.specs.Layout.{Table}
 use Rattle.changes.specs.Dates.{ripe_from}
@@ -9,6 +8,3 @@ use Rattle.dates.proofs.ripen.Given as goal
 
 abbrev pub invariant-loop-i : goal.invariant-loop-i
 invariant-loop-i l = Table l.n l.t × (left l.n l.clock l.i l.t ≡ ripe_from l.n l.clock 0 l.n l.initial.t)
-
-abbrev pub decreases-loop-i : goal.decreases-loop-i
-decreases-loop-i l = l.n - l.i

@@ -3,8 +3,8 @@
 use Rattle.deeds.proofs.Returns.{grants, grant_denied}
 use Rattle.deeds.proofs.allocate_at.Goals as goal
 
-pub returns-in-Left : goal.returns-in-Left
-returns-in-Left c = search grants
+pub returns-in-Ok : goal.returns-in-Ok
+returns-in-Ok c = search grants
 
-pub returns-in-Denied : goal.returns-in-Denied
-returns-in-Denied c = search grant_denied
+pub returns-in-Err : goal.returns-in-Err
+returns-in-Err c = search grant_denied

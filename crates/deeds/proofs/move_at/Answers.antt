@@ -7,12 +7,12 @@ pub returns-then-is_late : goal.returns-then-is_late
 returns-then-is_late c =
     move_late _ _ _ _ _ _ _ c.load-old.ensures _ c.latest_clock-clock.ensures _ c.is_late.ensures c.if-is_late.true _ c.fail.ensures
 
-pub returns-in-To : goal.returns-in-To
-returns-in-To c =
+pub returns-in-Ok : goal.returns-in-Ok
+returns-in-Ok c =
     moves _ _ _ _ _ _ _ c.load-old.ensures _ c.latest_clock-clock.ensures _ c.is_late.ensures c.if-is_late.false
-    _ c.next_state.ensures _ c.in-To.is _ c.moved_to-moved.ensures _ c.store_at.ensures
+    _ c.next_state.ensures _ c.in-Ok.is _ c.moved_to-moved.ensures _ c.store_at.ensures
 
-pub returns-in-Fails : goal.returns-in-Fails
-returns-in-Fails c =
+pub returns-in-Err : goal.returns-in-Err
+returns-in-Err c =
     move_fails _ _ _ _ _ _ _ c.load-old.ensures _ c.latest_clock-clock.ensures _ c.is_late.ensures c.if-is_late.false
-    _ c.next_state.ensures _ c.in-Fails.is _ c.fail-in-Fails.ensures
+    _ c.next_state.ensures _ c.in-Err.is _ c.fail-in-Err.ensures

@@ -1,4 +1,4 @@
--- `ttlv::body_field`. By cases on the item at the front and its tag.
+-- `fields::body_field`. By cases on the item at the front and its tag.
 -- Assumes nothing.
 use mathlib.Core.Path.{◌≡◌, sym, ap, ◌∙◌}
 use Rattle.ttlv.specs.declared.First.TheVariants.{Group}

@@ -1,10 +1,10 @@
--- `ttlv::bytes_field`. By cases on the item at the front, its tag and its type.
+-- `fields::bytes_field`. By cases on the item at the front, its tag and its type.
 -- Assumes nothing.
 use mathlib.Core.Path.{◌≡◌, sym, ap, ◌∙◌}
 use Rattle.ttlv.specs.declared.First.TheVariants.{Value}
 use Rattle.fields.specs.Found.{bytes_in, bytes_at}
 use Rattle.fields.proofs.Found.{no_value_first, other_tag, other_kind, wanted}
-use Rattle.fields.proofs.bytes_field.Goals.{In-Value}
+use Rattle.fields.proofs.bytes_field.Goals.{In-Value, then-found-tag-via-then-found-tag, then-found-tag-via-else-found-tag+then-typed-kind}
 use Rattle.fields.proofs.bytes_field.Goals as goal
 
 pub returns-in_default : goal.returns-in_default
@@ -24,10 +24,12 @@ front c =
     ap (bytes_in asked.tag asked.kind) (sym c.read_first.ensures ∙ c.in-Value.is)
 
 pub returns-then-found-tag : goal.returns-then-found-tag
-returns-then-found-tag c = sym (front (goal.at.returns-then-found-tag c).In-Value ∙ other_tag _ _ _ _ _ _ c.if-found-tag.true)
-
-pub returns-then-typed-kind : goal.returns-then-typed-kind
-returns-then-typed-kind c = sym (front (goal.at.returns-then-typed-kind c).In-Value ∙ other_kind _ _ _ _ _ _ c.if-found-tag.false c.if-typed-kind.true)
+returns-then-found-tag c =
+    let at = front (goal.at.returns-then-found-tag c).In-Value in
+    elim c.then-found-tag.branch [
+      | then-found-tag-via-then-found-tag w ↦ sym (at ∙ other_tag _ _ _ _ _ _ w.if-found-tag.true)
+      | then-found-tag-via-else-found-tag+then-typed-kind w ↦ sym (at ∙ other_kind _ _ _ _ _ _ w.if-found-tag.false w.if-typed-kind.true)
+    ]
 
 pub returns : goal.returns
 returns c = sym (front (goal.at.returns c).In-Value ∙ wanted _ _ _ _ _ _ c.if-found-tag.false c.if-typed-kind.false)

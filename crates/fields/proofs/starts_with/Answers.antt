@@ -1,11 +1,12 @@
--- `ttlv::starts_with`. By the tag's three bytes, then by the item at the front.
+-- `fields::starts_with`. By the tag's three bytes, then by the item at the front.
 -- Assumes nothing.
+use mathlib.Core.Logic.{inl, inr}
 use mathlib.Core.Path.{sym, ap, ◌∙◌}
 use Prim.Native.Nat.{◌^◌, ◌<◌}
 use native.Mathlib.Omega.{arith}
 use Rattle.octets.specs.Octets.{from_be}
 use Rattle.ttlv.proofs.Eight.{eight_part, eight_below}
-use Rattle.fields.proofs.Starts.{starts_short, starts_other, starts_end, starts_bad, starts_value, starts_group}
+use Rattle.fields.proofs.Starts.{starts_short, starts_other, starts_none, starts_value, starts_group}
 use Rattle.fields.proofs.starts_with.Goals as goal
 
 pub returns-then-s-lt8 : goal.returns-then-s-lt8
@@ -25,13 +26,8 @@ returns-then-front-tag c =
 
 pub returns-in-End : goal.returns-in-End
 returns-in-End c =
-    let a = c.args in
-    sym (starts_end a.s.now a.tag (sym c.read_first.ensures ∙ c.in-End.is))
-
-pub returns-in-Bad : goal.returns-in-Bad
-returns-in-Bad c =
-    let a = c.args in
-    sym (starts_bad a.s.now a.tag (sym c.read_first.ensures ∙ c.in-Bad.is))
+    let first = sym c.read_first.ensures in
+    sym (starts_none c.args.s.now c.args.tag (elim c.in-End.is [ inl e ↦ inl (first ∙ e) | inr e ↦ inr (first ∙ e) ]))
 
 pub returns-in-Value : goal.returns-in-Value
 returns-in-Value c =

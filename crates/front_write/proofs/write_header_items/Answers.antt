@@ -12,5 +12,5 @@ pub returns : goal.returns
 unfolding header_items version_items join
 returns c =
     let a = c.args in
-    let stamp = then_long c.write_version-n.ensures time_stamp date_time a.clock c.write_date_time.ensures (omega arith) in
-    then_word stamp batch_count integer a.count c.write_integer.ensures (omega arith)
+    let stamp = then_long c.write_version-n.ensures time_stamp date_time a.clock c.write_number.ensures (omega arith) in
+    then_word stamp batch_count integer a.count c.write_number-2.ensures (omega arith)

@@ -10,5 +10,5 @@ use Rattle.front_write.proofs.write_version_body.Goals as goal
 pub returns : goal.returns
 unfolding join
 returns c =
-    let major = puts_word protocol_version_major integer 2 c.write_integer.ensures (omega arith) in
-    then_word major protocol_version_minor integer 1 c.write_integer-2.ensures (omega arith)
+    let major = puts_word protocol_version_major integer 2 c.write_number.ensures (omega arith) in
+    then_word major protocol_version_minor integer 1 c.write_number-2.ensures (omega arith)

@@ -10,5 +10,6 @@ use Rattle.junctionmoth.proofs.junctionmoth_serve.Goals as goal
 pub returns : goal.returns
 returns c =
     let d = c.serve-served in
-    call_is c.args.request.now c.args.table.now c.args.fresh.now _ _ c.args.out.now c.args.undo.now d.result d.new.table d.new.out d.new.undo
-    (ap (of_z w64) (to_z-of_z c.ranges.clock)) d.ensures
+    rw c.told-number.ensures
+    (call_is c.args.request.now c.args.table.now c.args.fresh.now _ _ c.args.out.now c.args.undo.now d.result d.new.table d.new.out d.new.undo
+    (ap (of_z w64) (to_z-of_z c.ranges.clock)) d.ensures)

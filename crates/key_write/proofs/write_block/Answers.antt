@@ -2,10 +2,9 @@
 -- Assumes nothing.
 use native.Mathlib.Omega.{arith}
 use mathlib.Core.Path.{refl}
-use Rattle.tags.specs.Tags.{key_block}
-use Rattle.named_write.proofs.Compose.{puts_group}
+use Rattle.std.proofs.Common.{rules}
+use Rattle.named_write.proofs.Compose.{puts_around}
 use Rattle.key_write.proofs.write_block.Goals as goal
 
 pub returns : goal.returns
-returns c =
-    puts_group key_block refl c.args.out.now c.write_block_items-n.ensures c.write_structure.ensures (omega arith) (omega arith)
+returns c = puts_around 96 refl (λ n left ran. search rules) c.write_around.ensures (omega arith) (omega arith)

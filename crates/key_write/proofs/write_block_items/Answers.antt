@@ -11,4 +11,4 @@ use Rattle.key_write.proofs.write_block_items.Goals as goal
 pub returns : goal.returns
 unfolding join
 returns c =
-    puts_then (puts_then (puts_word key_format_type enumeration raw c.write_enumeration.ensures (omega arith)) c.write_key_value-n.ensures) c.write_form-m.ensures
+    puts_then (puts_then (puts_word key_format_type enumeration raw c.write_number.ensures (omega arith)) c.write_key_value-n.ensures) c.write_form-m.ensures

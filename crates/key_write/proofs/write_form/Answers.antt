@@ -12,4 +12,4 @@ pub returns : goal.returns
 unfolding join
 returns c =
     let a = c.args in
-    then_word (puts_word cryptographic_algorithm enumeration aes c.write_enumeration.ensures (omega arith)) cryptographic_length integer a.bits c.write_integer.ensures (omega arith)
+    then_word (puts_word cryptographic_algorithm enumeration aes c.write_number.ensures (omega arith)) cryptographic_length integer a.bits c.write_number-2.ensures (omega arith)

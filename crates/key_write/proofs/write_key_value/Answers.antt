@@ -2,10 +2,9 @@
 -- Assumes nothing.
 use native.Mathlib.Omega.{arith}
 use mathlib.Core.Path.{refl}
-use Rattle.tags.specs.Tags.{key_value}
-use Rattle.named_write.proofs.Compose.{puts_group}
+use Rattle.std.proofs.Common.{rules}
+use Rattle.named_write.proofs.Compose.{puts_around}
 use Rattle.key_write.proofs.write_key_value.Goals as goal
 
 pub returns : goal.returns
-returns c =
-    puts_group key_value refl c.args.out.now c.write_material-n.ensures c.write_structure.ensures (omega arith) (omega arith)
+returns c = puts_around 40 refl (λ n left ran. search rules) c.write_around.ensures (omega arith) (omega arith)

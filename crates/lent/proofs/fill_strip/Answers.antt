@@ -1,8 +1,7 @@
 -- `lent::fill_strip`. What is written counts up from 0.
 -- Assumes nothing.
-use Prim.Native.Nat.{◌-◌}
 use mathlib.Core.Path.{◌≡◌, refl, sym, ap, ◌∙◌}
-use lib.ListN.{length, length-set}
+use lib.ListN.{length}
 use lib.Seq.{take_all}
 use native.Mathlib.Omega.{arith}
 use Rattle.octets.specs.Octets.{counted_from}
@@ -11,18 +10,13 @@ use Rattle.lent.proofs.fill_strip.Goals as goal
 
 pub loop-i-init : goal.loop-i-init
 unfolding counted_from
-loop-i-init c = (refl, (omega arith, refl))
-
-pub loop-i-smaller : goal.loop-i-smaller
-loop-i-smaller c = rw length-set (omega arith)
+loop-i-init c = refl
 
 pub loop-i-preserved : goal.loop-i-preserved
-loop-i-preserved c =
-    let k = c.loop-i in
-    (rw length-set k.invariant.0, (rw length-set (omega arith), counted_on k.s k.i (omega arith) k.invariant.1.1))
+loop-i-preserved c = counted_on c.loop-i.s c.loop-i.i (omega arith) c.loop-i.invariant
 
 pub returns : goal.returns
 returns c =
     let l = c.loop-i in
-    let end : l.i ≡ length c.args.s.now = let size = l.invariant.0 in omega arith in
-    sym (take_all l.i l.s (omega arith)) ∙ l.invariant.1.1 ∙ ap (counted_from 0) end
+    let end : l.i ≡ length c.args.s.now = omega arith in
+    sym (take_all l.i l.s (omega arith)) ∙ l.invariant ∙ ap (counted_from 0) end

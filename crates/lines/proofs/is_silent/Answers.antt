@@ -1,11 +1,12 @@
 -- `lines::is_silent`. By whether there is a first byte.
 -- Assumes nothing.
-use mathlib.Core.Path.{sym}
+use mathlib.Core.Path.{sym, ◌∙◌}
+use borrow.Author.Tests.{eqb-true, eqb-false}
 use Rattle.lines.proofs.Lines.{silent_none, silent_first}
 use Rattle.lines.proofs.is_silent.Goals as goal
 
-pub returns-then-line-eq0 : goal.returns-then-line-eq0
-returns-then-line-eq0 c = sym (silent_none c.args.line.now c.if-line-eq0.true)
+pub returns-then-is_empty : goal.returns-then-is_empty
+returns-then-is_empty c = c.if-is_empty.true ∙ sym (silent_none c.args.line.now (eqb-true _ _ (sym c.is_empty.ensures ∙ c.if-is_empty.true)))
 
-pub returns : goal.returns
-returns c = sym (silent_first c.args.line.now c.if-line-eq0.false)
+pub returns-else-is_empty : goal.returns-else-is_empty
+returns-else-is_empty c = sym (silent_first c.args.line.now (eqb-false _ _ (sym c.is_empty.ensures ∙ c.if-is_empty.false)))

@@ -6,8 +6,5 @@ use lib.ListN.{length, drop}
 use Rattle.lines.specs.Lines.{name_end}
 use Rattle.lines.proofs.name_end.Given as goal
 
-abbrev pub invariant-loop-colon : goal.invariant-loop-colon
-invariant-loop-colon l = (l.colon ≤ length l.s) × (name_end l.s ≡ l.colon + name_end (drop l.colon l.s))
-
-abbrev pub decreases-loop-colon : goal.decreases-loop-colon
-decreases-loop-colon l = length l.s - l.colon
+abbrev pub invariant-loop-i : goal.invariant-loop-i
+invariant-loop-i l = (l.i ≤ length l.s + 1) × (name_end l.s ≡ (l.i - 1) + name_end (drop (l.i - 1) l.s))

@@ -1,13 +1,13 @@
--- `locate::serial_named`. The serial at the place that was found.
+-- `locate::serial_named`. The serial of what is found, or 0.
 -- Assumes nothing.
-use Rattle.locate.proofs.Meets.{serial_there, serial_nowhere, line_there}
+use Rattle.std.proofs.Common.{rules}
+use Rattle.locate.proofs.Meets.{line_there}
+use Rattle.plans.specs.Plans.{serial_found}
 use Rattle.locate.proofs.serial_named.Goals as goal
 
-pub serial_at-requires : goal.serial_at-requires
-serial_at-requires c = search line_there
+pub map_or-requires : goal.map_or-requires
+map_or-requires c = λ i at. let there = line_there _ _ _ _ c.find_name.ensures c.requires i at in search rules
 
-pub returns-in-At : goal.returns-in-At
-returns-in-At c = search serial_there
-
-pub returns-in-Nothing : goal.returns-in-Nothing
-returns-in-Nothing c = search serial_nowhere
+pub returns : goal.returns
+unfolding serial_found
+returns c = search rules

@@ -1,14 +1,12 @@
--- `name_read::read_last_name`. Nothing is left, or a Name has to be.
+-- `name_read::read_last_name`. By whether anything is left.
 -- Assumes nothing.
 use mathlib.Core.Path.{sym, ap, ◌∙◌}
-use Rattle.name_read.specs.Readers.{name_read}
-use Rattle.name_read.specs.declared.NameRead.TheVariants.{Named}
+use Rattle.std.specs.Prelude.{Some}
 use Rattle.name_read.proofs.Read.{last_none, last_name}
 use Rattle.name_read.proofs.read_last_name.Goals as goal
 
-pub returns-then-s-eq0 : goal.returns-then-s-eq0
-unfolding name_read
-returns-then-s-eq0 c = ap Named c.no_name.ensures ∙ sym (ap name_read (last_none _ c.requires c.if-s-eq0.true))
+pub returns-then-is_empty : goal.returns-then-is_empty
+returns-then-is_empty c = ap Some c.no_name.ensures ∙ sym (last_none _ (sym c.if-is_empty.ensures))
 
 pub returns : goal.returns
-returns c = c.read_only_name.ensures ∙ sym (ap name_read (last_name _ c.requires c.if-s-eq0.false))
+returns c = c.read_only_name.ensures ∙ sym (last_name _ (sym c.if-is_empty.ensures))

@@ -2,10 +2,10 @@
 -- Assumes nothing.
 use native.Mathlib.Omega.{arith}
 use mathlib.Core.Path.{refl}
-use Rattle.tags.specs.Tags.{name_tag}
+use Rattle.std.proofs.Common.{rules}
 use borrow.Author.Tests.{eq-eqb, ne_eqb}
 use Rattle.answer.specs.Respond.{name_items}
-use Rattle.named_write.proofs.Compose.{puts_absent, puts_present, puts_group}
+use Rattle.named_write.proofs.Compose.{puts_absent, puts_present, puts_around}
 use Rattle.name_write.proofs.write_name.Goals as goal
 
 pub returns-then-name-eq0 : goal.returns-then-name-eq0
@@ -17,4 +17,4 @@ pub returns : goal.returns
 unfolding name_items
 returns c =
     let a = c.args in
-    puts_present (ne_eqb a.name.len 0 c.if-name-eq0.false) (puts_group name_tag refl a.out.now c.write_name_body-n.ensures c.write_structure.ensures (omega arith) (omega arith))
+    puts_present (ne_eqb a.name.len 0 c.if-name-eq0.false) (puts_around 56 refl (λ n left ran. search rules) c.write_around.ensures (omega arith) (omega arith))

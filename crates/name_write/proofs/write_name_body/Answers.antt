@@ -11,4 +11,4 @@ use Rattle.name_write.proofs.write_name_body.Goals as goal
 pub returns : goal.returns
 unfolding join
 returns c =
-    then_word c.write_name_value-n.ensures name_type enumeration uninterpreted_text c.write_enumeration.ensures (omega (arith, c.write_name_value-n.ensures.few))
+    then_word c.write_name_value-n.ensures name_type enumeration uninterpreted_text c.write_number.ensures (omega (arith, c.write_name_value-n.ensures.few))

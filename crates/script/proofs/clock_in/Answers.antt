@@ -1,28 +1,34 @@
 -- `script::clock_in`. By the first character.
 -- Assumes nothing.
-use Prim.Native.Nat.{◌-◌}
-use mathlib.Core.Path.{◌≡◌, sym, ap, ◌∙◌}
-use native.Mathlib.Omega.{arith}
-use lib.ListN.{length, drop, length-drop}
-use lib.Seq.{take_all}
-use borrow.Author.Tests.{eq-eqb, ne_eqb}
-use Rattle.octets.proofs.If.{ifb_true, ifb_false}
+use mathlib.Core.Path.{sym, ap, ◌∙◌}
+use borrow.Author.Tests.{eqb-true, eqb-false}
 use Rattle.script.specs.Numbers.{number_in, from_zero, below_zero}
-use Rattle.script.proofs.Numbers.{clock_empty, clock_starts}
+use Rattle.script.proofs.Numbers.{clock_empty, clock_minus, clock_plain, then_none, then_some, rest_of}
 use Rattle.script.proofs.clock_in.Goals as goal
 
-pub returns-then-s-eq0 : goal.returns-then-s-eq0
-returns-then-s-eq0 c = sym (clock_empty c.args.s.now c.if-s-eq0.true)
+pub returns-then-is_empty : goal.returns-then-is_empty
+returns-then-is_empty c = sym (clock_empty c.args.s.now (eqb-true _ _ (sym c.is_empty.ensures ∙ c.if-is_empty.true)))
+
+pub returns-in_err-number_in : goal.returns-in_err-number_in
+returns-in_err-number_in c =
+    let s = c.args.s.now in
+    let some = eqb-false _ _ (sym c.is_empty.ensures ∙ c.if-is_empty.false) in
+    c.from_residual.ensures ∙ sym (clock_minus s some c.if-s-eq45.true ∙ then_none below_zero (sym (c.in_err-number_in.ensures ∙ ap number_in (rest_of s))))
 
 pub returns-then-s-eq45 : goal.returns-then-s-eq45
 returns-then-s-eq45 c =
     let s = c.args.s.now in
-    let rest : length (drop 1 s) ≡ length s - 1 = length-drop 1 s in
-    let all = take_all (length s - 1) (drop 1 s) (omega arith) in
-    c.below_zero.ensures ∙ ap below_zero (c.number_in.ensures ∙ ap number_in all)
-    ∙ sym (clock_starts s c.if-s-eq0.false ∙ ifb_true _ _ _ (eq-eqb _ _ c.if-s-eq45.true))
+    let some = eqb-false _ _ (sym c.is_empty.ensures ∙ c.if-is_empty.false) in
+    c.below_zero.ensures ∙ sym (clock_minus s some c.if-s-eq45.true ∙ then_some below_zero (sym (c.in_ok-number_in.ensures ∙ ap number_in (rest_of s))))
+
+pub returns-in_err-number_in-2 : goal.returns-in_err-number_in-2
+returns-in_err-number_in-2 c =
+    let s = c.args.s.now in
+    let some = eqb-false _ _ (sym c.is_empty.ensures ∙ c.if-is_empty.false) in
+    c.from_residual-in_err-number_in-2.ensures ∙ sym (clock_plain s some c.if-s-eq45.false ∙ then_none from_zero (sym c.in_err-number_in-2.ensures))
 
 pub returns : goal.returns
 returns c =
-    c.from_zero.ensures ∙ ap from_zero c.number_in-2.ensures
-    ∙ sym (clock_starts (c.args.s.now) c.if-s-eq0.false ∙ ifb_false _ _ _ (ne_eqb _ _ c.if-s-eq45.false))
+    let s = c.args.s.now in
+    let some = eqb-false _ _ (sym c.is_empty.ensures ∙ c.if-is_empty.false) in
+    c.from_zero.ensures ∙ sym (clock_plain s some c.if-s-eq45.false ∙ then_some from_zero (sym c.in_ok-number_in-2.ensures))

@@ -1,6 +1,10 @@
--- `settle::failure_of`. Outcome by outcome.
+-- `settle::failure_of`. A failure, and every other outcome.
 -- Assumes nothing.
-use mathlib.Core.Path.{sym, ap}
+use mathlib.Core.Path.{◌≡◌, refl, sym, ap}
+use Rattle.std.specs.Prelude.{Option, None}
+use Rattle.rules.specs.declared.Reason.{Reason}
+use Rattle.plans.specs.declared.Outcome.{Outcome}
+use Rattle.plans.specs.declared.Outcome.TheVariants.{Failed, Created, Done, Showed, Got, Located, Undone}
 use Rattle.settle.specs.Trials.{failure_of}
 use Rattle.settle.proofs.failure_of.Goals as goal
 
@@ -8,26 +12,15 @@ pub returns-in-Failed : goal.returns-in-Failed
 unfolding failure_of
 returns-in-Failed c = sym (ap failure_of c.in-Failed.is)
 
-pub returns-in-Created : goal.returns-in-Created
+other : (o : Outcome) → ((reason : Reason) → o ≡ Failed reason → ⊥) → None ≡ failure_of o
 unfolding failure_of
-returns-in-Created c = sym (ap failure_of c.in-Created.is)
+other (Failed reason) h = absurd (h reason refl)
+other (Created serial) h = refl
+other (Done serial) h = refl
+other (Showed shown) h = refl
+other (Got key) h = refl
+other (Located serial) h = refl
+other Undone h = refl
 
-pub returns-in-Done : goal.returns-in-Done
-unfolding failure_of
-returns-in-Done c = sym (ap failure_of c.in-Done.is)
-
-pub returns-in-Showed : goal.returns-in-Showed
-unfolding failure_of
-returns-in-Showed c = sym (ap failure_of c.in-Showed.is)
-
-pub returns-in-Got : goal.returns-in-Got
-unfolding failure_of
-returns-in-Got c = sym (ap failure_of c.in-Got.is)
-
-pub returns-in-Located : goal.returns-in-Located
-unfolding failure_of
-returns-in-Located c = sym (ap failure_of c.in-Located.is)
-
-pub returns-in-Undone : goal.returns-in-Undone
-unfolding failure_of
-returns-in-Undone c = sym (ap failure_of c.in-Undone.is)
+pub returns-in_default : goal.returns-in_default
+returns-in_default c = other c.args.outcome c.in_default.not-Failed

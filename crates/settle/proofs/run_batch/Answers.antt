@@ -11,12 +11,12 @@ returns-then-option-ne-UNDO c =
 
 -- ---- Undo
 
-pub returns-in-Passes : goal.returns-in-Passes
-returns-in-Passes c =
-    passes_is c.requires c.if-option-ne-UNDO.false c.put_all.ensures c.try_items-trial.ensures c.try_items-trial.auto.table c.put_all-2.ensures
-    c.in-Passes.is c.run_items-in-Passes.ensures
+pub returns-in-None : goal.returns-in-None
+returns-in-None c =
+    passes_is c.requires c.if-option-ne-UNDO.false c.put_all.ensures c.try_items-failure.ensures c.try_items-failure.auto.table c.put_all-2.ensures
+    c.in-None.is c.run_items-in-None.ensures
 
-pub returns-in-FailsAt : goal.returns-in-FailsAt
-returns-in-FailsAt c =
-    fails_is c.requires c.if-option-ne-UNDO.false c.put_all.ensures c.try_items-trial.ensures c.try_items-trial.auto.table c.put_all-2.ensures
-    _ _ c.in-FailsAt.is c.tell_undone.ensures
+pub returns-in-Some : goal.returns-in-Some
+returns-in-Some c =
+    fails_is c.requires c.if-option-ne-UNDO.false c.put_all.ensures c.try_items-failure.ensures c.try_items-failure.auto.table c.put_all-2.ensures
+    _ _ c.in-Some.is c.tell_undone.ensures

@@ -1,6 +1,6 @@
 -- `soundness::is_sound`. The places counted so far have passed; the law of the check says the rest.
 -- Assumes nothing.
-use Prim.Native.Nat.{◌+◌, ◌≤◌, ◌<◌, max}
+use Prim.Native.Nat.{◌+◌, max}
 use mathlib.Core.Path.{◌≡◌, sym, ap, ◌∙◌, subst}
 use mathlib.Core.Bool.{true}
 use native.Mathlib.Nat.{not-suc-le-zero}
@@ -34,48 +34,37 @@ pub latest_clock-latest-requires : goal.latest_clock-latest-requires
 latest_clock-latest-requires c = omega (arith, sized (goal.at.latest_clock-latest-requires c).Else-not-whole_right)
 
 pub loop-i-init : goal.loop-i-init
-loop-i-init c = (omega arith, (λ k l. absurd (not-suc-le-zero l), λ j l. absurd (not-suc-le-zero l)))
+loop-i-init c = (λ k l. absurd (not-suc-le-zero l), λ j l. absurd (not-suc-le-zero l))
 
 pub place_right-requires : goal.place_right-requires
 place_right-requires c =
     record {
-      place = record { sized = sized (goal.at.place_right-requires c).Else-not-whole_right; below = c.loop-i-test.true };
+      place = record { sized = sized (goal.at.place_right-requires c).Else-not-whole_right; below = omega arith };
       issued = c.last_serial-last.ensures;
       seen = c.latest_clock-latest.ensures;
-      highest = c.loop-i.invariant.1.1;
+      highest = c.loop-i.invariant.1;
     }
 
 pub returns-then-not-place_right : goal.returns-then-not-place_right
 returns-then-not-place_right c =
     let a = c.args in
-    sym (unsound_place a.n a.t.now c.loop-i.i c.loop-i-test.true (sym c.place_right.ensures ∙ c.if-not-place_right.true))
+    sym (unsound_place a.n a.t.now c.loop-i.i (omega arith) (sym c.place_right.ensures ∙ c.if-not-place_right.true))
 
 pub serial_at-requires : goal.serial_at-requires
 serial_at-requires c =
-    let low : c.loop-i.i < c.args.n = c.loop-i-test.true in
     omega (arith, sized (goal.at.serial_at-requires c).Else-not-whole_right)
-
-pub higher-top-requires : goal.higher-top-requires
-higher-top-requires c = tt
-
-pub loop-i-smaller : goal.loop-i-smaller
-loop-i-smaller c = omega arith
 
 pub loop-i-preserved : goal.loop-i-preserved
 loop-i-preserved c =
     let l = c.loop-i in
     let a = c.args in
-    let top : c.higher-top.result ≡ max l.top (serial_at a.t.now l.i) = c.higher-top.ensures ∙ ap (max l.top) c.serial_at.ensures in (
-      omega arith,
-      (
-        passed_more a.n a.t.now l.i l.invariant.1.0 (sym c.place_right.ensures ∙ c.if-not-place_right.false),
-        subst (TopBelow a.t.now (l.i + 1)) (sym top) (top_more a.t.now l.i l.top l.invariant.1.1),
-      ),
+    let top : c.max-top.result ≡ max l.top (serial_at a.t.now l.i) = c.max-top.ensures ∙ ap (max l.top) c.serial_at.ensures in (
+      passed_more a.n a.t.now l.i l.invariant.0 (sym c.place_right.ensures ∙ c.if-not-place_right.false),
+      subst (TopBelow a.t.now (l.i + 1)) (sym top) (top_more a.t.now l.i l.top l.invariant.1),
     )
 
 pub returns : goal.returns
 returns c =
     let a = c.args in
     let l = c.loop-i in
-    let past : a.n ≤ l.i = omega arith in
-    sym (checked_sound a.n a.t.now (whole (goal.at.returns c).Else-not-whole_right) (λ i h. l.invariant.1.0 i (omega arith)))
+    sym (checked_sound a.n a.t.now (whole (goal.at.returns c).Else-not-whole_right) (λ i h. l.invariant.0 i (omega arith)))

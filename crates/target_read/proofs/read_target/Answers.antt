@@ -1,5 +1,6 @@
 -- `target_read::read_target`. By the tag of the item at the front, and then by its type.
 -- Assumes nothing.
+use Rattle.std.specs.Prelude.{Option, Some}
 use mathlib.Core.Path.{◌≡◌, sym, ap, ◌∙◌}
 use Prim.Native.Nat.{ℕ, ◌+◌, ◌-◌}
 use native.Mathlib.Omega.{arith}
@@ -10,14 +11,11 @@ use Rattle.octets.proofs.If.{ifb_true, ifb_false}
 use Rattle.ttlv_types.specs.Types.{text_string}
 use Rattle.ttlv.proofs.Step.{Holds, value_ends}
 use Rattle.fields.specs.Found.{starts_in, starts_at, bytes_in, bytes_at}
-use Rattle.fields.specs.declared.BytesField.{BytesField}
-use Rattle.fields.specs.declared.BytesField.TheVariants.{Span}
 use Rattle.fields.proofs.Found.{no_value_first, other_kind, wanted}
 use Rattle.tags.specs.Tags.{unique_identifier}
 use Rattle.identifier.specs.Identifier.{serial_of}
 use Rattle.target_read.specs.Readers.{target_span, target_at}
 use Rattle.target_read.specs.declared.Target.TheVariants.{Serial}
-use Rattle.target_read.specs.declared.TargetRead.TheVariants.{Is}
 use Rattle.target_read.proofs.read_target.Goals.{After-is_tagged, Else-kind-ne-TEXT_STRING, Else-not-is_tagged, In-Value}
 use Rattle.target_read.proofs.read_target.Goals as goal
 
@@ -33,7 +31,7 @@ returns-then-not-is_tagged c = sym (ifb_false _ _ _ (starts (goal.at.returns-the
 
 -- ---- an identifier is there: what its bytes give is the answer
 
-given : (c : Else-not-is_tagged) {b : BytesField} → bytes_in unique_identifier text_string c.read_first-item.result ≡ b → target_at c.args.s.now ≡ target_span c.args.s.now b
+given : (c : Else-not-is_tagged) {b : Option (ℕ × ℕ)} → bytes_in unique_identifier text_string c.read_first-item.result ≡ b → target_at c.args.s.now ≡ target_span c.args.s.now b
 unfolding target_at bytes_at
 given c e =
     ifb_true _ _ _ (starts (goal.at.Else-not-is_tagged c).After-is_tagged c.if-not-is_tagged.false)
@@ -60,7 +58,7 @@ returns-then-kind-ne-TEXT_STRING c =
 
 -- ---- it is a Text String
 
-span : (c : Else-kind-ne-TEXT_STRING) → bytes_in unique_identifier text_string c.read_first-item.result ≡ Span c.in-Value.len c.in-Value.next
+span : (c : Else-kind-ne-TEXT_STRING) → bytes_in unique_identifier text_string c.read_first-item.result ≡ Some (c.in-Value.len, c.in-Value.next)
 span c =
     ap (bytes_in unique_identifier text_string) c.in-Value.is
     ∙ wanted unique_identifier text_string _ _ _ _ (tag_is (goal.at.Else-kind-ne-TEXT_STRING c).In-Value) c.if-kind-ne-TEXT_STRING.false
@@ -76,5 +74,5 @@ unfolding target_span
 returns c =
     let v = c.in-Value in
     let cut : 8 + v.len - 8 ≡ v.len = omega arith in
-    ap (λ (x : ℕ). Is (Serial x) v.next) (c.serial_of.ensures ∙ ap (λ (m : ℕ). serial_of (part c.args.s.now 8 m)) cut)
+    ap (λ (x : ℕ). Some (Serial x, v.next)) (c.serial_of-serial.ensures ∙ ap (λ (m : ℕ). serial_of (part c.args.s.now 8 m)) cut)
     ∙ sym (given (goal.at.returns c).Else-not-is_tagged (span (goal.at.returns c).Else-kind-ne-TEXT_STRING))

@@ -3,12 +3,10 @@
 use mathlib.Core.Bool.{true, false}
 use mathlib.Core.Path.{◌≡◌, sym, ap, ◌∙◌}
 use Prim.Native.Nat.{◌-◌}
-use native.Mathlib.Omega.{arith}
-use lib.ListN.{length-take, length-drop}
 use Rattle.octets.specs.Maybe.{is_some}
 use Rattle.octets.specs.Octets.{part}
 use Rattle.ttlv.specs.Parse.{parse}
-use Rattle.ttlv.proofs.Step.{nothing, parse_pos, value_ends, group_ends, step_end, step_bad, step_value, step_group}
+use Rattle.ttlv.proofs.Step.{nothing, parse_pos, step_end, step_bad, step_value, step_group}
 use Rattle.ttlv.proofs.+check.Goals as goal
 
 pub returns-then-depth-eq0 : goal.returns-then-depth-eq0
@@ -34,54 +32,12 @@ returns-in-Bad t c =
     let a = c.args in
     sym (l.invariant ∙ step_bad (parse (a.depth - 1)) l.t.now (sym rf.ensures ∙ c.in-Bad.is))
 
-pub slice_bounds-t-count : goal.slice_bounds-t-count
-slice_bounds-t-count t c =
-    let rf = c.read_first in
-    let l = c.loop-next in
-    let w = value_ends l.t.now (sym rf.ensures ∙ c.in-Value.is) in
-    omega arith
-
-pub slice_bounds-t-start : goal.slice_bounds-t-start
-slice_bounds-t-start t c =
-    let rf = c.read_first in
-    let l = c.loop-next in
-    let w = value_ends l.t.now (sym rf.ensures ∙ c.in-Value.is) in
-    omega arith
-
-pub loop-next-smaller-in-Value : goal.loop-next-smaller-in-Value
-loop-next-smaller-in-Value t c =
-    let rf = c.read_first in
-    let l = c.loop-next in
-    let w = value_ends l.t.now (sym rf.ensures ∙ c.in-Value.is) in
-    rw (length-take, length-drop) (omega arith)
-
 pub loop-next-preserved-in-Value : goal.loop-next-preserved-in-Value
 loop-next-preserved-in-Value t c =
     let rf = c.read_first in
     let l = c.loop-next in
     let a = c.args in
     l.invariant ∙ step_value (parse (a.depth - 1)) l.t.now (sym rf.ensures ∙ c.in-Value.is)
-
-pub slice_bounds-check-count : goal.slice_bounds-check-count
-slice_bounds-check-count t c =
-    let rf = c.read_first in
-    let l = c.loop-next in
-    let w = group_ends l.t.now (sym rf.ensures ∙ c.in-Group.is) in
-    omega arith
-
-pub slice_bounds-check-start : goal.slice_bounds-check-start
-slice_bounds-check-start t c =
-    let rf = c.read_first in
-    let l = c.loop-next in
-    let w = group_ends l.t.now (sym rf.ensures ∙ c.in-Group.is) in
-    omega arith
-
-pub slice_bounds-check-end : goal.slice_bounds-check-end
-slice_bounds-check-end t c =
-    let rf = c.read_first in
-    let l = c.loop-next in
-    let w = group_ends l.t.now (sym rf.ensures ∙ c.in-Group.is) in
-    omega arith
 
 pub returns-then-not-check : goal.returns-then-not-check
 returns-then-not-check t c =
@@ -90,27 +46,6 @@ returns-then-not-check t c =
     let a = c.args in
     let k : is_some (parse (a.depth - 1) (part l.t.now 8 (c.in-Group.next - 8))) ≡ false = sym c.check.ensures ∙ c.if-not-check.true in
     sym (l.invariant ∙ step_group (parse (a.depth - 1)) l.t.now (sym rf.ensures ∙ c.in-Group.is) ∙ rw k)
-
-pub slice_bounds-t-count-in-Group : goal.slice_bounds-t-count-in-Group
-slice_bounds-t-count-in-Group t c =
-    let rf = c.read_first in
-    let l = c.loop-next in
-    let w = group_ends l.t.now (sym rf.ensures ∙ c.in-Group.is) in
-    omega arith
-
-pub slice_bounds-t-start-in-Group : goal.slice_bounds-t-start-in-Group
-slice_bounds-t-start-in-Group t c =
-    let rf = c.read_first in
-    let l = c.loop-next in
-    let w = group_ends l.t.now (sym rf.ensures ∙ c.in-Group.is) in
-    omega arith
-
-pub loop-next-smaller : goal.loop-next-smaller
-loop-next-smaller t c =
-    let rf = c.read_first in
-    let l = c.loop-next in
-    let w = group_ends l.t.now (sym rf.ensures ∙ c.in-Group.is) in
-    rw (length-take, length-drop) (omega arith)
 
 pub loop-next-preserved : goal.loop-next-preserved
 loop-next-preserved t c =

@@ -1,12 +1,10 @@
 -- `ttlv::is_message`. The item at the front has to end where the bytes do; a structure's own run is read one level less deep.
 -- Assumes nothing.
 use mathlib.Core.Path.{sym, ◌∙◌}
-use native.Mathlib.Omega.{arith}
 use lib.ListN.{length}
 use lib.Dec.{eqb}
 use borrow.Author.Tests.{eq-eqb, ne_eqb}
 use Rattle.octets.proofs.Bools.{and_no, and_second}
-use Rattle.ttlv.proofs.Step.{group_ends}
 use Rattle.ttlv.proofs.One.{one_end, one_bad, one_value, one_group}
 use Rattle.ttlv.proofs.is_message.Goals as goal
 
@@ -14,18 +12,6 @@ pub returns-then-next-s : goal.returns-then-next-s
 returns-then-next-s c =
     let s = c.args.s.now in
     sym (one_group s (sym c.read_first.ensures ∙ c.in-Group.is) ∙ and_no (eqb _ (length s)) _ (ne_eqb _ (length s) c.if-next-s.true))
-
-pub slice_bounds-check-count : goal.slice_bounds-check-count
-slice_bounds-check-count c =
-    let s = c.args.s.now in
-    let w = group_ends s (sym c.read_first.ensures ∙ c.in-Group.is) in
-    omega arith
-
-pub slice_bounds-check-start : goal.slice_bounds-check-start
-slice_bounds-check-start c =
-    let s = c.args.s.now in
-    let w = group_ends s (sym c.read_first.ensures ∙ c.in-Group.is) in
-    omega arith
 
 pub returns-in-End : goal.returns-in-End
 returns-in-End c =

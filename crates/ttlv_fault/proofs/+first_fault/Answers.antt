@@ -36,33 +36,6 @@ returns-in-Bad t c =
     let z = step_bad (fault_of (a.depth - 1)) l.t.now (sym c.read_first.ensures ∙ c.in-Bad.is) in
     sym (l.invariant.1 ∙ rw z (omega arith))
 
-pub overflow_add-at : goal.overflow_add-at
-overflow_add-at t c =
-    let l = c.loop-next in
-    let i = l.invariant.0 in
-    let w = value_ends l.t.now (sym c.read_first.ensures ∙ c.in-Value.is) in
-    omega arith
-
-pub slice_bounds-t-count : goal.slice_bounds-t-count
-slice_bounds-t-count t c =
-    let l = c.loop-next in
-    let i = l.invariant.0 in
-    let w = value_ends l.t.now (sym c.read_first.ensures ∙ c.in-Value.is) in
-    omega arith
-
-pub slice_bounds-t-start : goal.slice_bounds-t-start
-slice_bounds-t-start t c =
-    let l = c.loop-next in
-    let i = l.invariant.0 in
-    let w = value_ends l.t.now (sym c.read_first.ensures ∙ c.in-Value.is) in
-    omega arith
-
-pub loop-next-smaller-in-Value : goal.loop-next-smaller-in-Value
-loop-next-smaller-in-Value t c =
-    let l = c.loop-next in
-    let w = value_ends l.t.now (sym c.read_first.ensures ∙ c.in-Value.is) in
-    rw (length-take, length-drop) (omega arith)
-
 pub loop-next-preserved-in-Value : goal.loop-next-preserved-in-Value
 loop-next-preserved-in-Value t c =
     let a = c.args in
@@ -72,30 +45,6 @@ loop-next-preserved-in-Value t c =
     let w = value_ends l.t.now e in
     let z = step_value (fault_of (a.depth - 1)) l.t.now e in
     (rw (length-take, length-drop) (omega arith), l.invariant.1 ∙ rw z (omega arith))
-
-pub slice_bounds-first_fault-count : goal.slice_bounds-first_fault-count
-slice_bounds-first_fault-count t c =
-    let l = c.loop-next in
-    let w = group_ends l.t.now (sym c.read_first.ensures ∙ c.in-Group.is) in
-    omega arith
-
-pub slice_bounds-first_fault-start : goal.slice_bounds-first_fault-start
-slice_bounds-first_fault-start t c =
-    let l = c.loop-next in
-    let w = group_ends l.t.now (sym c.read_first.ensures ∙ c.in-Group.is) in
-    omega arith
-
-pub slice_bounds-first_fault-end : goal.slice_bounds-first_fault-end
-slice_bounds-first_fault-end t c =
-    let l = c.loop-next in
-    let w = group_ends l.t.now (sym c.read_first.ensures ∙ c.in-Group.is) in
-    omega arith
-
-pub overflow_sub-next : goal.overflow_sub-next
-overflow_sub-next t c =
-    let l = c.loop-next in
-    let w = group_ends l.t.now (sym c.read_first.ensures ∙ c.in-Group.is) in
-    omega arith
 
 pub overflow_add-result : goal.overflow_add-result
 overflow_add-result t c =
@@ -136,33 +85,6 @@ returns-then-inner-next t c =
     let m = fault_bounded (a.depth - 1) (part l.t.now 8 (n - 8)) in
     let z = step_inside (fault_of (a.depth - 1)) l.t.now e (λ h. c.if-inner-next.true (q ∙ h)) in
     sym (l.invariant.1 ∙ rw z (omega arith))
-
-pub overflow_add-at-in-Group : goal.overflow_add-at-in-Group
-overflow_add-at-in-Group t c =
-    let l = c.loop-next in
-    let i = l.invariant.0 in
-    let w = group_ends l.t.now (sym c.read_first.ensures ∙ c.in-Group.is) in
-    omega arith
-
-pub slice_bounds-t-count-in-Group : goal.slice_bounds-t-count-in-Group
-slice_bounds-t-count-in-Group t c =
-    let l = c.loop-next in
-    let i = l.invariant.0 in
-    let w = group_ends l.t.now (sym c.read_first.ensures ∙ c.in-Group.is) in
-    omega arith
-
-pub slice_bounds-t-start-in-Group : goal.slice_bounds-t-start-in-Group
-slice_bounds-t-start-in-Group t c =
-    let l = c.loop-next in
-    let i = l.invariant.0 in
-    let w = group_ends l.t.now (sym c.read_first.ensures ∙ c.in-Group.is) in
-    omega arith
-
-pub loop-next-smaller : goal.loop-next-smaller
-loop-next-smaller t c =
-    let l = c.loop-next in
-    let w = group_ends l.t.now (sym c.read_first.ensures ∙ c.in-Group.is) in
-    rw (length-take, length-drop) (omega arith)
 
 pub loop-next-preserved : goal.loop-next-preserved
 loop-next-preserved t c =

@@ -1,85 +1,39 @@
--- `ttlv_types::length_ok`. Each test of the code is one of the definition's, in the same order.
+-- `ttlv_types::length_ok`. Each arm is the definition at the types that it names.
 -- Assumes nothing.
-use mathlib.Core.Path.{◌≡◌, refl, sym, ◌∙◌}
-use mathlib.Core.Bool.{true, false, ◌&&◌, ◌||◌}
-use Prim.Native.Nat.{ℕ, ◌%◌}
-use lib.Dec.{eqb, leb}
-use borrow.Author.Tests.{eq-eqb, ne_eqb, le-leb, lt-leb}
-use Rattle.octets.proofs.If.{ifb_true, ifb_false}
-use Rattle.ttlv_types.specs.Types.{structure, big_integer, text_string, byte_string, is_word, is_long, length_ok}
-use Rattle.octets.proofs.Bools.{and_second, and_no, or_first, or_second}
+use mathlib.Core.Path.{refl}
+use native.Mathlib.Omega.{arith}
+use borrow.Author.Tests.{le-leb, lt-leb}
+use Rattle.std.proofs.Common.{inl, inr}
+use Rattle.octets.specs.If.{ifb}
+use Rattle.ttlv_types.specs.Types.{length_ok}
+use Rattle.ttlv_types.proofs.Lengths.{other_length}
 use Rattle.ttlv_types.proofs.length_ok.Goals as goal
 
--- the definition, test by test
-module _ (kind n : ℕ) where
-  word : is_word kind ≡ true → length_ok kind n ≡ eqb n 4
-  unfolding length_ok
-  word w = ifb_true _ _ _ w
+pub returns-in-2 : goal.returns-in-2
+unfolding length_ok ifb
+returns-in-2 c = elim c.in-2.is [ inl e ↦ rw e refl | inr more ↦ elim more [ inl e ↦ rw e refl | inr e ↦ rw e refl ] ]
 
-  module _ (w : is_word kind ≡ false) where
-    long : is_long kind ≡ true → length_ok kind n ≡ eqb n 8
-    unfolding length_ok
-    long l = ifb_false _ _ _ w ∙ ifb_true _ _ _ l
+pub returns-in-3 : goal.returns-in-3
+unfolding length_ok ifb
+returns-in-3 c =
+    elim c.in-3.is [ inl e ↦ rw e refl | inr more ↦ elim more [ inl e ↦ rw e refl | inr most ↦ elim most [ inl e ↦ rw e refl | inr e ↦ rw e refl ] ] ]
 
-    module _ (l : is_long kind ≡ false) where
-      group : kind ≡ structure → length_ok kind n ≡ eqb (n % 8) 0
-      unfolding length_ok
-      group e = ifb_false _ _ _ w ∙ ifb_false _ _ _ l ∙ ifb_true _ _ _ (eq-eqb kind structure e)
-
-      module _ (g : kind ≡ structure → ⊥) where
-        big : kind ≡ big_integer → length_ok kind n ≡ (leb 8 n && eqb (n % 8) 0)
-        unfolding length_ok
-        big e = ifb_false _ _ _ w ∙ ifb_false _ _ _ l ∙ ifb_false _ _ _ (ne_eqb kind structure g) ∙ ifb_true _ _ _ (eq-eqb kind big_integer e)
-
-        open_ended : (kind ≡ big_integer → ⊥) → length_ok kind n ≡ (eqb kind text_string || eqb kind byte_string)
-        unfolding length_ok
-        open_ended e = ifb_false _ _ _ w ∙ ifb_false _ _ _ l ∙ ifb_false _ _ _ (ne_eqb kind structure g) ∙ ifb_false _ _ _ (ne_eqb kind big_integer e)
-
-pub returns-then-is_word : goal.returns-then-is_word
-returns-then-is_word c =
-    let w = c.is_word in
-    sym (word c.args.kind c.args.n (sym w.ensures ∙ c.if-is_word.true))
-
-pub returns-then-is_long : goal.returns-then-is_long
-returns-then-is_long c =
-    let a = c.args in
-    let w : is_word a.kind ≡ false = sym c.is_word.ensures ∙ c.if-is_word.false in
-    sym (long a.kind a.n w (sym c.is_long.ensures ∙ c.if-is_long.true))
-
-pub returns-then-kind-eq-STRUCTURE : goal.returns-then-kind-eq-STRUCTURE
-returns-then-kind-eq-STRUCTURE c =
-    let a = c.args in
-    let w : is_word a.kind ≡ false = sym c.is_word.ensures ∙ c.if-is_word.false in
-    let l : is_long a.kind ≡ false = sym c.is_long.ensures ∙ c.if-is_long.false in
-    sym (group a.kind a.n w l c.if-kind-eq-STRUCTURE.true)
+pub returns-in-1 : goal.returns-in-1
+unfolding length_ok ifb
+returns-in-1 c = rw c.in-1.is refl
 
 pub returns-then-n-ge8 : goal.returns-then-n-ge8
-returns-then-n-ge8 c =
-    let a = c.args in
-    let w : is_word a.kind ≡ false = sym c.is_word.ensures ∙ c.if-is_word.false in
-    let l : is_long a.kind ≡ false = sym c.is_long.ensures ∙ c.if-is_long.false in
-    sym (big a.kind a.n w l c.if-kind-eq-STRUCTURE.false c.if-kind-eq-BIG_INTEGER.true ∙ and_second (leb 8 a.n) (eqb (a.n % 8) 0) (le-leb 8 a.n c.if-n-ge8.true))
+unfolding length_ok ifb
+returns-then-n-ge8 c = rw (c.in-4.is, le-leb 8 c.args.n c.if-n-ge8.true) refl
 
 pub returns-else-n-ge8 : goal.returns-else-n-ge8
-returns-else-n-ge8 c =
-    let a = c.args in
-    let w : is_word a.kind ≡ false = sym c.is_word.ensures ∙ c.if-is_word.false in
-    let l : is_long a.kind ≡ false = sym c.is_long.ensures ∙ c.if-is_long.false in
-    let t = lt-leb 8 a.n c.if-n-ge8.false in
-    t ∙ sym (big a.kind a.n w l c.if-kind-eq-STRUCTURE.false c.if-kind-eq-BIG_INTEGER.true ∙ and_no (leb 8 a.n) (eqb (a.n % 8) 0) t)
+unfolding length_ok ifb
+returns-else-n-ge8 c = rw (c.in-4.is, lt-leb 8 c.args.n c.if-n-ge8.false) refl
 
 pub returns-then-kind-eq-TEXT_STRING : goal.returns-then-kind-eq-TEXT_STRING
-returns-then-kind-eq-TEXT_STRING c =
-    let a = c.args in
-    let w : is_word a.kind ≡ false = sym c.is_word.ensures ∙ c.if-is_word.false in
-    let l : is_long a.kind ≡ false = sym c.is_long.ensures ∙ c.if-is_long.false in
-    or_first (eqb a.kind text_string) (eqb a.kind byte_string) refl (eq-eqb a.kind text_string c.if-kind-eq-TEXT_STRING.true)
-    ∙ sym (open_ended a.kind a.n w l c.if-kind-eq-STRUCTURE.false c.if-kind-eq-BIG_INTEGER.false)
+unfolding length_ok ifb
+returns-then-kind-eq-TEXT_STRING c = rw c.if-kind-eq-TEXT_STRING.true refl
 
 pub returns-else-kind-eq-TEXT_STRING : goal.returns-else-kind-eq-TEXT_STRING
 returns-else-kind-eq-TEXT_STRING c =
-    let a = c.args in
-    let w : is_word a.kind ≡ false = sym c.is_word.ensures ∙ c.if-is_word.false in
-    let l : is_long a.kind ≡ false = sym c.is_long.ensures ∙ c.if-is_long.false in
-    or_second (eqb a.kind text_string) (eqb a.kind byte_string) refl (ne_eqb a.kind text_string c.if-kind-eq-TEXT_STRING.false)
-    ∙ sym (open_ended a.kind a.n w l c.if-kind-eq-STRUCTURE.false c.if-kind-eq-BIG_INTEGER.false)
+    other_length c.args.kind c.args.n (omega arith) (grind arith) (grind arith) (omega arith) (grind arith) (grind arith) c.if-kind-eq-TEXT_STRING.false (grind arith) (grind arith) (grind arith)

@@ -1,20 +1,18 @@
--- `ttlv_types::value_ok`. Each test of the code is one of the definition's, in the same order.
+-- `ttlv_types::value_ok`. Each arm is the definition at the type that it names.
 -- Assumes nothing.
-use mathlib.Core.Path.{sym, ◌∙◌}
-use borrow.Author.Tests.{eq-eqb, ne_eqb}
-use Rattle.octets.proofs.If.{ifb_true, ifb_false}
-use Rattle.ttlv_types.specs.Types.{boolean, text_string, value_ok}
+use native.Mathlib.Omega.{arith}
+use Rattle.octets.specs.If.{ifb}
+use Rattle.ttlv_types.specs.Types.{value_ok}
+use Rattle.ttlv_types.proofs.Lengths.{other_value}
 use Rattle.ttlv_types.proofs.value_ok.Goals as goal
 
-pub returns-then-kind-eq-BOOLEAN : goal.returns-then-kind-eq-BOOLEAN
-unfolding value_ok
-returns-then-kind-eq-BOOLEAN c = c.at_most_one.ensures ∙ sym (ifb_true _ _ _ (eq-eqb _ boolean c.if-kind-eq-BOOLEAN.true))
+pub returns-in-6 : goal.returns-in-6
+unfolding value_ok ifb
+returns-in-6 c = rw c.in-6.is c.at_most_one.ensures
 
-pub returns-then-kind-eq-TEXT_STRING : goal.returns-then-kind-eq-TEXT_STRING
-unfolding value_ok
-returns-then-kind-eq-TEXT_STRING c =
-    c.text_ok.ensures ∙ sym (ifb_false _ _ _ (ne_eqb _ boolean c.if-kind-eq-BOOLEAN.false) ∙ ifb_true _ _ _ (eq-eqb _ text_string c.if-kind-eq-TEXT_STRING.true))
+pub returns-in-7 : goal.returns-in-7
+unfolding value_ok ifb
+returns-in-7 c = rw c.in-7.is c.text_ok.ensures
 
-pub returns : goal.returns
-unfolding value_ok
-returns c = sym (ifb_false _ _ _ (ne_eqb _ boolean c.if-kind-eq-BOOLEAN.false) ∙ ifb_false _ _ _ (ne_eqb _ text_string c.if-kind-eq-TEXT_STRING.false))
+pub returns-in_default : goal.returns-in_default
+returns-in_default c = other_value c.args.kind c.args.v.now (omega arith) (omega arith)

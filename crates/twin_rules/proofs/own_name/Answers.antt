@@ -5,6 +5,7 @@ use mathlib.Core.Bool.{not}
 use borrow.Author.Tests.{eq-eqb, ne_eqb}
 use Rattle.octets.proofs.If.{ifb_true, ifb_false}
 use Rattle.twin_rules.specs.Checked.{is_at, own_name}
+use Rattle.twin_rules.proofs.Serials.{at_eq}
 use Rattle.twin_rules.proofs.own_name.Goals as goal
 
 pub returns-then-name-eq0 : goal.returns-then-name-eq0
@@ -15,4 +16,4 @@ pub returns : goal.returns
 unfolding own_name
 returns c =
     let a = c.args in
-    c.is_at.ensures ∙ ap (is_at a.i) c.find_name.ensures ∙ sym (ifb_true _ _ _ (ap not (ne_eqb _ 0 c.if-name-eq0.false)))
+    c.eq.ensures ∙ at_eq a.i _ ∙ ap (is_at a.i) c.find_name.ensures ∙ sym (ifb_true _ _ _ (ap not (ne_eqb _ 0 c.if-name-eq0.false)))

@@ -2,7 +2,7 @@
 -- Assumes nothing.
 use mathlib.Core.Path.{sym, ap, ◌∙◌}
 use Rattle.twin_rules.specs.Checked.{is_at}
-use Rattle.twin_rules.proofs.Serials.{top_own}
+use Rattle.twin_rules.proofs.Serials.{at_eq, top_own}
 use Rattle.twin_rules.proofs.own_place.Goals as goal
 
 pub returns-then-top-serial : goal.returns-then-top-serial
@@ -12,6 +12,4 @@ returns-then-top-serial c =
     sym (top_own a.n a.t.now a.i a.top a.serial p.place.below p.own p.highest c.if-top-serial.true)
 
 pub returns : goal.returns
-returns c =
-    let a = c.args in
-    c.is_at.ensures ∙ ap (is_at a.i) c.find.ensures
+returns c = c.eq.ensures ∙ at_eq c.args.i _ ∙ ap (is_at c.args.i) c.find.ensures

@@ -1,0 +1,3 @@
+-- The numbers of refusals.
+-- Assumes nothing.
+pub mod Numbers

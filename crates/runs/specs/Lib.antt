@@ -1,0 +1,3 @@
+-- Runs of items.
+-- Assumes nothing.
+pub mod Runs

@@ -1,7 +1,0 @@
--- `values::above_zero`. The tests compute to the definition's.
--- Assumes nothing.
-use mathlib.Core.Path.{refl}
-use Rattle.values.proofs.above_zero.Goals as goal
-
-pub returns : goal.returns
-returns c = refl
