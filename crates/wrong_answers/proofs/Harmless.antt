@@ -182,7 +182,7 @@ same_answer_1 bytes table_of short = writing_1 (λ c. bytes) table_of (λ c lent
 -- answers that a response may have
 record Fine (answers : List Answer) : Type 0 where
   pub ok : all answer_ok answers ≡ true
-  pub Some : 1 ≤ length answers
+  pub some : 1 ≤ length answers
   pub few : length answers ≤ batch_most
 
 fine_first : (answers : List Answer) → Fine answers → Fine (take 1 answers)
