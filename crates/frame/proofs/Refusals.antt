@@ -6,6 +6,7 @@ use Rattle.std.specs.Prelude.{Option, None, Some}
 use mathlib.Core.List.{List}
 use native.Mathlib.Omega.{arith}
 use Rattle.octets.proofs.If.{on_bool}
+use Rattle.octets.proofs.Maybe.{not_some}
 use Rattle.ttlv.specs.Items.{Items}
 use Rattle.batch_item.specs.Item.{Asked, item_in}
 use Rattle.batch_item.specs.Readers.{items_read}
@@ -14,17 +15,20 @@ use Rattle.frame.specs.Readers.{header_read, frame_read}
 use Rattle.frame.specs.Refusals.{read_refusal}
 use Rattle.frame.proofs.Frame.{other_version, other_count, other_option, accepted}
 
--- refusal 6 exactly where nothing is read
-reads_nothing : {A : Type 0} (o : Option A) → read_refusal o ≡ frame_wrong → o ≡ None
+-- what was read says of a refusal: 6 where it is nothing, 0 where it is something, and 6 nowhere else
+abbrev pub SaysRead : {A : Type 0} → Option A → Type 0
+SaysRead {A} o = (o ≡ None → read_refusal o ≡ frame_wrong) × (((a : A) → o ≡ Some a → read_refusal o ≡ 0) × (read_refusal o ≡ frame_wrong → o ≡ None))
+
+says_read : {A : Type 0} (o : Option A) → SaysRead o
 unfolding read_refusal
-reads_nothing None h = refl
-reads_nothing (Some a) h = absurd (omega arith)
+says_read None = ((λ e. refl), ((λ a e. absurd (not_some e)), (λ h. refl)))
+says_read (Some a) = ((λ e. absurd (not_some (sym e))), ((λ b e. refl), (λ h. absurd (omega arith))))
 
-pub version_refusal_lem : (t : Items) → read_refusal (version_in t) ≡ frame_wrong → version_in t ≡ None
-version_refusal_lem t h = reads_nothing (version_in t) h
+pub version_refusal_lem : (t : Items) → SaysRead (version_in t)
+version_refusal_lem t = says_read (version_in t)
 
-pub item_refusal_lem : (t : Items) → read_refusal (item_in t) ≡ frame_wrong → item_in t ≡ None
-item_refusal_lem t h = reads_nothing (item_in t) h
+pub item_refusal_lem : (t : Items) → SaysRead (item_in t)
+item_refusal_lem t = says_read (item_in t)
 
 pub header_refusal_lem : (o : Option Header) → read_refusal (header_read o) ≡ read_refusal o
 unfolding header_read read_refusal

@@ -1,11 +1,12 @@
 -- A Re-key's Offset behind its target: none, one that is not by the rules, or one that is the last item.
 -- Assumes nothing.
-use mathlib.Core.Path.{◌≡◌, ◌∙◌}
+use mathlib.Core.Path.{◌≡◌, refl, sym, ◌∙◌}
 use Prim.Native.Nat.{ℕ}
 use mathlib.Core.Bool.{true, false}
 use Rattle.std.specs.Prelude.{Option, None, Some}
 use Rattle.octets.specs.Maybe.{◌>>=◌, ◌>>◌}
 use Rattle.octets.proofs.If.{on_bool}
+use Rattle.octets.proofs.Maybe.{not_some}
 use Rattle.ttlv_types.specs.Types.{interval}
 use Rattle.ttlv.specs.Items.{Items, ended}
 use Rattle.fields.specs.Fields.{starts_with, number_of, optional}
@@ -24,8 +25,12 @@ module _ (target : Target) (t : Items) where
   pub no_offset : ended t ≡ true → offset_behind ≡ Some (Rekey target None)
   no_offset e = goes _ (absent offset t _ (starts_ended offset t e)) ∙ holds _ e
 
-  pub other_offset : ended t ≡ false → number_of offset interval t ≡ None → offset_behind ≡ None
-  other_offset e h =
+  -- the number of an Offset with nothing behind it
+  abbrev pub only_offset : Option ℕ
+  only_offset = number_of offset interval t >>= λ (seconds, r). ended r >> Some seconds
+
+  pub none_behind : ended t ≡ false → number_of offset interval t ≡ None → offset_behind ≡ None
+  none_behind e h =
       on_bool (starts_with offset t)
       (λ y. stops _ (there offset t _ y ∙ stops _ h))
       (λ n. goes _ (absent offset t _ n) ∙ fails _ e)
@@ -39,3 +44,14 @@ module _ (target : Target) (t : Items) where
 
     pub an_offset : ended r ≡ true → offset_behind ≡ Some (Rekey target (Some seconds))
     an_offset e = goes _ given ∙ holds _ e
+
+  -- something else is behind the target: no Offset, or one with more behind it
+  pub other_offset : ended t ≡ false → only_offset ≡ None → offset_behind ≡ None
+  other_offset e h = go (number_of offset interval t) refl
+    where
+      go : (o : Option (ℕ × Items)) → number_of offset interval t ≡ o → offset_behind ≡ None
+      go None f = none_behind e f
+      go (Some (seconds, r)) f =
+          on_bool (ended r)
+          (λ y. absurd (not_some (sym h ∙ goes _ f ∙ holds _ y)))
+          (λ n. more_behind f n)

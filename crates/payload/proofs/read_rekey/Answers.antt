@@ -3,7 +3,7 @@
 use mathlib.Core.Path.{sym, ◌∙◌}
 use Rattle.runs.proofs.Steps.{stops, goes}
 use Rattle.payload.specs.Payload.{rekey_in}
-use Rattle.payload.proofs.Offsets.{no_offset, other_offset, more_behind, an_offset}
+use Rattle.payload.proofs.Offsets.{no_offset, none_behind, more_behind, an_offset}
 use Rattle.payload.proofs.read_rekey.Goals as goal
 
 pub returns-in_err-target : goal.returns-in_err-target
@@ -18,7 +18,7 @@ pub returns-in_err-seconds : goal.returns-in_err-seconds
 unfolding rekey_in
 returns-in_err-seconds c =
     c.from_residual-in_err-seconds.ensures
-    ∙ sym (goes _ (sym c.in_ok-target.ensures) ∙ other_offset _ _ (sym c.if-is_empty.ensures) (sym c.in_err-seconds.ensures))
+    ∙ sym (goes _ (sym c.in_ok-target.ensures) ∙ none_behind _ _ (sym c.if-is_empty.ensures) (sym c.in_err-seconds.ensures))
 
 pub returns-in_err-end : goal.returns-in_err-end
 unfolding rekey_in
