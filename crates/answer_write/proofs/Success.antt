@@ -10,7 +10,7 @@ use borrow.Rule.Slice.PartMut.{mid_of}
 use Rattle.ttlv_types.specs.Types.{enumeration}
 use Rattle.ttlv.specs.Items.{nil, encode}
 use Rattle.ttlv_put.specs.Write.{fits, Wrote}
-use Rattle.ttlv_put.specs.Around.{behind_head}
+use Rattle.ttlv_around.specs.Around.{behind_head}
 use Rattle.ttlv_put.proofs.Holds.{holds_left}
 use Rattle.tags.specs.Tags.{result_status}
 use Rattle.rules.specs.Numbers.{success}

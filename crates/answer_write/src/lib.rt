@@ -85,7 +85,7 @@ fn write_success<F: FnOnce(&mut [u8]) -> usize>(out: &mut [u8], payload: F) -> u
     ensures { (most : ℕ) (t : Items) → ((n : ℕ) (left : List ℕ) → FnOnceReturnsAtMut F.FnOnce payload (drop 24 out.old) n left → Puts most t (drop 24 out.old) left n) → most ≤ 320 → Puts (24 + most) (succeeded t) out.old out.new result }
 {
     ttlv_numbers::write_number(out, tags::RESULT_STATUS, Enumeration(SUCCESS));
-    let n = ttlv_put::write_around(&mut out[16..], tags::RESPONSE_PAYLOAD, payload);
+    let n = ttlv_around::write_around(&mut out[16..], tags::RESPONSE_PAYLOAD, payload);
     16 + n
 }
 
@@ -160,7 +160,7 @@ pub fn write_answer(out: &mut [u8], operation: u32, id: ItemId, outcome: Outcome
     requires { (longest_item ≤ length out.old) × (id.len ≤ id_most) }
     ensures { Puts longest_item (group batch_item (answer_items (answer_of operation id outcome)) nil) out.old out.new result }
 {
-    ttlv_put::write_around(
+    ttlv_around::write_around(
         out,
         tags::BATCH_ITEM,
         |room| write_answer_items(room, operation, id, outcome),

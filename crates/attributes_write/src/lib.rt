@@ -43,7 +43,7 @@ fn write_link(out: &mut [u8], kind: u32, serial: u32) -> usize
     if serial == 0 {
         return 0;
     }
-    ttlv_put::write_around(out, tags::LINK, |room| write_link_body(room, kind, serial))
+    ttlv_around::write_around(out, tags::LINK, |room| write_link_body(room, kind, serial))
 }
 
 // The body of a usage limit.
@@ -103,7 +103,7 @@ fn write_limits(out: &mut [u8], shown: Shown) -> usize
     if shown.unit == 0 {
         return 0;
     }
-    ttlv_put::write_around(
+    ttlv_around::write_around(
         out,
         tags::USAGE_LIMITS,
         |room| write_limit_body(room, shown.unit as u32, shown.total, shown.count),
@@ -150,7 +150,7 @@ pub fn write_attributes(out: &mut [u8], shown: Shown) -> usize
     requires { 304 ≤ length out.old }
     ensures { Puts 304 (group attributes (attribute_items shown) nil) out.old out.new result }
 {
-    ttlv_put::write_around(
+    ttlv_around::write_around(
         out,
         tags::ATTRIBUTES,
         |room| write_attribute_items(room, shown),

@@ -33,7 +33,7 @@ fn write_version(out: &mut [u8]) -> usize
     requires { 40 ≤ length out.old }
     ensures { Puts 40 (version_items nil) out.old out.new result }
 {
-    ttlv_put::write_around(out, tags::PROTOCOL_VERSION, write_version_body)
+    ttlv_around::write_around(out, tags::PROTOCOL_VERSION, write_version_body)
 }
 
 // The items of the header.
@@ -53,7 +53,7 @@ fn write_header(out: &mut [u8], clock: u64, count: u32) -> usize
     requires { header_size ≤ length out.old }
     ensures { Puts header_size (group response_header (header_items clock count) nil) out.old out.new result }
 {
-    ttlv_put::write_around(
+    ttlv_around::write_around(
         out,
         tags::RESPONSE_HEADER,
         |room| write_header_items(room, clock, count),

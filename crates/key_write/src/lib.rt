@@ -38,7 +38,7 @@ fn write_key_value(out: &mut [u8], key: Key) -> usize
     requires { 48 ≤ length out.old }
     ensures { Puts 48 (key_value_items (material_of key) nil) out.old out.new result }
 {
-    ttlv_put::write_around(out, tags::KEY_VALUE, |room| write_material(room, key))
+    ttlv_around::write_around(out, tags::KEY_VALUE, |room| write_material(room, key))
 }
 
 // Algorithm and length.
@@ -68,7 +68,7 @@ fn write_block(out: &mut [u8], key: Key) -> usize
     requires { 104 ≤ length out.old }
     ensures { Puts 104 (group key_block (key_block_items (material_of key) key.bits) nil) out.old out.new result }
 {
-    ttlv_put::write_around(out, tags::KEY_BLOCK, |room| write_block_items(room, key))
+    ttlv_around::write_around(out, tags::KEY_BLOCK, |room| write_block_items(room, key))
 }
 
 // The key itself.
@@ -76,5 +76,5 @@ pub fn write_key(out: &mut [u8], key: Key) -> usize
     requires { 112 ≤ length out.old }
     ensures { Puts 112 (key_items key) out.old out.new result }
 {
-    ttlv_put::write_around(out, tags::SYMMETRIC_KEY, |room| write_block(room, key))
+    ttlv_around::write_around(out, tags::SYMMETRIC_KEY, |room| write_block(room, key))
 }

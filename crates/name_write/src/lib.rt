@@ -52,5 +52,5 @@ pub fn write_name(out: &mut [u8], name: Name) -> usize
     if name.len == 0 {
         return 0;
     }
-    ttlv_put::write_around(out, tags::NAME, |room| write_name_body(room, name))
+    ttlv_around::write_around(out, tags::NAME, |room| write_name_body(room, name))
 }

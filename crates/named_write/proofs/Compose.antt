@@ -19,11 +19,11 @@ use Rattle.ttlv.specs.Items.{Items, nil, value, group, head, encode}
 use Rattle.ttlv.proofs.Back.{eights}
 use Rattle.std.specs.Fn.{FnOnceReturnsAtMut}
 use Rattle.ttlv_put.specs.Write.{join, spellable, fits, Wrote, WroteValue, WroteHead, Holds}
-use Rattle.ttlv_put.specs.Around.{Body, behind_head, WroteAround}
+use Rattle.ttlv_around.specs.Around.{Body, behind_head, WroteAround}
 use Rattle.ttlv.proofs.Sizes.{length_head}
 use Rattle.ttlv_put.proofs.Sizes.{length_value, encode_nil}
 use Rattle.ttlv_put.proofs.Holds.{wrote_size, holds_none, holds_wrote, holds_value, holds_then, holds_front, holds_join, holds_group, holds_length, holds_left}
-use Rattle.ttlv_put.proofs.Around.{room_behind, room_back}
+use Rattle.ttlv_around.proofs.Around.{room_behind, room_back}
 use Rattle.answer.specs.Respond.{word, long}
 use Rattle.named_write.specs.Puts.{Puts}
 

@@ -1,7 +1,6 @@
--- The laws of written items: their sizes, how puts make one, how one is written behind another, and the room of a body.
+-- The laws of written items: their sizes, how puts make one, and how one is written behind another.
 -- Assumes nothing.
 pub mod Sizes
 pub mod Puts
 pub mod Holds
-pub mod Around
 pub mod Unique

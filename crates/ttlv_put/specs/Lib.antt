@@ -1,4 +1,3 @@
 -- What a writer of a TTLV item leaves in the room that it is lent.
 -- Assumes nothing.
 pub mod Write
-pub mod Around

@@ -1,17 +1,14 @@
-// What the TTLV writers share: one item over the front of lent room, or the head of a structure, or a
-// structure around what a body writes.
+// What the TTLV writers share: one item over the front of lent room, or the head of a structure.
 // Each answers the bytes written, or 0 with the room as it was; so it does where the tag is none.
 // `spell_number` and `spell_value` are inner parts and no writers for a host: they spell what they
 // are given, also where the type does not allow such a value and the item would not read back. The
-// writers of ttlv_numbers and ttlv_write, one for each type, see to that.
+// writers of ttlv_numbers and ttlv_write, for each type, see to that.
 #![tactic(auto)]
 
-ghost use Rattle.std.specs.Prelude.{◌≡◌, true, ◌≤◌, ◌<◌, ◌-◌, ℕ, List, length};
-ghost use Rattle.std.specs.Fn.{FnOnceTakesAtMut, FnOnceReturnsAtMut};
+ghost use Rattle.std.specs.Prelude.{◌≡◌, true, ◌≤◌, ◌<◌, length};
 ghost use Rattle.std.proofs.lemmas.List.Edits.{sets};
 ghost use Rattle.ttlv.specs.Items.{head};
 ghost use Rattle.ttlv_put.specs.Write.{WroteNumber, WroteValue, WroteHead};
-ghost use Rattle.ttlv_put.specs.Around.{behind_head, WroteAround};
 
 // A type stays a number: `spell_number` and `spell_value` spell any.
 
@@ -88,17 +85,4 @@ pub fn write_structure(out: &mut [u8], tag: u32, len: usize) -> usize
     }
     put_head(out, tag, ttlv_types::STRUCTURE, len);
     8
-}
-
-// A structure around what a body writes: the body runs on the room behind the head and says how much
-// it wrote, and then the head says so too. Each caller shows the room, and that the body keeps to it.
-pub fn write_around<F: FnOnce(&mut [u8]) -> usize>(out: &mut [u8], tag: u32, body: F) -> usize
-    requires room { 8 ≤ length out.old }
-    requires callable { FnOnceTakesAtMut F.FnOnce body (behind_head out.old) }
-    requires within { (n : ℕ) (left : List ℕ) → FnOnceReturnsAtMut F.FnOnce body (behind_head out.old) n left → n ≤ length out.old - 8 }
-    ensures { WroteAround F.FnOnce body tag out.old out.new result }
-{
-    let size = body(&mut out[8..]);
-    write_structure(out, tag, size);
-    8 + size
 }

@@ -1,11 +1,11 @@
--- `ttlv_put::write_around`. The call of the body, and what it left back in the room.
+-- `ttlv_around::write_around`. The call of the body, and what it left back in the room.
 -- Assumes nothing.
 use mathlib.Core.Path.{refl}
 use native.Mathlib.Omega.{arith}
 use Rattle.std.specs.Fn.{FnOnceReturnsAtMut}
-use Rattle.ttlv_put.specs.Around.{behind_head}
-use Rattle.ttlv_put.proofs.Around.{room_behind, room_back}
-use Rattle.ttlv_put.proofs.write_around.Goals as goal
+use Rattle.ttlv_around.specs.Around.{behind_head}
+use Rattle.ttlv_around.proofs.Around.{room_behind, room_back}
+use Rattle.ttlv_around.proofs.write_around.Goals as goal
 
 pub body-size-requires : goal.body-size-requires
 body-size-requires g c = c.requires.callable _ (room_behind c.args.out.now)

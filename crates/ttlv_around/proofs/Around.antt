@@ -7,7 +7,7 @@ use mathlib.Core.List.{List, [], append-nil}
 use lib.ListN.{length, drop, length-drop, drop_of_length-le}
 use lib.Seq.{take_all}
 use borrow.Rule.Slice.PartMut.{put_mid, mid_of}
-use Rattle.ttlv_put.specs.Around.{behind_head, with_body}
+use Rattle.ttlv_around.specs.Around.{behind_head, with_body}
 
 pub room_behind : (room : List ℕ) → mid_of 8 (length room - 8) room ≡ behind_head room
 room_behind room = take_all (length room - 8) (drop 8 room) (rw length-drop (omega arith))
