@@ -6,6 +6,7 @@
 ghost use Rattle.std.specs.Prelude.{◌≡◌, ℕ};
 ghost use Rattle.ttlv_types.specs.Types.{integer, long_integer, enumeration, boolean, date_time, interval, date_time_extended};
 ghost use Rattle.ttlv_put.specs.Write.{WroteNumber};
+ghost use Rattle.ttlv_numbers.specs.Allowed.{Allowed, integer_allowed, enumeration_allowed, interval_allowed, long_integer_allowed, date_time_allowed, date_time_extended_allowed, boolean_allowed};
 ghost use Rattle.ttlv_numbers.specs.Bit.{bit};
 
 // What TTLV spells as a number: the number of its type, how many bytes its value has, and its bits.
@@ -19,6 +20,9 @@ pub trait Number {
     // The three, in one line of each type.
     fn spelled(self) -> (u8, usize, u64)
         ensures { (result.0 ≡ kind) × (result.1 ≡ width) × (result.2 ≡ bits self) };
+
+    // What is spelled is a value that its type allows, so that the item reads back.
+    ghost allowed: { (n : Self) → Allowed kind width (bits n) };
 }
 
 // The bits are those of the signed number, in two's complement.
@@ -35,6 +39,8 @@ impl Number for Integer {
     fn spelled(self) -> (u8, usize, u64) {
         (ttlv_types::INTEGER, 4, u64::from(self.0))
     }
+
+    ghost allowed = { λ n. integer_allowed n.0 };
 }
 
 // The bits are the number of the choice.
@@ -51,6 +57,8 @@ impl Number for Enumeration {
     fn spelled(self) -> (u8, usize, u64) {
         (ttlv_types::ENUMERATION, 4, u64::from(self.0))
     }
+
+    ghost allowed = { λ n. enumeration_allowed n.0 };
 }
 
 // The bits are the number of seconds.
@@ -67,6 +75,8 @@ impl Number for Interval {
     fn spelled(self) -> (u8, usize, u64) {
         (ttlv_types::INTERVAL, 4, u64::from(self.0))
     }
+
+    ghost allowed = { λ n. interval_allowed n.0 };
 }
 
 // The bits are those of the signed number, in two's complement.
@@ -83,6 +93,8 @@ impl Number for LongInteger {
     fn spelled(self) -> (u8, usize, u64) {
         (ttlv_types::LONG_INTEGER, 8, self.0)
     }
+
+    ghost allowed = { λ n. long_integer_allowed n.0 };
 }
 
 // The bits are those of the signed number of seconds, in two's complement.
@@ -99,6 +111,8 @@ impl Number for DateTime {
     fn spelled(self) -> (u8, usize, u64) {
         (ttlv_types::DATE_TIME, 8, self.0)
     }
+
+    ghost allowed = { λ n. date_time_allowed n.0 };
 }
 
 // The bits are those of the signed number of microseconds, in two's complement.
@@ -115,6 +129,8 @@ impl Number for DateTimeExtended {
     fn spelled(self) -> (u8, usize, u64) {
         (ttlv_types::DATE_TIME_EXTENDED, 8, self.0)
     }
+
+    ghost allowed = { λ n. date_time_extended_allowed n.0 };
 }
 
 // 1 for true, 0 for false.
@@ -131,6 +147,8 @@ impl Number for Boolean {
     fn spelled(self) -> (u8, usize, u64) {
         (ttlv_types::BOOLEAN, 8, u64::from(self.0))
     }
+
+    ghost allowed = { λ b. boolean_allowed b.0 };
 }
 
 // A number under a tag.

@@ -2,4 +2,5 @@
 -- Assumes nothing.
 pub mod Sample
 pub mod Writable
+pub mod Numbers
 pub mod Unique

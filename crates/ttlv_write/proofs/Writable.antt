@@ -1,6 +1,6 @@
 -- The writers' tests are the right ones: an item is written exactly when it reads back and the room has place for it.
 -- Assumes nothing.
-use mathlib.Core.Path.{◌≡◌, refl, sym, ◌∙◌}
+use mathlib.Core.Path.{◌≡◌, sym, ◌∙◌}
 use mathlib.Core.Bool.{Bool, true, false, not, ◌&&◌, and_assoc, and-true}
 use Rattle.std.specs.Prelude.{Some}
 use Prim.Native.Nat.{ℕ, suc, ◌+◌, ◌^◌, ◌≤◌, ◌<◌}
@@ -11,7 +11,7 @@ use lib.Seq.{take_at}
 use lib.Dec.{eqb}
 use borrow.Author.Tests.{lt-ltb}
 use Rattle.octets.specs.If.{ifb}
-use Rattle.octets.specs.Octets.{be, from_be, from_be_after}
+use Rattle.octets.specs.Octets.{be}
 use Rattle.octets.proofs.If.{ifb_false, on_bool}
 use Rattle.octets.proofs.Numbers.{length_be}
 use Rattle.ttlv_types.specs.Types.{structure, integer, long_integer, big_integer, enumeration, boolean, text_string, byte_string, date_time, interval, date_time_extended, padded, length_ok, value_ok}
@@ -20,8 +20,9 @@ use Rattle.ttlv.specs.Items.{Items, nil, group, encode, item_ok, well_formed}
 use Rattle.tags.specs.Tags.{tag_ok}
 use Rattle.ttlv.specs.Parse.{parse}
 use Rattle.ttlv.proofs.Back.{parse_back}
-use Rattle.octets.proofs.Bools.{both}
+use Rattle.octets.proofs.Bools.{both, facts, tests}
 use Rattle.ttlv_put.specs.Write.{item, number_item, fits, spellable, value_fits, Wrote}
+use Rattle.ttlv_numbers.specs.Allowed.{Allowed, integer_allowed, enumeration_allowed, interval_allowed, long_integer_allowed, date_time_allowed, date_time_extended_allowed, boolean_allowed}
 use Rattle.ttlv_numbers.specs.Bit.{bit}
 use Rattle.ttlv_write.specs.Writable.{writable}
 use Rattle.ttlv_put.proofs.Sizes.{length_value}
@@ -38,40 +39,36 @@ module _ (tag : ℕ) (room : List ℕ) where
 
   -- ---- each writer
 
-  number_writable : (width kind bits : ℕ) → 0 < width → width ≤ 8 → allowed kind (be width bits) ≡ true → writable (number_item width tag kind bits) room ≡ (tag_ok tag && fits room 16)
-  number_writable width kind bits l m e =
+  -- every number that its type allows; of every instance of `Number` by the trait's law (`Numbers`)
+  pub number_writable : (width kind bits : ℕ) → Allowed kind width bits → writable (number_item width tag kind bits) room ≡ (tag_ok tag && fits room 16)
+  number_writable width kind bits ok =
+      let l : 1 ≤ width = search facts depth 8 in
+      let m : width ≤ 8 = search facts depth 8 in
+      let c : allowed kind (be width bits) ≡ true = rw (length_be width bits) (search (facts, tests) depth 12) in
       let s : spellable width ≡ true = lt-ltb width (256 ^ 4) (omega arith) in
       let p : 8 + padded width ≡ 16 = omega arith in
-      value_writable kind (be width bits) ∙ rw (e, and-true, length_be width bits, s, p)
+      value_writable kind (be width bits) ∙ rw (c, and-true, length_be width bits, s, p)
 
   pub integer_writable : (bits : ℕ) → writable (number_item 4 tag integer bits) room ≡ (tag_ok tag && fits room 16)
-  unfolding length_ok value_ok ifb
-  integer_writable bits = number_writable 4 integer bits (omega arith) (omega arith) (rw (length_be 4 bits))
+  integer_writable bits = number_writable 4 integer bits (integer_allowed bits)
 
   pub enumeration_writable : (bits : ℕ) → writable (number_item 4 tag enumeration bits) room ≡ (tag_ok tag && fits room 16)
-  unfolding length_ok value_ok ifb
-  enumeration_writable bits = number_writable 4 enumeration bits (omega arith) (omega arith) (rw (length_be 4 bits))
+  enumeration_writable bits = number_writable 4 enumeration bits (enumeration_allowed bits)
 
   pub interval_writable : (bits : ℕ) → writable (number_item 4 tag interval bits) room ≡ (tag_ok tag && fits room 16)
-  unfolding length_ok value_ok ifb
-  interval_writable bits = number_writable 4 interval bits (omega arith) (omega arith) (rw (length_be 4 bits))
+  interval_writable bits = number_writable 4 interval bits (interval_allowed bits)
 
   pub long_integer_writable : (bits : ℕ) → writable (number_item 8 tag long_integer bits) room ≡ (tag_ok tag && fits room 16)
-  unfolding length_ok value_ok ifb
-  long_integer_writable bits = number_writable 8 long_integer bits (omega arith) (omega arith) (rw (length_be 8 bits))
+  long_integer_writable bits = number_writable 8 long_integer bits (long_integer_allowed bits)
 
   pub date_time_writable : (bits : ℕ) → writable (number_item 8 tag date_time bits) room ≡ (tag_ok tag && fits room 16)
-  unfolding length_ok value_ok ifb
-  date_time_writable bits = number_writable 8 date_time bits (omega arith) (omega arith) (rw (length_be 8 bits))
+  date_time_writable bits = number_writable 8 date_time bits (date_time_allowed bits)
 
   pub date_time_extended_writable : (bits : ℕ) → writable (number_item 8 tag date_time_extended bits) room ≡ (tag_ok tag && fits room 16)
-  unfolding length_ok value_ok ifb
-  date_time_extended_writable bits = number_writable 8 date_time_extended bits (omega arith) (omega arith) (rw (length_be 8 bits))
+  date_time_extended_writable bits = number_writable 8 date_time_extended bits (date_time_extended_allowed bits)
 
   pub boolean_writable : (b : Bool) → writable (number_item 8 tag boolean (bit b)) room ≡ (tag_ok tag && fits room 16)
-  unfolding length_ok value_ok ifb bit be from_be from_be_after
-  boolean_writable true = number_writable 8 boolean 1 (omega arith) (omega arith) refl
-  boolean_writable false = number_writable 8 boolean 0 (omega arith) (omega arith) refl
+  boolean_writable b = number_writable 8 boolean (bit b) (boolean_allowed b)
 
   pub bytes_writable : (v : List ℕ) → writable (item tag byte_string v) room ≡ (tag_ok tag && true && value_fits room (length v))
   unfolding length_ok value_ok ifb
