@@ -13,7 +13,7 @@ use ttlv_numbers::{
     Boolean, DateTime, DateTimeExtended, Enumeration, Integer, Interval, LongInteger,
 };
 
-// A type stays the number that `ttlv::read_first` answers, as the writers take it.
+// A type stays the number that `ttlv::read_first` answers.
 
 // A number of four bytes by the writer of its type. `rewrite_value` shows that the type has four.
 fn rewrite_word(out: &mut [u8], tag: u32, kind: u8, bits: u32) -> usize

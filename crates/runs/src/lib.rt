@@ -13,7 +13,8 @@ ghost use Rattle.runs.specs.Runs.{is_number, is_there, behind, bytes_read, body_
 
 pub use run::Run;
 
-// A type stays a number, as in `fields`: a reader of a run looks for any.
+// A type stays a number, as in `fields`: `bytes` looks for any, `number` and `word` for one whose
+// values are numbers, or numbers of four bytes.
 
 impl<'a> Run<'a> {
     // Whether no item is left.

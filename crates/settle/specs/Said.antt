@@ -1,4 +1,4 @@
--- What the enums of this crate say in the papers' numbers: a Result Status, and with it the Result Reason.
+-- What the answers of this crate say in the papers' numbers: a Result Status, and with it the Result Reason.
 -- Assumes nothing.
 use Rattle.std.specs.Prelude.{Option, None, Some}
 use Rattle.rules.specs.declared.Reason.{Reason}

@@ -2,7 +2,8 @@
 // Each answers the bytes written, or 0 with the room as it was; so it does where the tag is none.
 // `spell_number` and `spell_value` are inner parts and no writers for a host: they spell what they
 // are given, also where the type does not allow such a value and the item would not read back. The
-// writers of ttlv_numbers and ttlv_write, for each type, see to that.
+// writer of ttlv_numbers, over a type for each kind of number, and those of ttlv_write, one for each
+// other type, see to that.
 #![tactic(auto)]
 
 ghost use Rattle.std.specs.Prelude.{◌≡◌, true, ◌≤◌, ◌<◌, length};
