@@ -3,10 +3,11 @@
 use mathlib.Core.Path.{◌≡◌, refl, sym, ap, ◌∙◌}
 use Prim.Native.Nat.{ℕ, zero, suc, ◌+◌, ◌-◌, ◌/◌, ◌%◌, ◌≤◌, ◌<◌}
 use native.Mathlib.Nat.{not-suc-le-zero, add-zero, zero-add, add-suc, suc-add}
+use native.Mathlib.Numerals.{add-one}
 use native.Mathlib.Omega.{arith}
 use mathlib.Core.List.{List, [], ◌∷◌, ◌++◌, append_assoc}
-use lib.ListN.{length, take, drop, set, length-drop}
-use lib.Seq.{sets, take_all, set_comm, length-sets, sets-eq, take_at, drop_at, take-take, drop-drop, drop-set-lt, drop-set-add, take-set-le, length-take-le}
+use lib.ListN.{length, take, drop, get_or, set, length-drop}
+use lib.Seq.{sets, take_all, set_comm, length-sets, sets-eq, take-suc, take_at, drop_at, take-take, drop-drop, drop-set-lt, drop-set-add, take-set-le, length-take-le}
 use Rattle.octets.specs.Octets.{be, part, over}
 use Rattle.octets.proofs.Numbers.{length_be}
 
@@ -92,11 +93,11 @@ sets_comm t a xs b (y ∷ ys) h =
     ap (λ (l : List ℕ). sets l (suc b) ys) (sets_set_above t a xs b y h)
     ∙ sets_comm (set t b y) a xs (suc b) ys (omega arith)
 
--- k bytes from `at` on replaced by as many
-pub part_written : (t : List ℕ) (at : ℕ) (s : List ℕ) {k : ℕ} {written : List ℕ} → written ≡ s → k ≡ length s → at + length s ≤ length t → take at t ++ (written ++ drop k (drop at t)) ≡ sets t at s
-part_written t at s e n h =
-    rw (e, n, drop-drop (length s) at t)
-    (sym (sets-eq s t at h ∙ append_assoc (take at t) s (drop (at + length s) t)))
+-- a turn of a loop that copies s to t from `at` on
+pub sets_more : (t : List ℕ) (at : ℕ) (s : List ℕ) (k : ℕ) → k < length s → set (sets t at (take k s)) (at + k) (get_or s k 0) ≡ sets t at (take (k + 1) s)
+sets_more t at s k h =
+    let e : length (take k s) ≡ k = length-take-le k s (omega arith) in
+    sym (rw (add-one, take-suc s k 0, sets_append t at (take k s) (get_or s k 0 ∷ []), e))
 
 -- a run of stores over the whole
 pub sets_whole : (t bs : List ℕ) → length bs ≡ length t → sets t 0 bs ≡ bs

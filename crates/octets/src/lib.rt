@@ -61,12 +61,15 @@ pub fn put(t: &mut [u8], at: usize, width: usize, v: u64)
     }
 }
 
-// Writes the bytes of s from `at` on.
+// Writes the bytes of s from `at` on. By a loop and not by std's copy, which asks the C library for
+// `memmove`: the archive for C is promised to need `memcpy` and `memset` alone.
 pub fn put_all(t: &mut [u8], at: usize, s: &[u8])
     requires { at + length s.now ≤ length t.old }
     ensures { t.new ≡ sets t.old at s.now }
 {
-    t[at..at + s.len()].copy_from_slice(s);
+    for k in 0..s.len() {
+        t[at + k] = s[k];
+    }
 }
 
 // Whether every byte passes a test. It looks at all of them, with no way out between them, so that
